@@ -1,0 +1,5 @@
+pub mod Hash
+pub mod Texts
+pub mod Padded
+pub mod Stored
+pub mod Tree
