@@ -1,0 +1,7 @@
+mod Untouched
+mod Kept
+mod ParentLemmas
+mod Steps
+mod Drafts
+mod Applied
+mod Rows

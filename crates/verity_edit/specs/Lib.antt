@@ -1,0 +1,11 @@
+pub mod Edits
+pub mod Touched
+pub mod After
+pub mod Digests
+pub mod Kept
+pub mod Draft
+pub mod Pend
+pub mod Parents
+pub mod Applied
+pub mod Levels
+pub mod Texts

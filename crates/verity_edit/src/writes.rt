@@ -1,0 +1,54 @@
+//! The writes of a commit to the hash store.
+ghost use Rattle.std.specs.Prelude.{◌≡◌, ℕ, ◌+◌, ◌-◌, ◌^◌, ◌<◌, ◌≤◌, true, List, [], length, slice_index_or, OnOk, OnErr};
+ghost use Rattle.verity_store.specs.Moves.{ChangesWithin};
+ghost use Rattle.verity_edit.specs.Applied.{overwritten, FitStore};
+
+use std::alloc::Allocator;
+use std::collections::BTreeMap;
+use verity_store::{Block, BlockStore, StoreFault};
+
+/// Writes the pending blocks to the data store.
+pub fn write_pending<D: BlockStore, A: Allocator>(
+    store: &mut D,
+    written: &BTreeMap<u64, Block<A>, A>,
+) -> Result<(), StoreFault>
+    requires { FitStore (length (D.content store.old)) (D.size store.old) written.now.entries }
+    ensures written { OnOk result (D.tells store.old ≡ true → D.content store.new ≡ overwritten written.now.entries (D.content store.old)) }
+    ensures len { length (D.content store.new) ≡ length (D.content store.old) }
+    ensures failed { OnErr result (D.failures store.old < D.failures store.new) }
+    ensures failures { D.failures store.old ≤ D.failures store.new }
+    ensures reads { D.reads store.new ≡ D.reads store.old }
+    ensures tells { D.tells store.new ≡ D.tells store.old }
+    ensures size { D.size store.new ≡ D.size store.old }
+    ensures room { D.room store.new ≡ D.room store.old }
+{
+    for (n, block) in written {
+        store.write(*n, block.as_slice())?;
+    }
+    Ok(())
+}
+
+/// Writes zeros to a run of blocks.
+pub fn write_zeros<D: BlockStore>(
+    store: &mut D,
+    from: u64,
+    to: u64,
+    zero: &[u8],
+) -> Result<(), StoreFault>
+    requires order { from ≤ to }
+    requires within { to ≤ length (D.content store.old) }
+    requires sized { length zero.now ≡ D.size store.old }
+    ensures zeroed { OnOk result (D.tells store.old ≡ true → (q : ℕ) → from ≤ q → q < to → slice_index_or (D.content store.new) q [] ≡ zero.now) }
+    ensures others { ChangesWithin from (to - from) (D.content store.old) (D.content store.new) }
+    ensures failed { OnErr result (D.failures store.old < D.failures store.new) }
+    ensures failures { D.failures store.old ≤ D.failures store.new }
+    ensures reads { D.reads store.new ≡ D.reads store.old }
+    ensures tells { D.tells store.new ≡ D.tells store.old }
+    ensures size { D.size store.new ≡ D.size store.old }
+    ensures room { D.room store.new ≡ D.room store.old }
+{
+    for n in from..to {
+        store.write(n, zero)?;
+    }
+    Ok(())
+}
