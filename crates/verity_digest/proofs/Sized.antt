@@ -7,7 +7,7 @@ use Rattle.std.proofs.lemmas.List.{length-map, length-take, length-drop}
 use Rattle.std.proofs.lemmas.List.Elements.{All-nil, All-head, All-tail, All-append, All-same, All-get_or, All-from_get_or}
 use Rattle.verity_digest.specs.Tree.{Hashing, per_block, pack, hash_block, rounds, digests_at, tree, tree_above, IsHashing}
 use Rattle.verity_digest.specs.Shape.{row_len, level_len, held}
-use Rattle.verity_digest.specs.Rows.{row, block_at, levels_of}
+use Rattle.verity_digest.specs.Rows.{row, block_at, tree_levels}
 use Rattle.verity_digest.proofs.Packing.{length-pack, get_or-pack}
 use Rattle.verity_digest.proofs.Levels.{digests_at-suc, get_or-rounds}
 use Rattle.verity_digest.proofs.Slots.{AreSized, AreSized-run, AreSized-digests, length-hash_block, drop-hash_block}

@@ -4,7 +4,7 @@ use Rattle.std.proofs.Math.Nat.{pow-zero}
 use Rattle.verity_digest.specs.Laws.{UnfoldsRounds, HasNoLevel, CountsBlocks, PlacesBlocks, OrdersLevels, NamesDigests, FillsBlocks, GoesByRows, NamesByRows, HashesAll, GrowsWithCount, LiesAbove}
 use Rattle.verity_digest.specs.Tree.{Hashing, per_block, slot, last_digests, tree_above, IsHashing, IsLevelCount}
 use Rattle.verity_digest.specs.Shape.{level_count, row_len, held}
-use Rattle.verity_digest.specs.Rows.{levels_of, level_block, block_at}
+use Rattle.verity_digest.specs.Rows.{tree_levels, level_block, block_at}
 use Rattle.verity_digest.proofs.Rounds.{rounds-few, rounds-more}
 use Rattle.verity_digest.proofs.Levels.{length-last_digests}
 use Rattle.verity_digest.proofs.Slots.{AreSized-digests}
@@ -26,7 +26,7 @@ unfolds_rounds h two = record {
 
 pub has_no_level : (h : Hashing) (block : List ℕ) → HasNoLevel h block
 has_no_level h block =
-    let none : levels_of h (block ∷ []) ≡ [] = rounds-few h (h.digest block ∷ []) (omega arith) in
+    let none : tree_levels h (block ∷ []) ≡ [] = rounds-few h (h.digest block ∷ []) (omega arith) in
     record { levels = none; tree = ap (λ levels. joined_from_last levels) none; root = root_above-one h (h.digest block ∷ []) (omega arith) }
 
 pub counts_blocks : (h : Hashing) (image : List (List ℕ)) → 2 ≤ per_block h → CountsBlocks h image
@@ -48,22 +48,13 @@ orders_levels k n two some = record {
   last = λ levels. last_end k n levels;
 }
 
--- two data blocks have a level above them
-some_level : (k n L : ℕ) → 1 < n → IsLevelCount k n L → 0 < L
-some_level k n zero more counted = absurd (omega (arith, counted.enough, pow-zero k))
-some_level k n (suc L) more counted = omega arith
-
-level_above_two : (k n : ℕ) → 2 ≤ k → 1 < n → 0 < level_count k n
-level_above_two k n two more = some_level k n (level_count k n) more (IsLevelCount-level_count k n two)
-
 -- no data block has no level
 some_image : (k n l : ℕ) → 2 ≤ k → suc l ≡ level_count k n → 0 < n
 some_image k n l two top = let below : k ^ l < n = level_below k n l two (omega arith) in omega arith
 
 pub names_digests : (h : Hashing) (image : List (List ℕ)) → IsHashing h → NamesDigests h image
 names_digests h image ok = record {
-  leaf = λ b more below.
-      let some : 0 < level_count (per_block h) (length image) = level_above_two (per_block h) (length image) ok.branching more in
+  leaf = λ b some below.
       ap (λ block. slot h block (b % per_block h)) (level_block-row h image 0 (b / per_block h) ok.branching some)
       ∙ slot-row h image 0 b ok below;
   level = λ l i below inside.
