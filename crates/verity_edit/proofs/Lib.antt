@@ -5,3 +5,8 @@ mod Steps
 mod Drafts
 mod Applied
 mod Rows
+mod SlotLemmas
+mod RemadeLemmas
+mod WriteLemmas
+mod Pushes
+mod LevelLemmas

@@ -1,5 +1,5 @@
 -- The touched blocks are those above the edited ones.
-use Rattle.std.proofs.Common.{◌≡◌, ℕ, zero, suc, ◌+◌, ◌-◌, ◌*◌, ◌/◌, ◌^◌, ◌<◌, ◌≤◌, Bool, true, false, ◌||◌, ◌&&◌, eqb, ltb, cond, List, [], ◌∷◌, length, map, ⊎_elim, ◌⊎◌, inl, inr, refl, sym, ap, ◌∙◌, subst, arith}
+use Rattle.std.proofs.Common.{◌≡◌, ℕ, zero, suc, ◌+◌, ◌-◌, ◌*◌, ◌/◌, ◌^◌, ◌<◌, ◌≤◌, Bool, true, false, ◌||◌, ◌&&◌, eqb, ltb, cond, List, [], ◌∷◌, length, map, get_or, ⊎_elim, ◌⊎◌, inl, inr, refl, sym, ap, ◌∙◌, subst, arith}
 use Rattle.std.specs.Int.{div_ceil}
 use Rattle.verity_digest.specs.Shape.{row_len}
 use Rattle.std.specs.List.{filter, list_any, range_with_len, dedup, dedup_from}
@@ -7,6 +7,8 @@ use Rattle.std.proofs.Math.Nat.{pow-zero, pow-suc, one-le-pow, div-one, one-mul,
 use Rattle.std.proofs.lemmas.Bool.{cases_lt, cases_eq, cases_Bool, or_cases, or_left, or_right, and_parts, and_from, eqb-true, eq-eqb, eqb-false, cond-true, cond-false}
 use Rattle.verity_edit.specs.Edits.{Edits}
 use Rattle.verity_edit.specs.Touched.{changed_blocks, has_fallen, is_touched, touched}
+use Rattle.verity_edit.specs.declared.plan.Child.{Child}
+use Rattle.verity_edit.specs.Slots.{child_at}
 use Rattle.verity_edit.specs.Parents.{is_edited, edited_blocks, parents}
 use Rattle.verity_edit.proofs.Untouched.{begins, begun}
 
@@ -238,3 +240,26 @@ touched-suc k e l p some =
     (λ i h. let r = have_parents k (touched k e l) i h in
     let a = has_touched k e l r.0 some r.1 in
     touched_has k e (suc l) i p (record { block = a.block; within = a.within; edited = a.edited; at = up a.block ∙ ap (λ b. b / k) a.at ∙ sym r.2 }))
+
+-- a number in a list
+get_has : (xs : List ℕ) (t : ℕ) → t < length xs → Has xs (get_or xs t 0)
+get_has [] t below = absurd (omega arith)
+get_has (x ∷ xs) zero below = inl refl
+get_has (x ∷ xs) (suc t) below = inr (get_has xs t (omega arith))
+
+has_number : (children : List Child) (n : ℕ) → Has (map (λ child. child.number) children) n → (c : ℕ) × (c < length children) × ((child_at children c).number ≡ n)
+has_number [] n h = absurd h
+has_number (x ∷ children) n h = ⊎_elim (λ e. (0, omega arith, sym e)) (λ t. let r = has_number children n t in (suc r.0, (let l = r.1 in omega arith), r.2)) h
+
+-- the blocks above children of a level begin within it
+pub parents_within : (k : ℕ) (children : List Child) (digests t : ℕ) → 0 < k → ((c : ℕ) → c < length children → (child_at children c).number < digests)
+    → t < length (parents k (map (λ child. child.number) children)) → get_or (parents k (map (λ child. child.number) children)) t 0 * k < digests
+parents_within k children digests t some within below =
+    let numbers : List ℕ = map (λ child. child.number) children in
+    let r = have_parents k numbers (get_or (parents k numbers) t 0) (get_has (parents k numbers) t below) in
+    let c = has_number children r.0 r.1 in
+    let inside = within c.0 c.1 in
+    let low = div-mul-le_self r.0 k in
+    let at : get_or (parents k numbers) t 0 * k ≡ r.0 / k * k = ap (λ q. q * k) r.2 in
+    let same = c.2 in
+    omega arith

@@ -9,3 +9,8 @@ pub mod Parents
 pub mod Applied
 pub mod Levels
 pub mod Texts
+pub mod Slots
+pub mod Remade
+pub mod Plan
+pub mod Written
+pub mod Level

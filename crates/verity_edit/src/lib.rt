@@ -3,7 +3,10 @@
 
 mod command;
 mod fault;
+mod level;
+mod made;
 mod pending;
+mod plan;
 mod writes;
 
 pub use command::{Command, Committed, Reply};

@@ -2,10 +2,33 @@
 ghost use Rattle.std.specs.Prelude.{◌≡◌, ℕ, ◌+◌, ◌-◌, ◌^◌, ◌<◌, ◌≤◌, true, List, [], length, slice_index_or, OnOk, OnErr};
 ghost use Rattle.verity_store.specs.Moves.{ChangesWithin};
 ghost use Rattle.verity_edit.specs.Applied.{overwritten, FitStore};
+ghost use Rattle.verity_edit.specs.Plan.{planned_at};
+ghost use Rattle.verity_edit.specs.Written.{AreWritten, OnlyPlanned};
 
+use crate::made::Made;
 use std::alloc::Allocator;
 use std::collections::BTreeMap;
 use verity_store::{Block, BlockStore, StoreFault};
+
+/// Writes the blocks of a plan.
+pub fn write_made<H: BlockStore, A: Allocator>(hash_store: &mut H, plan: &[Made<A>]) -> Result<(), StoreFault>
+    requires within { (c : ℕ) → c < length plan.now → (planned_at plan.now c).at < length (H.content hash_store.old) }
+    requires sized { (c : ℕ) → c < length plan.now → length (planned_at plan.now c).block ≡ H.size hash_store.old }
+    ensures written { OnOk result (H.tells hash_store.old ≡ true → AreWritten (length plan.now) plan.now (H.content hash_store.new)) }
+    ensures others { OnlyPlanned (length plan.now) plan.now (H.content hash_store.old) (H.content hash_store.new) }
+    ensures len { length (H.content hash_store.new) ≡ length (H.content hash_store.old) }
+    ensures failed { OnErr result (H.failures hash_store.old < H.failures hash_store.new) }
+    ensures failures { H.failures hash_store.old ≤ H.failures hash_store.new }
+    ensures reads { H.reads hash_store.new ≡ H.reads hash_store.old }
+    ensures tells { H.tells hash_store.new ≡ H.tells hash_store.old }
+    ensures size { H.size hash_store.new ≡ H.size hash_store.old }
+    ensures room { H.room hash_store.new ≡ H.room hash_store.old }
+{
+    for made in plan {
+        hash_store.write(made.at(), made.block())?;
+    }
+    Ok(())
+}
 
 /// Writes the pending blocks to the data store.
 pub fn write_pending<D: BlockStore, A: Allocator>(
