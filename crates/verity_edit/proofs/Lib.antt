@@ -9,4 +9,7 @@ mod SlotLemmas
 mod RemadeLemmas
 mod WriteLemmas
 mod Pushes
+mod LevelMoves
 mod LevelLemmas
+mod Renewed
+mod Trees

@@ -14,3 +14,4 @@ pub mod Remade
 pub mod Plan
 pub mod Written
 pub mod Level
+pub mod Standing

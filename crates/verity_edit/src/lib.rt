@@ -4,6 +4,7 @@
 mod command;
 mod fault;
 mod level;
+mod levels;
 mod made;
 mod pending;
 mod plan;
