@@ -24,7 +24,7 @@ abbrev pub KeysRise : ℕ → List (ℕ × List ℕ) → Type 0
 KeysRise lo [] = Unit {0}
 KeysRise lo (e ∷ es) = (lo ≤ e.0) × KeysRise (suc e.0) es
 
-is_at_same : (n : ℕ) → is_at (nat_cmp n) n ≡ true
+pub is_at_same : (n : ℕ) → is_at (nat_cmp n) n ≡ true
 is_at_same n = ap is_eq (cond-false (ltb n n) Less (cond (eqb n n) Equal Greater) (le-ltb n n (omega arith)) ∙ cond-true (eqb n n) Equal Greater (eq-eqb n n refl))
 
 lookup_under : (es : List (ℕ × List ℕ)) (lo q : ℕ) → KeysRise lo es → q < lo → lookup (is_at (nat_cmp q)) es ≡ None

@@ -13,3 +13,5 @@ mod LevelMoves
 mod LevelLemmas
 mod Renewed
 mod Trees
+mod LeafLemmas
+mod MakingLemmas

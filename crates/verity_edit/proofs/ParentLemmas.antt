@@ -21,7 +21,7 @@ abbrev pub Has : List ℕ → ℕ → Type 0
 Has [] n = ⊥
 Has (x ∷ xs) n = (n ≡ x) ⊎ Has xs n
 
-Rising-from : (a b : ℕ) (xs : List ℕ) → a ≤ b → Rising b xs → Rising a xs
+pub Rising-from : (a b : ℕ) (xs : List ℕ) → a ≤ b → Rising b xs → Rising a xs
 Rising-from a b [] le r = tt
 Rising-from a b (x ∷ xs) le r = (let h = r.0 in omega arith, r.1)
 
@@ -242,12 +242,12 @@ touched-suc k e l p some =
     touched_has k e (suc l) i p (record { block = a.block; within = a.within; edited = a.edited; at = up a.block ∙ ap (λ b. b / k) a.at ∙ sym r.2 }))
 
 -- a number in a list
-get_has : (xs : List ℕ) (t : ℕ) → t < length xs → Has xs (get_or xs t 0)
+pub get_has : (xs : List ℕ) (t : ℕ) → t < length xs → Has xs (get_or xs t 0)
 get_has [] t below = absurd (omega arith)
 get_has (x ∷ xs) zero below = inl refl
 get_has (x ∷ xs) (suc t) below = inr (get_has xs t (omega arith))
 
-has_number : (children : List Child) (n : ℕ) → Has (map (λ child. child.number) children) n → (c : ℕ) × (c < length children) × ((child_at children c).number ≡ n)
+pub has_number : (children : List Child) (n : ℕ) → Has (map (λ child. child.number) children) n → (c : ℕ) × (c < length children) × ((child_at children c).number ≡ n)
 has_number [] n h = absurd h
 has_number (x ∷ children) n h = ⊎_elim (λ e. (0, omega arith, sym e)) (λ t. let r = has_number children n t in (suc r.0, (let l = r.1 in omega arith), r.2)) h
 

@@ -6,7 +6,7 @@ use Rattle.verity_digest.specs.Tree.{Hashing, hash_block, per_block}
 use Rattle.verity_edit.specs.declared.plan.Child.{Child}
 use Rattle.verity_edit.specs.declared.level.OldLevel.{OldLevel}
 use Rattle.verity_edit.specs.declared.level.Level.{Level}
-use Rattle.verity_edit.specs.Slots.{child_at, AreNamed, AreSized}
+use Rattle.verity_edit.specs.Slots.{child_at, AreNamed, AreSized, AreWithin}
 
 -- these hash blocks of a store hold the digests `old`, of which the first may be kept elsewhere
 pub record Holds (h : Hashing) (old : List (List ℕ)) (level : OldLevel) (content : List (List ℕ)) : Type 0 where
@@ -25,7 +25,8 @@ pub record Renews (size : ℕ) (old new : List (List ℕ)) (children : List Chil
 -- the level is one of a tree whose hash blocks have `size` bytes and its digests `digest`, and stood within `blocks` blocks
 pub record IsLevel (level : Level) (blocks size digest : ℕ) : Type 0 where
   pub within : level.old.start + level.old.len ≤ blocks
-  pub width : level.per_block * level.digest_size ≡ size
+  pub width : level.per_block ≡ size / digest
+  pub room : level.per_block * level.digest_size ≤ size
   pub some : 0 < level.per_block
   pub digest_size : level.digest_size ≡ digest
   pub first : IfSome level.old.first (λ root. length root ≡ digest)
@@ -34,4 +35,4 @@ pub record IsLevel (level : Level) (blocks size digest : ℕ) : Type 0 where
 -- the children are of the level
 pub record AreChildren (level : Level) (children : List Child) : Type 0 where
   pub sized : AreSized level.digest_size children
-  pub within : (c : ℕ) → c < length children → (child_at children c).number < level.digests
+  pub within : AreWithin level.digests children

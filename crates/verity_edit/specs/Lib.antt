@@ -15,3 +15,5 @@ pub mod Plan
 pub mod Written
 pub mod Level
 pub mod Standing
+pub mod Leaves
+pub mod Making

@@ -17,6 +17,10 @@ child_at children c = slice_index_or children c nobody
 abbrev pub AreSized : ℕ → List Child → Type 0
 AreSized size children = (c : ℕ) → c < length children → length (child_at children c).digest ≡ size
 
+-- the numbers of these children are below this one
+abbrev pub AreWithin : ℕ → List Child → Type 0
+AreWithin end children = (c : ℕ) → c < length children → (child_at children c).number < end
+
 -- each of these children has the digest that is named for its number
 pub record AreNamed (named : ℕ → List ℕ) (children : List Child) : Type 0 where
   pub each : (c : ℕ) → c < length children → (child_at children c).digest ≡ named (child_at children c).number

@@ -3,11 +3,13 @@
 
 mod command;
 mod fault;
+mod leaves;
 mod level;
 mod levels;
 mod made;
 mod pending;
 mod plan;
+mod tree;
 mod writes;
 
 pub use command::{Command, Committed, Reply};

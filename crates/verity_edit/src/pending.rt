@@ -1,14 +1,21 @@
 //! The edits since the last commit.
-ghost use Rattle.std.specs.Prelude.{◌≡◌, ℕ, ◌<◌, ◌≤◌, ◌^◌, true, List, [], length, Some, None, OnOk, OnErr, IfErr, ◌⊎◌};
+ghost use Rattle.std.specs.Prelude.{◌≡◌, ℕ, ◌+◌, ◌<◌, ◌≤◌, ◌^◌, true, List, [], length, slice_index_or, Some, None, OnOk, OnErr, IfOk, IfErr, ◌⊎◌};
 ghost use Rattle.verity_profile.specs.Profile.{zero_block};
 ghost use Rattle.verity_edit.specs.Edits.{with_write, with_growth, with_shrink, write_rule, grow_rule, shrink_rule};
+ghost use Rattle.verity_digest.specs.Hash.{salted_digest, size_of};
 ghost use Rattle.verity_edit.specs.Draft.{Draft, edits_of};
+ghost use Rattle.verity_edit.specs.Touched.{changed_blocks};
+ghost use Rattle.verity_edit.specs.Slots.{AreNamed, AreSized, AreWithin};
+ghost use Rattle.verity_edit.specs.Plan.{numbers_of};
 
+use crate::leaves::{add_new_leaves, add_old_leaves};
+use crate::plan::Child;
 use crate::writes::{write_pending, write_zeros};
 use crate::EditFault;
-use std::alloc::{Allocator, Global};
+use std::alloc::{AllocError, Allocator, Global};
 use std::collections::BTreeMap;
 use std::marker::Model;
+use verity_digest::Hasher;
 use verity_store::{Block, BlockStore, StoreFault};
 
 /// The edits since the last commit. A contract sees a `Draft`.
@@ -118,6 +125,35 @@ impl<A: Allocator + Copy> Pending<A> {
         self.written.clear();
         self.least = self.committed;
         self.working = self.committed;
+    }
+
+    /// The leaves of the blocks that were changed, in order. It hashes each of them once and takes memory for their digests.
+    pub fn leaves(
+        &self,
+        hasher: &mut Hasher<A>,
+        zero: &[u8],
+    ) -> Result<Vec<Child, A>, AllocError>
+        requires zero { zero.now ≡ zero_block self.now.size }
+        ensures numbers { IfOk result (λ leaves. (image : List (List ℕ)) → numbers_of leaves.items ≡ changed_blocks (edits_of image self.now)) }
+        ensures named { IfOk result (λ leaves. (image : List (List ℕ)) →
+            AreNamed (λ n. salted_digest hasher.old.salted (slice_index_or (edits_of image self.now).working n [])) leaves.items) }
+        ensures within { IfOk result (λ leaves. AreWithin self.now.working leaves.items) }
+        ensures sized { IfOk result (λ leaves. AreSized (size_of hasher.old.salted.algorithm) leaves.items) }
+        ensures salted { hasher.new.salted ≡ hasher.old.salted }
+        ensures hashed { IfOk result (λ leaves. hasher.new.hashed ≡ hasher.old.hashed + length leaves.items) }
+    {
+        let _ordered = self.written.len();
+        let mut leaves = Vec::new(self.alloc);
+        add_old_leaves(&self.written, self.least, hasher, &mut leaves)?;
+        add_new_leaves(
+            &self.written,
+            self.least,
+            self.working,
+            zero,
+            hasher,
+            &mut leaves,
+        )?;
+        Ok(leaves)
     }
 
     /// Makes a store that holds the committed image hold the working one.

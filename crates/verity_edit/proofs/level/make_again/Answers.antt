@@ -2,7 +2,6 @@ use Rattle.std.proofs.Common.{◌≡◌, ℕ, ◌+◌, ◌*◌, ◌/◌, ◌<◌
 use Rattle.std.specs.Prelude.{IfSome}
 use Rattle.std.specs.Int.{div_ceil}
 use Rattle.std.specs.Fork.{slice_chunk}
-use Rattle.std.proofs.Math.Nat.{mul-div_cancel}
 use Rattle.verity_digest.specs.Tree.{Hashing, per_block, pack, hash_block}
 use Rattle.verity_digest.specs.Hash.{hashing, size_of}
 use Rattle.verity_digest.proofs.Sha.{length-digest_of}
@@ -10,7 +9,7 @@ use Rattle.verity_digest.proofs.Packing.{get_or-pack}
 use Rattle.verity_edit.specs.Level.{Renews}
 use Rattle.verity_edit.specs.Slots.{slots}
 use Rattle.verity_edit.proofs.Untouched.{begun}
-use Rattle.verity_edit.proofs.LevelLemmas.{can_remake, size_some}
+use Rattle.verity_edit.proofs.LevelLemmas.{can_remake}
 use Rattle.verity_edit.proofs.level.make_again.Goals as goal
 
 pub returns-clause-digest_size : goal.returns-clause-digest_size
@@ -26,9 +25,7 @@ returns-clause-made g c = λ told old new count holds renews.
     let l = c.requires.level in
     let some : 0 < k = l.some in
     let same : d ≡ h.digest_size = l.digest_size in
-    let size : length c.args.block.now ≡ k * d = c.requires.sized ∙ sym l.width in
-    let some_size : 0 < h.digest_size = size_some c.args.hasher.now.salted.algorithm in
-    let width : per_block h ≡ k = ap (λ n. n / h.digest_size) (size ∙ ap (λ w. k * w) same) ∙ mul-div_cancel k some_size in
+    let width : per_block h ≡ k = ap (λ n. n / h.digest_size) c.requires.sized ∙ sym l.width in
     let before = c.in_ok-read_old.ensures in
     let renewed : Renews h.digest_size old new c.args.children.now = subst (λ (w : ℕ). Renews w old new c.args.children.now) same renews in
     let first = λ (far : level.old.len ≤ i) (z : i ≡ 0). subst (λ (w : ℕ). IfSome level.old.first (λ digest. get_or (slots w k c.read_old.new.block) 0 [] ≡ digest)) same (before.first far z) in
