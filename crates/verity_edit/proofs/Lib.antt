@@ -15,3 +15,5 @@ mod Renewed
 mod Trees
 mod LeafLemmas
 mod MakingLemmas
+mod CarriedLemmas
+mod LastLemmas

@@ -17,3 +17,5 @@ pub mod Level
 pub mod Standing
 pub mod Leaves
 pub mod Making
+pub mod Carried
+pub mod Last

@@ -1,8 +1,10 @@
 //! Edits and commits of a volume.
 #![tactic(auto)]
 
+mod change;
 mod command;
 mod fault;
+mod last;
 mod leaves;
 mod level;
 mod levels;
