@@ -16,4 +16,3 @@ mod Trees
 mod LeafLemmas
 mod MakingLemmas
 mod CarriedLemmas
-mod LastLemmas

@@ -18,4 +18,3 @@ pub mod Standing
 pub mod Leaves
 pub mod Making
 pub mod Carried
-pub mod Last

@@ -4,7 +4,6 @@
 mod change;
 mod command;
 mod fault;
-mod last;
 mod leaves;
 mod level;
 mod levels;
