@@ -1,0 +1,4 @@
+pub mod TableLaws
+pub mod ChainLaw
+pub mod FindingLaws
+pub mod RangeLaw

@@ -1,0 +1,7 @@
+pub mod Table
+pub mod Chain
+pub mod Right
+pub mod Finding
+pub mod Range
+pub mod Texts
+pub mod Cache
