@@ -2,3 +2,5 @@ pub mod TableLaws
 pub mod ChainLaw
 pub mod FindingLaws
 pub mod RangeLaw
+pub mod CacheLemmas
+pub mod WalkLemmas

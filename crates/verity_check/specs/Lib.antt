@@ -5,3 +5,5 @@ pub mod Finding
 pub mod Range
 pub mod Texts
 pub mod Cache
+pub mod Stores
+pub mod Refusal

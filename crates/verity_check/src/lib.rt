@@ -3,6 +3,8 @@
 
 mod cache;
 mod fault;
+mod range;
 mod tree;
+mod walk;
 
 pub use fault::{CheckFault, Place};

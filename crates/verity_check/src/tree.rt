@@ -56,6 +56,19 @@ impl<A: Allocator> Tree<A> {
         self.geometry.above(level, n)
     }
 
+    /// The index in a row of the block above data block `n`, or of data block `n` itself.
+    pub(crate) fn path_index(&self, row: usize, n: u64) -> u64
+        requires row { row ≤ height self.now }
+        requires within { n < self.now.data_blocks }
+        ensures { result ≡ path_index self.now n row }
+    {
+        if row == 0 {
+            n
+        } else {
+            self.above(row - 1, n)
+        }
+    }
+
     /// The number in the hash store of a block of a level.
     pub(crate) fn hash_place(&self, level: usize, index: u64) -> u64
         requires level { level < height self.now }
