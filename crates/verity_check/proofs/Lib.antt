@@ -4,3 +4,4 @@ pub mod FindingLaws
 pub mod RangeLaw
 pub mod CacheLemmas
 pub mod WalkLemmas
+pub mod RangeLemmas

@@ -12,7 +12,12 @@ use Rattle.verity_check.specs.Table.{Table, IsTable, height, path_index}
 use Rattle.verity_check.specs.Chain.{Given, AreSized, WrongAt}
 use Rattle.verity_check.specs.Right.{Fits, Clash, bytes_of, AreRight}
 use Rattle.verity_check.specs.Finding.{Held, Tells}
-use Rattle.verity_check.specs.Range.{Touches, Served, ServesBytes, IsPathGood, IsFirstBad}
+use Rattle.verity_check.specs.Range.{Touches, Served, ServesBytes, IsPathGood}
+use Rattle.verity_check.specs.Refusal.{IsWrongPlace, IsBadOn, IsFirstBad, OnMismatch, Refuses, RefusesAfter}
+use Rattle.verity_check.specs.declared.fault.Place.{Place}
+use Rattle.verity_check.specs.declared.fault.Place.TheVariants as places
+use Rattle.verity_check.specs.declared.fault.CheckFault.{CheckFault}
+use Rattle.verity_check.specs.declared.fault.CheckFault.TheVariants as faults
 use Rattle.verity_check.proofs.ChainLaw.{chain_right}
 use Rattle.verity_check.proofs.FindingLaws.{wrong_is_bad, chain_is_good, path_good}
 
@@ -85,6 +90,23 @@ module _ (t : Table) (image : List (List ℕ)) (ok : IsTable t) (fits : Fits t i
       subst (λ o. AreRight t given image o len bytes) (div-add-mod' offset t.data_block_size)
       (from_first (offset / t.data_block_size) (offset % t.data_block_size) len bytes s.blocks s.served s.cut s.whole)
 
+-- a block that a range touches doesn't lie before it
+pub first_of_range : (t : Table) (offset len n : ℕ) → Touches t offset len n → offset / t.data_block_size ≤ n
+first_of_range t offset len n touch =
+    let split : offset / t.data_block_size * t.data_block_size + offset % t.data_block_size ≡ offset = div-add-mod' offset t.data_block_size in
+    elim (cases_lt n (offset / t.data_block_size)) [
+      | inl before ↦ absurd (let m : suc n * t.data_block_size ≤ offset / t.data_block_size * t.data_block_size = mul-le-mul_right t.data_block_size before in omega (arith, m, touch.ends, split))
+      | inr from ↦ omega (arith, from)
+    ]
+
+-- why a range was refused, without the blocks before
+pub refuses : (t : Table) (given : Given) (p q : Type 0) (offset len : ℕ) (fault : CheckFault) → RefusesAfter t given p q offset len fault → Refuses t given p q offset len fault
+refuses t given p q offset len (faults.Mismatch place) r = (r.0, r.4, r.5)
+refuses t given p q offset len (faults.Store which) r = (r.0, r.4, r.5)
+refuses t given p q offset len faults.NoMemory r = tt
+refuses t given p q offset len faults.Lengths r = (r.0, r.4, r.5)
+refuses t given p q offset len faults.CacheSize r = (r.0, r.4, r.5)
+
 module _ (t : Table) (given : Given) (held : Held) (tells : Tells given held) where
   served_good : (first : ℕ) (xs : List (List ℕ)) → Served t given first xs → (m : ℕ) → first ≤ m → m < first + length xs → IsPathGood t held m
   served_good first [] s m l r = absurd (omega (arith, l, r))
@@ -94,14 +116,23 @@ module _ (t : Table) (given : Given) (held : Held) (tells : Tells given held) wh
         subst (λ j. IsPathGood t held j) e (path_good t held first (chain_is_good t held given tells 0 first x s.1).0)
   ]
 
-  -- the place of a refusal is bad, and all before it is good
-  pub refused_first : (offset : ℕ) (xs : List (List ℕ)) → Served t given (offset / t.data_block_size) xs → (n : ℕ) → n ≡ offset / t.data_block_size + length xs → (r : ℕ) → r ≤ height t → WrongAt t given r (path_index t n r) → IsFirstBad t held offset n r (path_index t n r)
-  refused_first offset xs s n at r l w = record {
-    row = l;
-    on_path = refl;
-    is_bad = wrong_is_bad t held given tells r _ w;
-    before = λ m a b. served_good (offset / t.data_block_size) xs s m a (omega (arith, at, b));
+  -- a wrong place is a bad one
+  pub wrong_place_bad : (n : ℕ) (place : Place) → IsWrongPlace t given n place → IsBadOn t held n place
+  wrong_place_bad n (places.Data m) w = (w.0, wrong_is_bad t held given tells 0 n w.1)
+  wrong_place_bad n (places.Hash level index) w = (w.0, w.1, wrong_is_bad t held given tells (suc level) index w.2)
+
+  -- where the stores tell, the place of a mismatch is bad, and all paths before are good
+  pub refused_first : (p q : Type 0) (offset len : ℕ) (fault : CheckFault) → 0 < t.data_block_size → RefusesAfter t given p q offset len fault → OnMismatch (IsFirstBad t held offset len) fault
+  refused_first p q offset len (faults.Mismatch place) size r = record {
+    block = r.0;
+    touches = r.4;
+    is_bad = wrong_place_bad r.0 place r.5;
+    before = λ m touch less. served_good (offset / t.data_block_size) r.1 r.2 m (first_of_range t offset len m touch) (omega (arith, r.3, less));
   }
+  refused_first p q offset len (faults.Store which) size r = tt
+  refused_first p q offset len faults.NoMemory size r = tt
+  refused_first p q offset len faults.Lengths size r = tt
+  refused_first p q offset len faults.CacheSize size r = tt
 
   -- where bytes were served, every path of the range is good
   pub served_range_good : AreSized t given → (offset len : ℕ) (bytes : List ℕ) → 0 < t.data_block_size → ServesBytes t given offset len bytes → (n : ℕ) → Touches t offset len n → IsPathGood t held n
@@ -113,10 +144,7 @@ module _ (t : Table) (given : Given) (held : Held) (tells : Tells given held) wh
       let wide : length (concat s.blocks) ≡ length s.blocks * size = length-concat size s.blocks (served_sized t given sized first s.blocks s.served) in
       let cut : len ≤ length (concat s.blocks) - skip = omega (arith, sym s.whole ∙ ap length s.cut, length-take len (drop skip (concat s.blocks)), length-drop skip (concat s.blocks)) in
       served_good first s.blocks s.served n
-      (elim (cases_lt n first) [
-        | inl before ↦ absurd (let m : suc n * t.data_block_size ≤ first * t.data_block_size = mul-le-mul_right t.data_block_size before in omega (arith, m, touch.ends, split))
-        | inr from ↦ omega (arith, from)
-      ])
+      (first_of_range t offset len n touch)
       (elim (cases_lt n (first + length s.blocks)) [
         | inl inside ↦ omega (arith, inside)
         | inr after ↦ absurd (

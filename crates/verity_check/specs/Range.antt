@@ -3,7 +3,7 @@ use Rattle.std.specs.Prelude.{ℕ, zero, suc, ◌+◌, ◌*◌, ◌/◌, ◌%◌
 use Rattle.std.specs.List.{concat}
 use Rattle.verity_check.specs.Table.{Table, height, path_index}
 use Rattle.verity_check.specs.Chain.{Given, EndsChain, WrongAt}
-use Rattle.verity_check.specs.Finding.{Held, finding, good, bad}
+use Rattle.verity_check.specs.Finding.{Held, finding, good}
 
 -- the range has a byte of data block n
 pub record Touches (t : Table) (offset len n : ℕ) : Type 0 where
@@ -30,10 +30,3 @@ pub record ServesBytes (t : Table) (given : Given) (offset len : ℕ) (bytes : L
 -- every place of the path of data block n is good
 abbrev pub IsPathGood : Table → Held → ℕ → Type 0
 IsPathGood t held n = (r : ℕ) → r ≤ height t → finding t held [] r (path_index t n r) ≡ good
-
--- the place is bad, and on the path of data block n; the paths of the blocks of the range before n are good
-pub record IsFirstBad (t : Table) (held : Held) (offset n r i : ℕ) : Type 0 where
-  pub row : r ≤ height t
-  pub on_path : i ≡ path_index t n r
-  pub is_bad : finding t held [] r i ≡ bad
-  pub before : (m : ℕ) → offset / t.data_block_size ≤ m → m < n → IsPathGood t held m

@@ -1,9 +1,9 @@
 -- Why a read was refused.
-use Rattle.std.specs.Prelude.{ℕ, zero, suc, ◌+◌, ◌/◌, ◌<◌, ◌≡◌, List, length}
+use Rattle.std.specs.Prelude.{ℕ, zero, suc, ◌+◌, ◌/◌, ◌<◌, ◌≡◌, List, [], length}
 use Rattle.verity_check.specs.Table.{Table, height, path_index}
 use Rattle.verity_check.specs.Chain.{Given, WrongAt}
-use Rattle.verity_check.specs.Finding.{Held}
-use Rattle.verity_check.specs.Range.{Touches, Served, IsFirstBad}
+use Rattle.verity_check.specs.Finding.{Held, finding, bad}
+use Rattle.verity_check.specs.Range.{Touches, Served, IsPathGood}
 use Rattle.verity_store.specs.declared.fault.Which.TheVariants as stores
 use Rattle.verity_check.specs.declared.fault.Place.{Place}
 use Rattle.verity_check.specs.declared.fault.Place.TheVariants as places
@@ -29,15 +29,22 @@ abbrev pub Refuses : Table → Given → Type 0 → Type 0 → ℕ → ℕ → C
 Refuses t given data_failed hash_failed offset len faults.NoMemory = Unit {0}
 Refuses t given data_failed hash_failed offset len fault = (n : ℕ) × Touches t offset len n × Explains t given data_failed hash_failed n fault
 
--- the place is the first bad one on the path of data block n, and in the range no path before has one
-abbrev pub IsFirstBadPlace : Table → Held → ℕ → ℕ → Place → Type 0
-IsFirstBadPlace t held offset n (places.Data m) = IsFirstBad t held offset n zero m
-IsFirstBadPlace t held offset n (places.Hash level index) = IsFirstBad t held offset n (suc level) index
+-- the place is bad, and on the path of data block n
+abbrev pub IsBadOn : Table → Held → ℕ → Place → Type 0
+IsBadOn t held n (places.Data m) = (m ≡ n) × (finding t held [] zero n ≡ bad)
+IsBadOn t held n (places.Hash level index) = (level < height t) × (index ≡ path_index t n (suc level)) × (finding t held [] (suc level) index ≡ bad)
 
--- where the stores tell, a mismatch is at the first bad place of the range
-abbrev pub NamesFirstBad : Table → Held → ℕ → ℕ → CheckFault → Type 0
-NamesFirstBad t held offset len (faults.Mismatch place) = (n : ℕ) × Touches t offset len n × IsFirstBadPlace t held offset n place
-NamesFirstBad t held offset len _ = Unit {0}
+-- the place is bad, and on the path of the first block of the range whose path isn't good
+pub record IsFirstBad (t : Table) (held : Held) (offset len : ℕ) (place : Place) : Type 0 where
+  pub block : ℕ
+  pub touches : Touches t offset len block
+  pub is_bad : IsBadOn t held block place
+  pub before : (m : ℕ) → Touches t offset len m → m < block → IsPathGood t held m
+
+-- what a mismatch names, where the stores tell
+abbrev pub OnMismatch : (Place → Type 0) → CheckFault → Type 0
+OnMismatch P (faults.Mismatch place) = P place
+OnMismatch P _ = Unit {0}
 
 -- the blocks of the range before were served, and the check of the next, which is one of the range, was refused
 abbrev pub RefusesAfter : Table → Given → Type 0 → Type 0 → ℕ → ℕ → CheckFault → Type 0

@@ -1,18 +1,22 @@
 -- The tree that a table line describes.
-use Rattle.std.specs.Prelude.{ℕ, zero, suc, ◌+◌}
+use Rattle.std.specs.Prelude.{ℕ, zero, suc, ◌+◌, ◌^◌, ◌≤◌}
 use Rattle.verity_digest.specs.Hash.{Salted, hashing, size_of}
 use Rattle.verity_digest.specs.Tree.{Hashing, per_block}
 use Rattle.verity_digest.specs.Shape as shape
 use Rattle.verity_geometry.specs.Geometry.{Shape}
-use Rattle.verity_superblock.specs.Table.{Line, IsLine}
+use Rattle.verity_profile.specs.Profile.{IsBlockSize, IsBlockCount}
+use Rattle.verity_superblock.specs.Table.{Line}
 
 -- the values of a table line
 abbrev pub Table : Type 0
 Table = Line
 
--- they are of the profile
-abbrev pub IsTable : Table → Type 0
-IsTable t = IsLine t
+-- its numbers are of the profile
+pub record IsTable (t : Table) : Type 0 where
+  pub data_size : IsBlockSize t.data_block_size
+  pub hash_size : IsBlockSize t.hash_block_size
+  pub blocks : IsBlockCount t.data_blocks
+  pub start : t.hash_start_block ≤ 2 ^ 40
 
 -- what its blocks are hashed with
 abbrev pub salted_of : Table → Salted
