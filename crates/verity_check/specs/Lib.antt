@@ -7,3 +7,4 @@ pub mod Texts
 pub mod Cache
 pub mod Stores
 pub mod Refusal
+pub mod Verifier
