@@ -5,3 +5,4 @@ pub mod RangeLaw
 pub mod CacheLemmas
 pub mod WalkLemmas
 pub mod RangeLemmas
+pub mod VerifierLemmas
