@@ -6,3 +6,4 @@ pub mod CacheLemmas
 pub mod WalkLemmas
 pub mod RangeLemmas
 pub mod VerifierLemmas
+pub mod HoldsLaws

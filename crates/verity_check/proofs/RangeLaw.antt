@@ -9,7 +9,7 @@ use Rattle.std.proofs.lemmas.List.Elements.{All-get_or}
 use Rattle.verity_digest.proofs.Slots.{length-concat}
 use Rattle.verity_digest.proofs.Slots as slots
 use Rattle.verity_check.specs.Table.{Table, IsTable, height, path_index}
-use Rattle.verity_check.specs.Chain.{Given, AreSized, WrongAt}
+use Rattle.verity_check.specs.Chain.{Given, AreSized, EndsChain, WrongAt}
 use Rattle.verity_check.specs.Right.{Fits, Clash, bytes_of, AreRight}
 use Rattle.verity_check.specs.Finding.{Held, Tells}
 use Rattle.verity_check.specs.Range.{Touches, Served, ServesBytes, IsPathGood}
@@ -62,33 +62,53 @@ drop_joined size image n skip w l =
     let len : length (concat (take n image)) ≡ n * size = length-concat size (take n image) wide ∙ ap (λ m. m * size) front in
     sym (drop-drop skip (n * size) (concat image)) ∙ ap (λ c. drop skip (drop (n * size) c)) joined ∙ ap (drop skip) (drop_at (concat (take n image)) (concat (drop n image)) (n * size) len)
 
-module _ (t : Table) (image : List (List ℕ)) (ok : IsTable t) (fits : Fits t image) (given : Given) (sized : AreSized t given) where
+-- served blocks that are each the image's own
+all_own : (t : Table) (given : Given) (image : List (List ℕ)) → Fits t image → ((n : ℕ) (x : List ℕ) → n < t.data_blocks → EndsChain t given 0 n x → x ≡ get_or image n []) → (n : ℕ) (xs : List (List ℕ)) → Served t given n xs → xs ≡ take (length xs) (drop n image)
+all_own t given image fits each n [] s = refl
+all_own t given image fits each n (x ∷ xs) s =
+    let more : n + 1 ≡ suc n = omega arith in
+    let here : drop n image ≡ get_or image n [] ∷ drop (suc n) image = drop_more image n [] (omega (arith, fits.blocks, s.0)) ∙ ap (λ m. get_or image n [] ∷ drop m image) more in
+    ap (λ y. y ∷ xs) (each n x s.0 s.1) ∙ ap (λ ys. get_or image n [] ∷ ys) (all_own t given image fits each (suc n) xs s.2) ∙ ap (take (suc (length xs))) (sym here)
+
+module _ (t : Table) (image : List (List ℕ)) (ok : IsTable t) (fits : Fits t image) (given : Given) where
   blocks_sized : slots.AreSized t.data_block_size image
   blocks_sized = record { each = λ i l. All-get_or (λ b. length b ≡ t.data_block_size) image i [] l fits.sized }
 
-  -- bytes that are cut out of blocks from n on
-  bytes_of_blocks : (n skip len : ℕ) (bytes : List ℕ) (xs : List (List ℕ)) → Served t given n xs → bytes ≡ take len (drop skip (concat xs)) → length bytes ≡ len → n ≤ t.data_blocks → AreRight t given image (n * t.data_block_size + skip) len bytes
-  bytes_of_blocks n skip len bytes xs served cut whole l = ⊎_elim
-      (λ own. inl (
+  -- bytes that are cut out of blocks that are the image's own from n on
+  bytes_of_own : (n skip len : ℕ) (bytes : List ℕ) (xs : List (List ℕ)) → xs ≡ take (length xs) (drop n image) → bytes ≡ take len (drop skip (concat xs)) → length bytes ≡ len → n ≤ t.data_blocks → bytes ≡ bytes_of image (n * t.data_block_size + skip) len
+  bytes_of_own n skip len bytes xs own cut whole l =
       let split : concat (drop n image) ≡ concat xs ++ concat (drop (length xs) (drop n image)) =
       ap concat (sym (take-append-drop (length xs) (drop n image))) ∙ concat-append (take (length xs) (drop n image)) (drop (length xs) (drop n image)) ∙ ap (λ a. concat a ++ concat (drop (length xs) (drop n image))) (sym own) in
       cut ∙ part_of_longer len skip (concat xs) (concat (drop (length xs) (drop n image))) (ap length (sym cut) ∙ whole)
       ∙ ap (λ c. take len (drop skip c)) (sym split)
-      ∙ ap (take len) (sym (drop_joined t.data_block_size image n skip blocks_sized (omega (arith, fits.blocks))))))
-      inr (served_own t given image ok sized fits n xs served)
+      ∙ ap (take len) (sym (drop_joined t.data_block_size image n skip blocks_sized (omega (arith, fits.blocks))))
 
-  from_first : (n skip len : ℕ) (bytes : List ℕ) (xs : List (List ℕ)) → Served t given n xs → bytes ≡ take len (drop skip (concat xs)) → length bytes ≡ len → AreRight t given image (n * t.data_block_size + skip) len bytes
-  from_first n skip len bytes [] served cut whole =
+  none_served : (n skip len : ℕ) (bytes : List ℕ) → bytes ≡ take len (drop skip []) → length bytes ≡ len → bytes ≡ bytes_of image (n * t.data_block_size + skip) len
+  none_served n skip len bytes cut whole =
       let none : len ≡ 0 = omega (arith, ap length cut, whole, length-take len (drop {A = ℕ} skip []), length-drop {A = ℕ} skip []) in
-      inl (nil_from_length bytes (whole ∙ none) ∙ ap (λ m. bytes_of image (n * t.data_block_size + skip) m) (sym none))
-  from_first n skip len bytes (x ∷ xs) served cut whole = bytes_of_blocks n skip len bytes (x ∷ xs) served cut whole (omega (arith, served.0))
+      nil_from_length bytes (whole ∙ none) ∙ ap (λ m. bytes_of image (n * t.data_block_size + skip) m) (sym none)
+
+  from_first : (sized : AreSized t given) (n skip len : ℕ) (bytes : List ℕ) (xs : List (List ℕ)) → Served t given n xs → bytes ≡ take len (drop skip (concat xs)) → length bytes ≡ len → AreRight t given image (n * t.data_block_size + skip) len bytes
+  from_first sized n skip len bytes [] served cut whole = inl (none_served n skip len bytes cut whole)
+  from_first sized n skip len bytes (x ∷ xs) served cut whole =
+      ⊎_elim (λ own. inl (bytes_of_own n skip len bytes (x ∷ xs) own cut whole (omega (arith, served.0)))) inr (served_own t given image ok sized fits n (x ∷ xs) served)
 
   -- served bytes are right
-  pub bytes_right : (offset len : ℕ) (bytes : List ℕ) → ServesBytes t given offset len bytes → AreRight t given image offset len bytes
-  bytes_right offset len bytes s =
-      let size : ℕ = t.data_block_size in
+  pub bytes_right : AreSized t given → (offset len : ℕ) (bytes : List ℕ) → ServesBytes t given offset len bytes → AreRight t given image offset len bytes
+  bytes_right sized offset len bytes s =
       subst (λ o. AreRight t given image o len bytes) (div-add-mod' offset t.data_block_size)
-      (from_first (offset / t.data_block_size) (offset % t.data_block_size) len bytes s.blocks s.served s.cut s.whole)
+      (from_first sized (offset / t.data_block_size) (offset % t.data_block_size) len bytes s.blocks s.served s.cut s.whole)
+
+  module _ (each : (n : ℕ) (x : List ℕ) → n < t.data_blocks → EndsChain t given 0 n x → x ≡ get_or image n []) where
+    exact_from : (n skip len : ℕ) (bytes : List ℕ) (xs : List (List ℕ)) → Served t given n xs → bytes ≡ take len (drop skip (concat xs)) → length bytes ≡ len → bytes ≡ bytes_of image (n * t.data_block_size + skip) len
+    exact_from n skip len bytes [] served cut whole = none_served n skip len bytes cut whole
+    exact_from n skip len bytes (x ∷ xs) served cut whole = bytes_of_own n skip len bytes (x ∷ xs) (all_own t given image fits each n (x ∷ xs) served) cut whole (omega (arith, served.0))
+
+    -- served bytes are the image's, where each served block is
+    pub bytes_by : (offset len : ℕ) (bytes : List ℕ) → ServesBytes t given offset len bytes → bytes ≡ bytes_of image offset len
+    bytes_by offset len bytes s =
+        subst (λ o. bytes ≡ bytes_of image o len) (div-add-mod' offset t.data_block_size)
+        (exact_from (offset / t.data_block_size) (offset % t.data_block_size) len bytes s.blocks s.served s.cut s.whole)
 
 -- a block that a range touches doesn't lie before it
 pub first_of_range : (t : Table) (offset len n : ℕ) → Touches t offset len n → offset / t.data_block_size ≤ n

@@ -8,3 +8,4 @@ pub mod Cache
 pub mod Stores
 pub mod Refusal
 pub mod Verifier
+pub mod Holds

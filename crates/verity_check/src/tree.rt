@@ -28,6 +28,37 @@ impl<A: Allocator> Model for Tree<A> {
     ghost invariant = { λ t. IsTable t.table × (t.geometry ≡ shape_of t.table) × (t.hasher.salted ≡ salted_of t.table) };
 }
 
+/// The geometry of a table line, which is of the profile.
+pub(crate) fn geometry_of<A: Allocator>(table: &Table<A>) -> Geometry
+    ensures { result ≡ shape_of table.now }
+{
+    let data_size = table.data_block_size();
+    let hash_size = table.hash_block_size();
+    let blocks = table.data_blocks();
+    match Geometry::with_digest(data_size, hash_size, blocks, table.algorithm().size()) {
+        Ok(geometry) => geometry,
+        Err(_) => unreachable!(),
+    }
+}
+
+impl<A: Allocator + Copy> Tree<A> {
+    /// The tree of a table line. It takes memory for a copy of the salt.
+    pub(crate) fn new(alloc: A, table: Table<A>, geometry: Geometry) -> Result<Self, AllocError>
+        requires { geometry ≡ shape_of table }
+        ensures { IfOk result (λ t. t ≡ table) }
+    {
+        let _start = table.hash_start_block();
+        let _sizes = (table.data_block_size(), table.hash_block_size(), table.data_blocks());
+        match Salt::new(alloc, table.salt().bytes()) {
+            Ok(salt) => {
+                let hasher = Hasher::new(salt, table.algorithm());
+                Ok(Tree { table, geometry, hasher })
+            }
+            Err(_) => Err(AllocError),
+        }
+    }
+}
+
 impl<A: Allocator> Tree<A> {
     /// The values of the table line.
     pub(crate) fn table(&self) -> &Table<A>

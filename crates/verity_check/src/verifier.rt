@@ -1,6 +1,6 @@
 //! The verifier of a volume.
-ghost use Rattle.std.specs.Prelude.{◌≡◌, ◌≢◌, ℕ, ◌+◌, ◌*◌, ◌<◌, ◌≤◌, ◌++◌, ◌↔◌, List, length, IsErrOf, IsOk, OnOk, OnErr, IfOk, IfErr};
-ghost use Rattle.verity_check.specs.Table.{IsTable, height};
+ghost use Rattle.std.specs.Prelude.{◌≡◌, ◌≢◌, ℕ, ◌+◌, ◌*◌, ◌<◌, ◌≤◌, ◌++◌, ◌↔◌, List, length, ◌⊎◌, IsTrue, IsSome, IsErrOf, IsOk, OnOk, OnErr, IfOk, IfErr};
+ghost use Rattle.verity_check.specs.Table.{height, shape_of};
 ghost use Rattle.verity_check.specs.Chain.{EndsChain};
 ghost use Rattle.verity_check.specs.Range.{Touches, ServesBytes, IsPathGood};
 ghost use Rattle.verity_check.specs.Refusal.{Explains, Refuses, IsBadOn, IsFirstBad, OnMismatch};
@@ -8,13 +8,14 @@ ghost use Rattle.verity_check.specs.Verifier.{given_to, held_for, StoresTell, Ar
 
 use crate::cache::Cache;
 use crate::range::{append_block, read_range};
-use crate::tree::Tree;
+use crate::tree::{Tree, geometry_of};
 use crate::CheckFault;
 use lru::LruCache;
 use std::alloc::{AllocError, Allocator, Global};
 use std::marker::Model;
 use std::num::NonZeroUsize;
 use verity_count::Mark;
+use verity_geometry::Geometry;
 use verity_store::BlockStore;
 use verity_superblock::Table;
 
@@ -161,4 +162,115 @@ impl<D: BlockStore, H: BlockStore, A: Allocator + Copy + Drop> Verifier<D, H, A>
             out,
         )
     }
+}
+
+impl<D: BlockStore + Drop, H: BlockStore + Drop, A: Allocator + Copy + Drop> Verifier<D, H, A> {
+    /// A verifier of the volume that a table line describes, over its two stores, with room for `cache` checked hash
+    /// blocks. Both stores' blocks are numbered as the table line says, and no superblock is read. It makes its buffers, a
+    /// copy of the salt and the cache's table, and reads nothing.
+    ///
+    /// The first that applies: V1 where a store's block size isn't the table line's, the data store has fewer blocks than
+    /// the volume, or the volume has hash blocks and the hash store ends before the last; V5 where `cache` isn't from 1 to
+    /// 65,536; V4 where memory was refused. A refusal drops the stores.
+    pub fn new(
+        alloc: A,
+        table: Table<A>,
+        data_store: D,
+        hash_store: H,
+        cache: usize,
+    ) -> Result<Self, CheckFault>
+        ensures value {
+            IfOk result (λ v. v ≡ record {
+                table = table; data_store = data_store; hash_store = hash_store;
+                data_mark = D.failures data_store; hash_mark = H.failures hash_store })
+        }
+        ensures ok { IsOk result → AreStoresOf D.BlockStore H.BlockStore table data_store hash_store × IsCacheSize cache }
+        ensures lengths { IsErrOf result CheckFault.Lengths ↔ ¬ AreStoresOf D.BlockStore H.BlockStore table data_store hash_store }
+        ensures cache_size { IsErrOf result CheckFault.CacheSize ↔ (AreStoresOf D.BlockStore H.BlockStore table data_store hash_store × ¬ IsCacheSize cache) }
+        ensures error { IfErr result (λ e. (e ≡ CheckFault.Lengths) ⊎ (e ≡ CheckFault.CacheSize) ⊎ (e ≡ CheckFault.NoMemory)) }
+    {
+        let geometry = geometry_of(&table);
+        if !are_stores_of(&table, &geometry, &data_store, &hash_store) {
+            return Err(CheckFault::Lengths);
+        }
+        let Some(capacity) = capacity_of(cache) else {
+            return Err(CheckFault::CacheSize);
+        };
+        match Verifier::make(alloc, table, geometry, data_store, hash_store, capacity) {
+            Ok(verifier) => Ok(verifier),
+            Err(_) => Err(CheckFault::NoMemory),
+        }
+    }
+
+    // A verifier over stores of the table line.
+    fn make(
+        alloc: A,
+        table: Table<A>,
+        geometry: Geometry,
+        data_store: D,
+        hash_store: H,
+        capacity: NonZeroUsize,
+    ) -> Result<Self, AllocError>
+        requires shape { geometry ≡ shape_of table }
+        requires stores { AreStoresOf D.BlockStore H.BlockStore table data_store hash_store }
+        ensures {
+            IfOk result (λ v. v ≡ record {
+                table = table; data_store = data_store; hash_store = hash_store;
+                data_mark = D.failures data_store; hash_mark = H.failures hash_store })
+        }
+    {
+        let tree = Tree::new(alloc, table, geometry)?;
+        let hash_block = vec![in alloc; 0; geometry.hash_size()]?;
+        let data_block = vec![in alloc; 0; geometry.data_size()]?;
+        let cache = LruCache::new(alloc, capacity)?;
+        let data_mark = mark_of(&data_store);
+        let hash_mark = mark_of(&hash_store);
+        Ok(Verifier {
+            tree,
+            data_store,
+            hash_store,
+            hash_block,
+            data_block,
+            cache,
+            alloc,
+            data_mark,
+            hash_mark,
+        })
+    }
+}
+
+// Whether the stores have the table line's block sizes, and the blocks of the volume and of its tree.
+fn are_stores_of<D: BlockStore, H: BlockStore, A: Allocator>(
+    table: &Table<A>,
+    geometry: &Geometry,
+    data_store: &D,
+    hash_store: &H,
+) -> bool
+    requires { geometry.now ≡ shape_of table.now }
+    ensures { IsTrue result ↔ AreStoresOf D.BlockStore H.BlockStore table.now data_store.now hash_store.now }
+{
+    let total = geometry.total();
+    data_store.block_size() == table.data_block_size()
+        && hash_store.block_size() == table.hash_block_size()
+        && table.data_blocks() <= data_store.len()
+        && (total == 0 || table.hash_start_block() + total <= hash_store.len())
+}
+
+// How many blocks the cache may have, if that is allowed.
+fn capacity_of(cache: usize) -> Option<NonZeroUsize>
+    ensures { IsSome result ↔ IsCacheSize cache }
+{
+    if cache > 65_536 {
+        return None;
+    }
+    NonZeroUsize::new(cache)
+}
+
+// A mark at a store's failures so far.
+fn mark_of<S: BlockStore>(_store: &S) -> Mark
+    ghost count: { ℕ }
+    requires { count ≡ S.failures _store.now }
+    ensures { result.steps ≡ count }
+{
+    Mark::at()
 }
