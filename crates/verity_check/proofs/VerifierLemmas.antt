@@ -12,6 +12,7 @@ use Rattle.verity_check.specs.Chain.{AreSized, EndsChain, WrongAt}
 use Rattle.verity_check.specs.Finding.{Tells}
 use Rattle.verity_check.specs.Range.{Touches, ServesBytes, IsPathGood}
 use Rattle.verity_check.specs.Refusal.{Explains, Refuses, RefusesAfter, IsBadOn, IsFirstBad, OnMismatch}
+use Rattle.verity_check.specs.Stores.{given_in}
 use Rattle.verity_check.specs.Verifier.{Verifying, given_to, held_for, StoresTell, IsOnlyReading, DataFailed, HashFailed, MayRefuse, IsVerifier}
 use Rattle.verity_check.proofs.FindingLaws.{chain_is_good, path_good}
 use Rattle.verity_check.proofs.RangeLaw.{wrong_place_bad, refused_first, served_range_good, refuses}
@@ -51,6 +52,13 @@ module _ {D H : Type 0} (data_facts : store.Ghosts D) (hash_facts : store.Ghosts
   sized data_sized hash_sized v ok = record {
     data_blocks = λ i y gave. data_sized v.data_store i y gave.0 ∙ ok.stores.data_store.size;
     hash_blocks = λ l i y gave. hash_sized v.hash_store _ y gave.0 ∙ ok.stores.hash_store.size;
+  }
+
+  pub sized_by : ((s : D) (n : ℕ) (b : List ℕ) → data_facts.gave s n b → length b ≡ data_facts.size s) → ((s : H) (n : ℕ) (b : List ℕ) → hash_facts.gave s n b → length b ≡ hash_facts.size s)
+      → (t : Table) (d : D) (h : H) → data_facts.size d ≡ t.data_block_size → hash_facts.size h ≡ t.hash_block_size → AreSized t (given_in data_facts hash_facts t d h)
+  sized_by data_sized hash_sized t d h data_size hash_size = record {
+    data_blocks = λ i y gave. data_sized d i y gave.0 ∙ data_size;
+    hash_blocks = λ l i y gave. hash_sized h _ y gave.0 ∙ hash_size;
   }
 
   -- stores that tell gave what they hold

@@ -3,6 +3,7 @@
 
 mod cache;
 mod fault;
+pub mod laws;
 mod range;
 mod tree;
 mod verifier;
