@@ -7,7 +7,9 @@ use Rattle.verity_digest.specs.Tree.{slot}
 use Rattle.verity_check.specs.Table.{Table, IsTable, hashing_of, branching, height, row_len, path_index}
 use Rattle.verity_check.specs.Chain.{Given, Chain, EndsChain, Above, named, WrongAt}
 use Rattle.verity_check.specs.Right.{Fits, own}
-use Rattle.verity_check.specs.Finding.{Finding, good, bad, unread, unchecked, judge, below, Held, Tells, wanted, found, finding}
+use Rattle.verity_check.specs.declared.finding.Finding.TheVariants.{Good, Bad, Unread, Unchecked}
+use Rattle.verity_check.specs.declared.finding.Finding.{Finding}
+use Rattle.verity_check.specs.Finding.{judge, below, Held, Tells, wanted, found, finding}
 use Rattle.verity_check.specs.Range.{IsPathGood}
 use Rattle.verity_check.proofs.TableLaws.{path_index-suc}
 use Rattle.verity_check.proofs.ChainLaw.{own_named, own_root, parent_below}
@@ -19,29 +21,29 @@ failed_test x y ne = by_test (bytes_eq x y) refl where
   by_test false e = refl
 
 abbrev is_good : Finding → Bool
-is_good good = true
-is_good bad = false
-is_good unread = false
-is_good unchecked = false
+is_good Good = true
+is_good Bad = false
+is_good Unread = false
+is_good Unchecked = false
 
-good_above : (f g : Finding) → below f g ≡ good → f ≡ good
-good_above good g e = refl
-good_above bad g e = absurd (false≢true (ap is_good e))
-good_above unread g e = absurd (false≢true (ap is_good e))
-good_above unchecked g e = absurd (false≢true (ap is_good e))
+good_above : (f g : Finding) → below f g ≡ Good → f ≡ Good
+good_above Good g e = refl
+good_above Bad g e = absurd (false≢true (ap is_good e))
+good_above Unread g e = absurd (false≢true (ap is_good e))
+good_above Unchecked g e = absurd (false≢true (ap is_good e))
 
 module _ (t : Table) (held : Held) where
   -- the place above is good
   abbrev pub IsBelowGood : ℕ → ℕ → ℕ → Type 0
   IsBelowGood zero r i = Unit {0}
-  IsBelowGood (suc above) r i = found t held [] above (suc r) (i / branching t) ≡ good
+  IsBelowGood (suc above) r i = found t held [] above (suc r) (i / branching t) ≡ Good
 
-  good_here : (above r i : ℕ) → IsBelowGood above r i → (hashing_of t).digest (held r i) ≡ wanted t held [] above r i → found t held [] above r i ≡ good
+  good_here : (above r i : ℕ) → IsBelowGood above r i → (hashing_of t).digest (held r i) ≡ wanted t held [] above r i → found t held [] above r i ≡ Good
   good_here zero r i b e = ap (judge false) ((bytes_eq-Decides _ _).1 e)
   good_here (suc above) r i b e =
       ap (λ f. below f (judge false (bytes_eq ((hashing_of t).digest (held r i)) (wanted t held [] (suc above) r i)))) b ∙ ap (judge false) ((bytes_eq-Decides _ _).1 e)
 
-  bad_here : (above r i : ℕ) → IsBelowGood above r i → (hashing_of t).digest (held r i) ≢ wanted t held [] above r i → found t held [] above r i ≡ bad
+  bad_here : (above r i : ℕ) → IsBelowGood above r i → (hashing_of t).digest (held r i) ≢ wanted t held [] above r i → found t held [] above r i ≡ Bad
   bad_here zero r i b ne = ap (judge false) (failed_test _ _ ne)
   bad_here (suc above) r i b ne =
       ap (λ f. below f (judge false (bytes_eq ((hashing_of t).digest (held r i)) (wanted t held [] (suc above) r i)))) b ∙ ap (judge false) (failed_test _ _ ne)
@@ -62,24 +64,24 @@ module _ (t : Table) (held : Held) where
       (good_here rows (suc r) (i / branching t) up.0 (ap (hashing_of t).digest (sym same) ∙ a.0.digest ∙ up.1), ap (λ b. slot (hashing_of t) b (i % branching t)) same)
 
   -- where the stores tell, a wrong block was given only at a bad place
-  pub wrong_is_bad : (given : Given) → Tells given held → (r i : ℕ) → WrongAt t given r i → finding t held [] r i ≡ bad
+  pub wrong_is_bad : (given : Given) → Tells given held → (r i : ℕ) → WrongAt t given r i → finding t held [] r i ≡ Bad
   wrong_is_bad given tells r i w =
       let up = below_chain given tells r i w.above w.above_it (height t - r) (omega (arith, Above-le given r i w.above w.above_it)) in
       bad_here (height t - r) r i up.0 (λ e. w.digest (ap (hashing_of t).digest (tells r i w.y w.gave) ∙ e ∙ sym up.1))
 
   -- where the stores tell, a chain ends at a good place, in the block that is held there
-  pub chain_is_good : (given : Given) → Tells given held → (r i : ℕ) (x : List ℕ) → EndsChain t given r i x → (finding t held [] r i ≡ good) × (x ≡ held r i)
+  pub chain_is_good : (given : Given) → Tells given held → (r i : ℕ) (x : List ℕ) → EndsChain t given r i x → (finding t held [] r i ≡ Good) × (x ≡ held r i)
   chain_is_good given tells r i x c =
       let up = below_chain given tells r i c.0 c.1.above_it (height t - r) (omega (arith, Above-le given r i c.0 c.1.above_it)) in
       (good_here (height t - r) r i up.0 (ap (hashing_of t).digest (sym (tells r i x c.1.link.gave)) ∙ c.1.link.digest ∙ up.1), tells r i x c.1.link.gave)
 
   -- above a good place all is good
-  pub path_good : (n : ℕ) → finding t held [] 0 n ≡ good → IsPathGood t held n
+  pub path_good : (n : ℕ) → finding t held [] 0 n ≡ Good → IsPathGood t held n
   path_good n e zero l = e
   path_good n e (suc r) l =
       let rows : height t - r ≡ suc (height t - suc r) = omega (arith, l) in
-      let here : found t held [] (suc (height t - suc r)) r (path_index t n r) ≡ good = subst (λ m. found t held [] m r (path_index t n r) ≡ good) rows (path_good n e r (omega (arith, l))) in
-      subst (λ j. found t held [] (height t - suc r) (suc r) j ≡ good) (sym (path_index-suc t n r)) (good_above _ _ here)
+      let here : found t held [] (suc (height t - suc r)) r (path_index t n r) ≡ Good = subst (λ m. found t held [] m r (path_index t n r) ≡ Good) rows (path_good n e r (omega (arith, l))) in
+      subst (λ j. found t held [] (height t - suc r) (suc r) j ≡ Good) (sym (path_index-suc t n r)) (good_above _ _ here)
 
 -- Stores that hold the image and its tree, and tell, give no wrong block.
 pub no_wrong : (t : Table) (image : List (List ℕ)) → IsTable t → Fits t image → (given : Given) (held : Held) → Tells given held

@@ -9,3 +9,4 @@ pub mod Stores
 pub mod Refusal
 pub mod Verifier
 pub mod Holds
+pub mod Report
