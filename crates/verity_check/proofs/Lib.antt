@@ -7,3 +7,4 @@ pub mod WalkLemmas
 pub mod RangeLemmas
 pub mod VerifierLemmas
 pub mod HoldsLaws
+pub mod ReportLemmas

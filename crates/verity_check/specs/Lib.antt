@@ -10,3 +10,4 @@ pub mod Refusal
 pub mod Verifier
 pub mod Holds
 pub mod Report
+pub mod Reporting

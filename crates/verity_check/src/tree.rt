@@ -110,6 +110,25 @@ impl<A: Allocator> Tree<A> {
         self.table.hash_start_block() + self.geometry.place(level, index)
     }
 
+    /// How many blocks a level has.
+    pub(crate) fn level_len(&self, level: usize) -> u64
+        requires { level < height self.now }
+        ensures value { result ≡ row_len self.now (suc level) }
+        ensures few { result ≤ 2 ^ 40 }
+    {
+        self.geometry.level_len(level)
+    }
+
+    /// The index of the parent of a block of a row below the top.
+    pub(crate) fn parent_of(&self, row: usize, index: u64) -> u64
+        requires row { row < height self.now }
+        requires index { index < row_len self.now row }
+        ensures value { result ≡ index / branching self.now }
+        ensures within { result < row_len self.now (suc row) }
+    {
+        index / self.geometry.per_block() as u64
+    }
+
     /// The slot in its parent of the block at an index.
     pub(crate) fn slot_of(&self, index: u64) -> usize
         ensures value { result ≡ index % branching self.now }

@@ -1,0 +1,157 @@
+-- Steps of a report.
+use Rattle.std.proofs.Common.{suc, zero, arith, ℕ, ◌+◌, ◌-◌, ◌/◌, ◌%◌, ◌<◌, ◌≤◌, ◌≡◌, ◌⊎◌, Bool, true, false, ◌==◌, List, [], ◌∷◌, ◌++◌, length, get_or, Option, Some, None, inl, inr, refl, sym, ap, ◌∙◌, subst, append_assoc, add_assoc}
+use Rattle.std.specs.Prelude.{◌&&◌, ◌||◌, Vec}
+use Rattle.std.specs.Str.{bytes_eq}
+use Rattle.std.proofs.lemmas.Bool.{false≢true, cases_lt}
+use Rattle.std.proofs.lemmas.Bool.Decides.{Decides-eqb, Decides-and}
+use Rattle.std.proofs.lemmas.List.{length-append}
+use Rattle.verity_digest.specs.Tree.{slot}
+use Rattle.verity_check.specs.Table.{Table, IsTable, hashing_of, branching, height, row_len}
+use Rattle.verity_check.specs.Finding.{Held, Spot, is_among, judge, below, alone, found, finding}
+use Rattle.verity_check.specs.Report.{place_of, entry, unchecked_one, row_entries, row_unchecked, judged}
+use Rattle.verity_check.specs.Reporting.{AreLater, AreEarlier, IsNamed, IsKeptOf, IsKept, AreKept, ParentsAreKept, AreNoted, AreDone, named_in}
+use Rattle.verity_check.specs.declared.fault.Place.{Place}
+use Rattle.verity_check.specs.declared.finding.Verdict.{Verdict}
+use Rattle.verity_check.specs.declared.finding.Finding.{Finding}
+use Rattle.verity_check.specs.declared.finding.Finding.TheVariants.{Good, Bad, Unread, Unchecked}
+use Rattle.verity_check.proofs.ChainLaw.{parent_below}
+
+-- tests of places
+differs : (a b r i : ℕ) → ((a ≡ r) × (b ≡ i) → ⊥) → ((a == r) && (b == i)) ≡ false
+differs a b r i no = by_test ((a == r) && (b == i)) refl where
+  by_test : (x : Bool) → ((a == r) && (b == i)) ≡ x → ((a == r) && (b == i)) ≡ false
+  by_test true e = absurd (no ((Decides-and (a == r) (b == i) (Decides-eqb a r) (Decides-eqb b i)).0 e))
+  by_test false e = e
+
+or_true : (b : Bool) → (b || true) ≡ true
+or_true true = refl
+or_true false = refl
+
+not_earlier : (r i : ℕ) (spots : List Spot) → AreEarlier r i spots → is_among spots r i ≡ false
+not_earlier r i [] e = refl
+not_earlier r i (s ∷ spots) e =
+    ap (λ b. b || is_among spots r i) (differs s.0 s.1 r i (λ h. elim e.0 [ inl up ↦ omega (arith, up, h.0) | inr back ↦ omega (arith, back.1, h.1) ])) ∙ not_earlier r i spots e.1
+
+not_among : (r i : ℕ) (rest spots : List Spot) → AreLater r (suc i) rest → is_among spots r i ≡ false → is_among (rest ++ spots) r i ≡ false
+not_among r i [] spots l e = e
+not_among r i (s ∷ rest) spots l e =
+    ap (λ b. b || is_among (rest ++ spots) r i) (differs s.0 s.1 r i (λ h. elim l.0 [ inl down ↦ omega (arith, down, h.0) | inr on ↦ omega (arith, on.1, h.1) ])) ∙ not_among r i rest spots l.1 e
+
+among_here : (r i : ℕ) (rest spots : List Spot) → is_among (rest ++ ((r, i) ∷ spots)) r i ≡ true
+among_here r i [] spots =
+    ap (λ b. b || is_among spots r i) ((Decides-and (r == r) (i == i) (Decides-eqb r r) (Decides-eqb i i)).1 (refl, refl))
+among_here r i (s ∷ rest) spots = ap (λ b. ((s.0 == r) && (s.1 == i)) || b) (among_here r i rest spots) ∙ or_true ((s.0 == r) && (s.1 == i))
+
+-- places that are still to come
+pub later_before : (r i : ℕ) (rest : List Spot) → AreLater r (suc i) rest → AreLater r i rest
+later_before r i [] l = tt
+later_before r i (s ∷ rest) l = (elim l.0 [ inl down ↦ inl down | inr on ↦ inr (on.0, omega (arith, on.1)) ], later_before r i rest l.1)
+
+later_with : (r i : ℕ) (rest : List Spot) → AreLater r (suc i) rest → AreLater r i (rest ++ (r, i) ∷ [])
+later_with r i [] l = (inr (refl, omega arith), tt)
+later_with r i (s ∷ rest) l = (elim l.0 [ inl down ↦ inl down | inr on ↦ inr (on.0, omega (arith, on.1)) ], later_with r i rest l.1)
+
+pub later_append : (r i : ℕ) (xs ys : List Spot) → AreLater r i xs → AreLater r i ys → AreLater r i (xs ++ ys)
+later_append r i [] ys x y = y
+later_append r i (s ∷ xs) ys x y = (x.0, later_append r i xs ys x.1 y)
+
+-- the places of the next row down come later
+pub later_next : (l n : ℕ) (rest : List Spot) → AreLater l 0 rest → AreLater (suc l) n rest
+later_next l n [] x = tt
+later_next l n (s ∷ rest) x = (elim x.0 [ inl down ↦ inl (omega (arith, down)) | inr on ↦ inl (omega (arith, on.0)) ], later_next l n rest x.1)
+
+earlier_step : (r i : ℕ) (spots : List Spot) → AreEarlier r i spots → AreEarlier r (suc i) spots
+earlier_step r i [] e = tt
+earlier_step r i (s ∷ spots) e = (elim e.0 [ inl up ↦ inl up | inr back ↦ inr (back.0, omega (arith, back.1)) ], earlier_step r i spots e.1)
+
+pub earlier_next : (l n : ℕ) (spots : List Spot) → AreEarlier (suc l) n spots → AreEarlier l 0 spots
+earlier_next l n [] e = tt
+earlier_next l n (s ∷ spots) e = (elim e.0 [ inl up ↦ inl (omega (arith, up)) | inr back ↦ inl (omega (arith, back.0)) ], earlier_next l n spots e.1)
+
+module _ (t : Table) (ok : IsTable t) (held : Held) where
+  below_unchecked : (f g : Finding) → (f ≡ Good → ⊥) → below f g ≡ Unchecked
+  below_unchecked Good g no = absurd (no refl)
+  below_unchecked Bad g no = refl
+  below_unchecked Unread g no = refl
+  below_unchecked Unchecked g no = refl
+
+  module _ {A : Type 0} (failed : List Spot) (r i : ℕ) (parents : List (Option (Vec ℕ A))) (named : Option (List ℕ)) where
+    under_parent : (p : Option (Vec ℕ A)) → IsKept t held failed (suc r) (i / branching t) p → named ≡ named_in t i p → (above : ℕ) → finding t held failed (suc r) (i / branching t) ≡ found t held failed above (suc r) (i / branching t)
+        → found t held failed (suc above) r i ≡ judged t named (is_among failed r i) (held r i)
+    under_parent None kept is above same =
+        below_unchecked (found t held failed above (suc r) (i / branching t)) (alone t held failed (suc above) r i) (λ e. kept (same ∙ e))
+        ∙ ap (λ n. judged t n (is_among failed r i) (held r i)) (sym is)
+    under_parent (Some v) kept is above same =
+        ap (λ f. below f (alone t held failed (suc above) r i)) (sym same ∙ kept.0)
+        ∙ ap (λ b. judge (is_among failed r i) (bytes_eq ((hashing_of t).digest (held r i)) (slot (hashing_of t) b (i % branching t)))) (sym kept.1)
+        ∙ ap (λ n. judged t n (is_among failed r i) (held r i)) (sym is)
+
+    -- what is found at a place, by the digest that is named there
+    pub finding_named : r ≤ height t → i < row_len t r → IsNamed t r i parents named → ParentsAreKept t held failed r parents → finding t held failed r i ≡ judged t named (is_among failed r i) (held r i)
+    finding_named row index name kept = elim (cases_lt r (height t)) [
+      | inl below ↦
+          let up : height t - r ≡ suc (height t - suc r) = omega (arith, below) in
+          ap (λ rows. found t held failed rows r i) up
+          ∙ under_parent (get_or parents (i / branching t) None) (kept below (i / branching t) (parent_below t ok r i index)) (name.under below) (height t - suc r) refl
+      | inr top ↦
+          let same : r ≡ height t = omega (arith, top, row) in
+          let none : height t - r ≡ 0 = omega (arith, same) in
+          ap (λ rows. found t held failed rows r i) none ∙ ap (λ n. judged t n (is_among failed r i) (held r i)) (sym (name.top same))
+    ]
+
+module _ (t : Table) (held : Held) (failed_old : List Spot) (r : ℕ) where
+  -- nothing of a row is done yet
+  pub done_none : (Then : List Spot → Type 0) (faults : List (Place × Verdict)) (unchecked failures : ℕ) → AreEarlier r 0 failed_old → ((rest : List Spot) → AreLater r 0 rest → Then (rest ++ failed_old))
+      → AreDone t held failed_old r 0 Then faults faults unchecked unchecked failures failures
+  done_none Then faults unchecked failures earlier all = record {
+    more = [];
+    count = omega arith;
+    later = tt;
+    earlier = earlier;
+    noted = λ rest l. record { faults = sym (append_none faults); unchecked = omega arith };
+    then = all;
+  } where
+    append_none : (xs : List (Place × Verdict)) → xs ++ [] ≡ xs
+    append_none [] = refl
+    append_none (x ∷ xs) = ap (λ ys. x ∷ ys) (append_none xs)
+
+  -- one more place of a row
+  pub done_more : (i : ℕ) (Then More : List Spot → Type 0) (faults_old faults : List (Place × Verdict)) (unchecked_old unchecked failures_old failures failures_new : ℕ) (named : Option (List ℕ)) (f : Finding) (failed : Bool)
+      → AreDone t held failed_old r i Then faults_old faults unchecked_old unchecked failures_old failures
+      → ((all : List Spot) → Then all → finding t held all r i ≡ judged t named (is_among all r i) (held r i))
+      → f ≡ judged t named failed (held r i) → failures ≤ failures_new → (failed ≡ true → failures < failures_new)
+      → ((all : List Spot) → Then all → finding t held all r i ≡ f → More all)
+      → AreDone t held failed_old r (suc i) More faults_old (faults ++ entry f (place_of r i)) unchecked_old (unchecked + unchecked_one f) failures_old failures_new
+  done_more i Then More faults_old faults unchecked_old unchecked failures_old failures failures_new named f failed d is outcome grows rises next = by_failure failed outcome rises where
+    noted_more : (all : List Spot) → AreNoted t held all r i faults_old faults unchecked_old unchecked → finding t held all r i ≡ f → AreNoted t held all r (suc i) faults_old (faults ++ entry f (place_of r i)) unchecked_old (unchecked + unchecked_one f)
+    noted_more all n e = record {
+      faults = ap (λ fs. fs ++ entry f (place_of r i)) n.faults ∙ append_assoc faults_old (row_entries t held all r i) (entry f (place_of r i)) ∙ ap (λ g. faults_old ++ (row_entries t held all r i ++ entry g (place_of r i))) (sym e);
+      unchecked = ap (λ u. u + unchecked_one f) n.unchecked ∙ add_assoc unchecked_old (row_unchecked t held all r i) (unchecked_one f) ∙ ap (λ g. unchecked_old + (row_unchecked t held all r i + unchecked_one g)) (sym e);
+    }
+    by_failure : (b : Bool) → f ≡ judged t named b (held r i) → (b ≡ true → failures < failures_new) → AreDone t held failed_old r (suc i) More faults_old (faults ++ entry f (place_of r i)) unchecked_old (unchecked + unchecked_one f) failures_old failures_new
+    by_failure false outcome' rises' =
+        let spot : (rest : List Spot) → AreLater r (suc i) rest → finding t held (rest ++ (d.more ++ failed_old)) r i ≡ f = λ rest l.
+        is (rest ++ (d.more ++ failed_old)) (d.then rest (later_before r i rest l))
+        ∙ ap (λ b. judged t named b (held r i)) (not_among r i rest (d.more ++ failed_old) l (not_earlier r i (d.more ++ failed_old) d.earlier)) ∙ sym outcome' in
+        record {
+          more = d.more;
+          count = omega (arith, d.count, grows);
+          later = d.later;
+          earlier = earlier_step r i (d.more ++ failed_old) d.earlier;
+          noted = λ rest l. noted_more (rest ++ (d.more ++ failed_old)) (d.noted rest (later_before r i rest l)) (spot rest l);
+          then = λ rest l. next (rest ++ (d.more ++ failed_old)) (d.then rest (later_before r i rest l)) (spot rest l);
+        }
+    by_failure true outcome' rises' =
+        let turn : (rest : List Spot) → (rest ++ ((r, i) ∷ [])) ++ (d.more ++ failed_old) ≡ rest ++ ((r, i) ∷ (d.more ++ failed_old)) = λ rest. append_assoc rest ((r, i) ∷ []) (d.more ++ failed_old) in
+        let thus : (rest : List Spot) → AreLater r (suc i) rest → Then (rest ++ ((r, i) ∷ (d.more ++ failed_old))) = λ rest l. subst Then (turn rest) (d.then (rest ++ (r, i) ∷ []) (later_with r i rest l)) in
+        let spot : (rest : List Spot) → AreLater r (suc i) rest → finding t held (rest ++ ((r, i) ∷ (d.more ++ failed_old))) r i ≡ f = λ rest l.
+        is (rest ++ ((r, i) ∷ (d.more ++ failed_old))) (thus rest l)
+        ∙ ap (λ b. judged t named b (held r i)) (among_here r i rest (d.more ++ failed_old)) ∙ sym outcome' in
+        record {
+          more = (r, i) ∷ d.more;
+          count = omega (arith, d.count, rises' refl);
+          later = (inr (refl, omega arith), d.later);
+          earlier = (inr (refl, omega arith), earlier_step r i (d.more ++ failed_old) d.earlier);
+          noted = λ rest l. noted_more (rest ++ ((r, i) ∷ (d.more ++ failed_old))) (subst (λ all. AreNoted t held all r i faults_old faults unchecked_old unchecked) (turn rest) (d.noted (rest ++ (r, i) ∷ []) (later_with r i rest l))) (spot rest l);
+          then = λ rest l. next (rest ++ ((r, i) ∷ (d.more ++ failed_old))) (thus rest l) (spot rest l);
+        }
