@@ -4,12 +4,12 @@ use Rattle.std.specs.Prelude.{◌&&◌, ◌||◌, Vec}
 use Rattle.std.specs.Str.{bytes_eq}
 use Rattle.std.proofs.lemmas.Bool.{false≢true, cases_lt}
 use Rattle.std.proofs.lemmas.Bool.Decides.{Decides-eqb, Decides-and}
-use Rattle.std.proofs.lemmas.List.{length-append}
+use Rattle.std.proofs.lemmas.List.{length-append, get_or_append_left, get_or-append-add}
 use Rattle.verity_digest.specs.Tree.{slot}
 use Rattle.verity_check.specs.Table.{Table, IsTable, hashing_of, branching, height, row_len}
 use Rattle.verity_check.specs.Finding.{Held, Spot, is_among, judge, below, alone, found, finding}
 use Rattle.verity_check.specs.Report.{place_of, entry, unchecked_one, row_entries, row_unchecked, judged}
-use Rattle.verity_check.specs.Reporting.{AreLater, AreEarlier, IsNamed, IsKeptOf, IsKept, AreKept, ParentsAreKept, AreNoted, AreDone, named_in}
+use Rattle.verity_check.specs.Reporting.{AreLater, AreEarlier, IsWhole, AreWhole, IsNamed, IsKeptOf, IsKept, AreKept, ParentsAreKept, AreNoted, AreDone, named_in}
 use Rattle.verity_check.specs.declared.fault.Place.{Place}
 use Rattle.verity_check.specs.declared.finding.Verdict.{Verdict}
 use Rattle.verity_check.specs.declared.finding.Finding.{Finding}
@@ -18,9 +18,9 @@ use Rattle.verity_check.proofs.ChainLaw.{parent_below}
 
 -- tests of places
 differs : (a b r i : ℕ) → ((a ≡ r) × (b ≡ i) → ⊥) → ((a == r) && (b == i)) ≡ false
-differs a b r i no = by_test ((a == r) && (b == i)) refl where
+differs a b r i isnt = by_test ((a == r) && (b == i)) refl where
   by_test : (x : Bool) → ((a == r) && (b == i)) ≡ x → ((a == r) && (b == i)) ≡ false
-  by_test true e = absurd (no ((Decides-and (a == r) (b == i) (Decides-eqb a r) (Decides-eqb b i)).0 e))
+  by_test true e = absurd (isnt ((Decides-and (a == r) (b == i) (Decides-eqb a r) (Decides-eqb b i)).0 e))
   by_test false e = e
 
 or_true : (b : Bool) → (b || true) ≡ true
@@ -70,10 +70,10 @@ earlier_next l n (s ∷ spots) e = (elim e.0 [ inl up ↦ inl (omega (arith, up)
 
 module _ (t : Table) (ok : IsTable t) (held : Held) where
   below_unchecked : (f g : Finding) → (f ≡ Good → ⊥) → below f g ≡ Unchecked
-  below_unchecked Good g no = absurd (no refl)
-  below_unchecked Bad g no = refl
-  below_unchecked Unread g no = refl
-  below_unchecked Unchecked g no = refl
+  below_unchecked Good g isnt = absurd (isnt refl)
+  below_unchecked Bad g isnt = refl
+  below_unchecked Unread g isnt = refl
+  below_unchecked Unchecked g isnt = refl
 
   module _ {A : Type 0} (failed : List Spot) (r i : ℕ) (parents : List (Option (Vec ℕ A))) (named : Option (List ℕ)) where
     under_parent : (p : Option (Vec ℕ A)) → IsKept t held failed (suc r) (i / branching t) p → named ≡ named_in t i p → (above : ℕ) → finding t held failed (suc r) (i / branching t) ≡ found t held failed above (suc r) (i / branching t)
@@ -155,3 +155,51 @@ module _ (t : Table) (held : Held) (failed_old : List Spot) (r : ℕ) where
           noted = λ rest l. noted_more (rest ++ ((r, i) ∷ (d.more ++ failed_old))) (subst (λ all. AreNoted t held all r i faults_old faults unchecked_old unchecked) (turn rest) (d.noted (rest ++ (r, i) ∷ []) (later_with r i rest l))) (spot rest l);
           then = λ rest l. next (rest ++ ((r, i) ∷ (d.more ++ failed_old))) (thus rest l) (spot rest l);
         }
+
+-- what is done says less, or is at the same place under another name
+pub done_weaker : (t : Table) (held : Held) (failed_old : List Spot) (r n : ℕ) (Then More : List Spot → Type 0) (faults_old faults : List (Place × Verdict)) (unchecked_old unchecked failures_old failures : ℕ)
+    → AreDone t held failed_old r n Then faults_old faults unchecked_old unchecked failures_old failures → ((all : List Spot) → Then all → More all) → AreDone t held failed_old r n More faults_old faults unchecked_old unchecked failures_old failures
+done_weaker t held failed_old r n Then More faults_old faults unchecked_old unchecked failures_old failures d f = record {
+  more = d.more;
+  count = d.count;
+  later = d.later;
+  earlier = d.earlier;
+  noted = d.noted;
+  then = λ rest l. f (rest ++ (d.more ++ failed_old)) (d.then rest l);
+}
+
+pub done_renamed : (t : Table) (held : Held) (failed_old : List Spot) (r n m : ℕ) (Then : List Spot → Type 0) (faults_old faults faults' : List (Place × Verdict)) (unchecked_old unchecked unchecked' failures_old failures : ℕ)
+    → n ≡ m → faults' ≡ faults → unchecked' ≡ unchecked → AreDone t held failed_old r n Then faults_old faults unchecked_old unchecked failures_old failures → AreDone t held failed_old r m Then faults_old faults' unchecked_old unchecked' failures_old failures
+done_renamed t held failed_old r n m Then faults_old faults faults' unchecked_old unchecked unchecked' failures_old failures en ef eu d =
+    subst (λ k. AreDone t held failed_old r k Then faults_old faults' unchecked_old unchecked' failures_old failures) en
+    (subst (λ fs. AreDone t held failed_old r n Then faults_old fs unchecked_old unchecked' failures_old failures) (sym ef)
+    (subst (λ u. AreDone t held failed_old r n Then faults_old faults unchecked_old u failures_old failures) (sym eu) d))
+
+module _ {A : Type 0} where
+  -- one more block that is kept, or isn't
+  pub kept_push : (t : Table) (held : Held) (all : List Spot) (r i : ℕ) (blocks : List (Option (Vec ℕ A))) (new : Option (Vec ℕ A)) → length blocks ≡ i → AreKept t held all r i blocks → IsKept t held all r i new → AreKept t held all r (suc i) (blocks ++ new ∷ [])
+  kept_push t held all r i blocks new len kept here j below = elim (cases_lt j i) [
+    | inl before ↦ subst (λ b. IsKept t held all r j b) (sym (get_or_append_left blocks (new ∷ []) None j (omega (arith, before, len)))) (kept j before)
+    | inr from ↦
+        let at : i ≡ j = omega (arith, from, below) in
+        let end : get_or (blocks ++ new ∷ []) j None ≡ new = ap (λ m. get_or (blocks ++ new ∷ []) m None) (sym at ∙ sym len ∙ omega arith) ∙ get_or-append-add blocks (new ∷ []) 0 None in
+        subst (λ b. IsKept t held all r j b) (sym end) (subst (λ m. IsKept t held all r m new) at here)
+  ]
+
+  pub whole_push : (t : Table) (blocks : List (Option (Vec ℕ A))) (new : Option (Vec ℕ A)) → AreWhole t blocks → IsWhole t new → AreWhole t (blocks ++ new ∷ [])
+  whole_push t blocks new whole here j below = elim (cases_lt j (length blocks)) [
+    | inl before ↦ subst (λ b. IsWhole t b) (sym (get_or_append_left blocks (new ∷ []) None j before)) (whole j before)
+    | inr from ↦
+        let at : length blocks ≡ j = omega (arith, from, below, length-append blocks (new ∷ [])) in
+        let end : get_or (blocks ++ new ∷ []) j None ≡ new = ap (λ m. get_or (blocks ++ new ∷ []) m None) (sym at ∙ omega arith) ∙ get_or-append-add blocks (new ∷ []) 0 None in
+        subst (λ b. IsWhole t b) (sym end) here
+  ]
+
+  -- what is kept of a place by its finding
+  pub kept_here : (t : Table) (held : Held) (all : List Spot) (r i : ℕ) (f : Finding) (block : List ℕ) (new : Option (Vec ℕ A)) → finding t held all r i ≡ f → (f ≡ Good → block ≡ held r i) → IsKeptOf f block new → IsKept t held all r i new
+  kept_here t held all r i f block None is good kept = λ e. kept (sym is ∙ e)
+  kept_here t held all r i f block (Some v) is good kept = (is ∙ kept.0, kept.1 ∙ good kept.0)
+
+  pub whole_here : (t : Table) (f : Finding) (block : List ℕ) (new : Option (Vec ℕ A)) → length block ≡ t.hash_block_size → IsKeptOf f block new → IsWhole t new
+  whole_here t f block None len kept = tt
+  whole_here t f block (Some v) len kept = ap length kept.1 ∙ len

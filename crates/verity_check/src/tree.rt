@@ -115,7 +115,9 @@ impl<A: Allocator> Tree<A> {
         requires { level < height self.now }
         ensures value { result ≡ row_len self.now (suc level) }
         ensures few { result ≤ 2 ^ 40 }
+        ensures low { level < 14 }
     {
+        let _levels = self.geometry.levels();
         self.geometry.level_len(level)
     }
 
