@@ -1,15 +1,19 @@
 -- Steps of a report.
-use Rattle.std.proofs.Common.{suc, zero, arith, ℕ, ◌+◌, ◌-◌, ◌/◌, ◌%◌, ◌<◌, ◌≤◌, ◌≡◌, ◌⊎◌, Bool, true, false, ◌==◌, List, [], ◌∷◌, ◌++◌, length, get_or, Option, Some, None, inl, inr, refl, sym, ap, ◌∙◌, subst, append_assoc, add_assoc}
+use Rattle.std.proofs.Common.{suc, zero, arith, ℕ, ◌+◌, ◌-◌, ◌/◌, ◌%◌, ◌<◌, ◌≤◌, ◌≡◌, ◌^◌, ◌⊎◌, Bool, true, false, ◌==◌, List, [], ◌∷◌, ◌++◌, length, get_or, Option, Some, None, inl, inr, refl, sym, ap, ◌∙◌, subst, append_assoc, add_assoc}
 use Rattle.std.specs.Prelude.{◌&&◌, ◌||◌, Vec}
 use Rattle.std.specs.Str.{bytes_eq}
 use Rattle.std.proofs.lemmas.Bool.{false≢true, cases_lt}
 use Rattle.std.proofs.lemmas.Bool.Decides.{Decides-eqb, Decides-and}
 use Rattle.std.proofs.lemmas.List.{length-append, get_or_append_left, get_or-append-add}
+use Rattle.verity_profile.proofs.Bounds.{block_size_low, block_count_high}
 use Rattle.verity_digest.specs.Tree.{slot}
-use Rattle.verity_check.specs.Table.{Table, IsTable, hashing_of, branching, height, row_len}
+use Rattle.verity_digest.specs.Shape.{blocks_of_levels, level_start}
+use Rattle.verity_digest.proofs.Sha.{per_block_by}
+use Rattle.verity_digest.proofs.Counts.{blocks_of_levels-none, top_start, last_end, next_start, level_within, total_most}
+use Rattle.verity_check.specs.Table.{Table, IsTable, hashing_of, branching, height, row_len, tree_len}
 use Rattle.verity_check.specs.Finding.{Held, Spot, is_among, judge, below, alone, found, finding}
-use Rattle.verity_check.specs.Report.{place_of, entry, unchecked_one, row_entries, row_unchecked, judged}
-use Rattle.verity_check.specs.Reporting.{AreLater, AreEarlier, IsWhole, AreWhole, IsNamed, IsKeptOf, IsKept, AreKept, ParentsAreKept, AreNoted, AreDone, named_in}
+use Rattle.verity_check.specs.Report.{entries_from, unchecked_from, listed, unchecked_count, IsReportOf, place_of, entry, unchecked_one, row_entries, row_unchecked, judged}
+use Rattle.verity_check.specs.Reporting.{AreLater, AreEarlier, IsWhole, AreWhole, IsNamed, IsKeptOf, IsKept, AreKept, ParentsAreKept, AreNoted, AreDone, IsUpTo, IsSoFar, places_above, named_in}
 use Rattle.verity_check.specs.declared.fault.Place.{Place}
 use Rattle.verity_check.specs.declared.finding.Verdict.{Verdict}
 use Rattle.verity_check.specs.declared.finding.Finding.{Finding}
@@ -203,3 +207,72 @@ module _ {A : Type 0} where
   pub whole_here : (t : Table) (f : Finding) (block : List ℕ) (new : Option (Vec ℕ A)) → length block ≡ t.hash_block_size → IsKeptOf f block new → IsWhole t new
   whole_here t f block None len kept = tt
   whole_here t f block (Some v) len kept = ap length kept.1 ∙ len
+
+-- at the top nothing is done
+pub so_far_none : {A : Type 0} (t : Table) (held : Held) (r : ℕ) (parents : List (Option (Vec ℕ A))) (failures : ℕ) → r ≡ height t → IsSoFar t held r parents [] 0 failures failures
+so_far_none t held r parents failures top = record {
+  failed = [];
+  count = omega arith;
+  earlier = tt;
+  all = λ rest l. record {
+      faults_are = ap (λ m. entries_from t held (rest ++ []) m) (sym top);
+      unchecked_are = ap (λ m. unchecked_from t held (rest ++ []) m) (sym top) ∙ omega arith;
+      kept = λ below. absurd (omega (arith, top, below));
+    };
+}
+
+-- one row more
+pub so_far_more : {A : Type 0} (t : Table) (held : Held) (r l : ℕ) (parents kept : List (Option (Vec ℕ A))) (faults faults' : List (Place × Verdict)) (unchecked unchecked' failures_old failures failures_new : ℕ) → r ≡ suc l
+    → (s : IsSoFar t held r parents faults unchecked failures_old failures)
+    → AreDone t held s.failed (suc l) (row_len t (suc l)) (λ all. AreKept t held all (suc l) (row_len t (suc l)) kept) faults faults' unchecked unchecked' failures failures_new
+    → IsSoFar t held l kept faults' unchecked' failures_old failures_new
+so_far_more t held r l parents kept faults faults' unchecked unchecked' failures_old failures failures_new row s d = record {
+  failed = d.more ++ s.failed;
+  count = omega (arith, d.count, s.count, length-append d.more s.failed);
+  earlier = earlier_next l (row_len t (suc l)) (d.more ++ s.failed) d.earlier;
+  all = λ rest later.
+      let more : AreLater (suc l) 0 (rest ++ d.more) = later_append (suc l) 0 rest d.more (later_next l 0 rest later) d.later in
+      let here = subst (λ F. IsUpTo t held F (suc l) parents faults unchecked) (append_assoc rest d.more s.failed)
+          (subst (λ m. IsUpTo t held ((rest ++ d.more) ++ s.failed) m parents faults unchecked) row (s.all (rest ++ d.more) (subst (λ m. AreLater m 0 (rest ++ d.more)) (sym row) more))) in
+      let noted = d.noted rest (later_next l (row_len t (suc l)) rest later) in
+      let F : List Spot = rest ++ (d.more ++ s.failed) in
+      record {
+        faults_are = here.faults_are ∙ sym (append_assoc faults (row_entries t held (rest ++ (d.more ++ s.failed)) (suc l) (row_len t (suc l))) (entries_from t held (rest ++ (d.more ++ s.failed)) l)) ∙ ap (λ fs. fs ++ entries_from t held (rest ++ (d.more ++ s.failed)) l) (sym noted.faults);
+        unchecked_are = here.unchecked_are ∙ sym (add_assoc unchecked (row_unchecked t held (rest ++ (d.more ++ s.failed)) (suc l) (row_len t (suc l))) (unchecked_from t held (rest ++ (d.more ++ s.failed)) l)) ∙ ap (λ u. u + unchecked_from t held (rest ++ (d.more ++ s.failed)) l) (sym noted.unchecked);
+        kept = λ below. d.then rest (later_next l (row_len t (suc l)) rest later);
+      };
+}
+
+-- with the data blocks the report is whole
+pub report_whole : {A : Type 0} (t : Table) (held : Held) (r : ℕ) (parents : List (Option (Vec ℕ A))) (faults faults' : List (Place × Verdict)) (unchecked unchecked' hash_old hash_new data_old data_new : ℕ) → r ≡ 0
+    → (s : IsSoFar t held r parents faults unchecked hash_old hash_new)
+    → AreDone t held s.failed 0 (row_len t 0) (λ all. Unit {0}) faults faults' unchecked unchecked' data_old data_new
+    → IsReportOf t held faults' unchecked' (data_old + hash_old) (data_new + hash_new)
+report_whole t held r parents faults faults' unchecked unchecked' hash_old hash_new data_old data_new bottom s d =
+    let here = subst (λ m. IsUpTo t held (d.more ++ s.failed) m parents faults unchecked) bottom (s.all d.more (subst (λ m. AreLater m 0 d.more) (sym bottom) d.later)) in
+    let noted = d.noted [] tt in
+    record {
+      failed = d.more ++ s.failed;
+      count = omega (arith, d.count, s.count, length-append d.more s.failed);
+      faults_are = noted.faults ∙ sym here.faults_are;
+      unchecked_are = noted.unchecked ∙ sym here.unchecked_are;
+    }
+
+-- how many places there are above a row
+pub above_top : (t : Table) (r : ℕ) → r ≡ height t → places_above t r ≡ 0
+above_top t zero top = ap (λ m. blocks_of_levels (branching t) t.data_blocks 0 m) (sym top) ∙ blocks_of_levels-none (branching t) t.data_blocks 0
+above_top t (suc l) top = top_start (branching t) t.data_blocks l top
+
+pub above_more : (t : Table) (l : ℕ) → l < height t → places_above t l ≡ places_above t (suc l) + row_len t (suc l)
+above_more t zero below = sym (last_end (branching t) t.data_blocks below)
+above_more t (suc l) below = sym (next_start (branching t) t.data_blocks l below)
+
+pub above_few : (t : Table) → IsTable t → (r : ℕ) → r ≤ height t → places_above t r ≤ 2 ^ 40
+above_few t ok r row =
+    let wide = per_block_by t.algorithm t.hash_block_size (block_size_low t.hash_block_size ok.hash_size) in
+    let most = total_most (branching t) t.data_blocks wide in
+    let few = block_count_high t.data_blocks ok.blocks in
+    by_row r row (omega (arith, most, few)) where
+  by_row : (m : ℕ) → m ≤ height t → tree_len t ≤ 2 ^ 40 → places_above t m ≤ 2 ^ 40
+  by_row zero row' all = all
+  by_row (suc l) row' all = omega (arith, level_within (branching t) t.data_blocks l (omega (arith, row')), all)

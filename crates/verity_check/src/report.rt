@@ -2,10 +2,10 @@
 ghost use Rattle.std.specs.Prelude.{◌≡◌, ℕ, suc, ◌+◌, ◌-◌, ◌/◌, ◌%◌, ◌^◌, ◌<◌, ◌≤◌, ◌++◌, true, Bool, List, [], Option, Some, None, length, slice_index_or, OnOk, IfOk, IfSome, IsSome, MatchOption, Vec};
 ghost use Rattle.verity_digest.specs.Tree.{slot};
 ghost use Rattle.verity_store.specs.Stores.{IsOnlyRead};
-ghost use Rattle.verity_check.specs.Table.{IsTable, hashing_of, branching, height, row_len, hash_place};
-ghost use Rattle.verity_check.specs.Report.{entry, unchecked_one, judged};
+ghost use Rattle.verity_check.specs.Table.{IsTable, hashing_of, branching, height, row_len, tree_len, hash_place};
+ghost use Rattle.verity_check.specs.Report.{entry, unchecked_one, judged, IsReportOf};
 ghost use Rattle.verity_check.specs.Finding.{Held, Spot};
-ghost use Rattle.verity_check.specs.Stores.{IsDataStoreOf, IsHashStoreOf};
+ghost use Rattle.verity_check.specs.Stores.{BothTell, held_in, IsDataStoreOf, IsHashStoreOf};
 ghost use Rattle.verity_check.specs.Reporting.{AreWhole, IsNamed, IsKeptOf, AreKept, ParentsAreKept, AreEarlier, AreLater, AreDone};
 
 use crate::finding::{Finding, Verdict};
@@ -224,4 +224,63 @@ fn check_data<D: BlockStore, A: Allocator + Copy + Drop>(
         note(finding, Place::Data(n), faults, unchecked)?;
     }
     Ok(())
+}
+
+/// Looks at every place of the volume, level by level from the top, and then at the data blocks.
+pub(crate) fn check_all<D: BlockStore, H: BlockStore, A: Allocator + Copy + Drop>(
+    tree: &mut Tree<A>,
+    data_store: &mut D,
+    hash_store: &mut H,
+    hash_block: &mut [u8],
+    data_block: &mut [u8],
+    alloc: A,
+) -> Result<Report<A>, AllocError>
+    requires allowed { IsTable tree.old }
+    requires data_store { IsDataStoreOf D.BlockStore tree.old data_store.old }
+    requires hash_store { IsHashStoreOf H.BlockStore tree.old hash_store.old }
+    requires data_whole { length data_block.old ≡ tree.old.data_block_size }
+    requires hash_whole { length hash_block.old ≡ tree.old.hash_block_size }
+    ensures told {
+        BothTell D.BlockStore H.BlockStore data_store.old hash_store.old
+            → IfOk result (λ report. IsReportOf tree.old (held_in D.BlockStore H.BlockStore tree.old data_store.old hash_store.old) report.faults report.unchecked
+                (D.failures data_store.old + H.failures hash_store.old) (D.failures data_store.new + H.failures hash_store.new))
+    }
+    ensures counted {
+        IfOk result (λ report. report.unchecked + (D.reads data_store.new + H.reads hash_store.new)
+            ≡ D.reads data_store.old + H.reads hash_store.old + (tree_len tree.old + tree.old.data_blocks))
+    }
+    ensures data_keeps { IsOnlyRead D.BlockStore data_store.old data_store.new }
+    ensures hash_keeps { IsOnlyRead H.BlockStore hash_store.old hash_store.new }
+    ensures same { tree.new ≡ tree.old }
+{
+    let mut faults = Vec::new(alloc);
+    let mut unchecked = 0;
+    let mut parents = Vec::new(alloc);
+    let mut row = tree.levels();
+    while row > 0 {
+        row -= 1;
+        let kept = check_level(
+            tree,
+            hash_store,
+            hash_block,
+            row,
+            &parents,
+            alloc,
+            &mut faults,
+            &mut unchecked,
+        )?;
+        parents = kept;
+    }
+    check_data(
+        tree,
+        data_store,
+        data_block,
+        &parents,
+        &mut faults,
+        &mut unchecked,
+    )?;
+    Ok(Report {
+        faults: Faults::new(faults),
+        unchecked,
+    })
 }
