@@ -1,13 +1,15 @@
 //! The verifier of a volume.
 ghost use Rattle.std.specs.Prelude.{◌≡◌, ◌≢◌, ℕ, ◌+◌, ◌*◌, ◌<◌, ◌≤◌, ◌++◌, ◌↔◌, List, length, ◌⊎◌, IsTrue, IsSome, IsErrOf, IsOk, OnOk, OnErr, IfOk, IfErr};
-ghost use Rattle.verity_check.specs.Table.{height, shape_of};
+ghost use Rattle.verity_check.specs.Table.{height, shape_of, tree_len};
 ghost use Rattle.verity_check.specs.Chain.{EndsChain};
 ghost use Rattle.verity_check.specs.Range.{Touches, ServesBytes, IsPathGood};
+ghost use Rattle.verity_check.specs.Report.{IsReportOf};
 ghost use Rattle.verity_check.specs.Refusal.{Explains, Refuses, IsBadOn, IsFirstBad, OnMismatch};
 ghost use Rattle.verity_check.specs.Verifier.{given_to, held_for, StoresTell, AreStoresOf, IsCacheSize, IsOnlyReading, DataFailed, HashFailed, MayRefuse, IsVerifier};
 
 use crate::cache::Cache;
 use crate::range::{append_block, read_range};
+use crate::report::{Report, check_all};
 use crate::tree::{Tree, geometry_of};
 use crate::CheckFault;
 use lru::LruCache;
@@ -160,6 +162,35 @@ impl<D: BlockStore, H: BlockStore, A: Allocator + Copy + Drop> Verifier<D, H, A>
             offset,
             len,
             out,
+        )
+    }
+}
+
+impl<D: BlockStore, H: BlockStore, A: Allocator + Copy + Drop> Verifier<D, H, A> {
+    /// Looks at every place of the volume: the top level first, level 0, then the data blocks, each by rising index. It
+    /// reads each place at most once, and none below one that is bad or couldn't be read; such a place is counted as
+    /// unchecked. It takes memory for the blocks of two levels, since these hold the digests of the places below, and for
+    /// the places that it names. After `AllocError` the verifier can be used as before. It neither uses nor changes the
+    /// cache.
+    pub fn report(&mut self) -> Result<Report<A>, AllocError>
+        ensures told {
+            StoresTell D.BlockStore H.BlockStore self.old
+                → IfOk result (λ report. IsReportOf self.old.table (held_for D.BlockStore H.BlockStore self.old) report.faults report.unchecked
+                    (D.failures self.old.data_store + H.failures self.old.hash_store) (D.failures self.new.data_store + H.failures self.new.hash_store))
+        }
+        ensures counted {
+            IfOk result (λ report. report.unchecked + (D.reads self.new.data_store + H.reads self.new.hash_store)
+                ≡ D.reads self.old.data_store + H.reads self.old.hash_store + (tree_len self.old.table + self.old.table.data_blocks))
+        }
+        ensures keeps { IsOnlyReading D.BlockStore H.BlockStore self.old self.new }
+    {
+        check_all(
+            &mut self.tree,
+            &mut self.data_store,
+            &mut self.hash_store,
+            &mut self.hash_block,
+            &mut self.data_block,
+            self.alloc,
         )
     }
 }
