@@ -234,8 +234,8 @@ impl Geometry {
         ensures value { result ≡ above_of self.now level n }
         ensures within { result < len_of self.now level }
     {
-        let _ = &self.blocks;
-        n / blocks_below(self.per_block() as u64, level)
+        let below = blocks_below(self.per_block() as u64, level);
+        n / below
     }
 
     /// How many hash blocks all levels have, without the superblock's.
