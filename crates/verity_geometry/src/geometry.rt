@@ -234,8 +234,8 @@ impl Geometry {
         ensures value { result ≡ above_of self.now level n }
         ensures within { result < len_of self.now level }
     {
-        let below = blocks_below(self.per_block() as u64, level);
-        n / below
+        let span = blocks_below(self.per_block() as u64, level);
+        n / span
     }
 
     /// How many hash blocks all levels have, without the superblock's.
