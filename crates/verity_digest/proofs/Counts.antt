@@ -31,6 +31,10 @@ pub IsCeil-row_len : (k n r : ℕ) → 0 < k → IsCeil n (k ^ r) (row_len k n r
 unfolding row_len
 IsCeil-row_len k n r some = IsCeil-div_ceil n (k ^ r) (one-le-pow r k some)
 
+-- the block that holds a digest of a row is one of the next row
+pub row_len_above : (k n r i : ℕ) → 0 < k → i < row_len k n r → i / k < row_len k n (suc r)
+row_len_above k n r i some below = rw (row_len-suc k n r some) (quotient_below (row_len k n r) k i some below)
+
 -- one block is the end of the rows
 pub row_len_top : (k n : ℕ) → 2 ≤ k → 0 < n → row_len k n (level_count k n) ≡ 1
 row_len_top k n two some =

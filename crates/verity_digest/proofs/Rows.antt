@@ -1,7 +1,7 @@
 -- The rows of an image and its hash tree, and the levels of its rounds.
 -- For the layers above: `length-row`, `slot-row` (the digest that a block holds), `root-row`; `length-levels`, `level-row`
 -- and `level_block-row` (a level is a row), `length-level_of`, `length-tree`, `tree-place` (where the blocks of the tree
--- stand), `digests_at-row`, `block_at-run` (a hash block by the digests that it holds).
+-- stand), `digests_at-row`, `length-digests_at-row`, `block_at-run` (a hash block by the digests that it holds).
 use Rattle.std.proofs.Common.{◌≡◌, ℕ, zero, suc, ◌+◌, ◌-◌, ◌*◌, ◌/◌, ◌%◌, ◌^◌, ◌<◌, ◌≤◌, List, [], ◌∷◌, length, map, drop, get_or, ⊎_elim, refl, sym, ap, ◌∙◌, subst, arith}
 use Rattle.std.specs.Int.{div_ceil}
 use Rattle.std.specs.Fork.{slice_chunk}
@@ -31,6 +31,10 @@ pub digests_at-row : (h : Hashing) (image : List (List ℕ)) (l : ℕ) → diges
 unfolding digests_at
 digests_at-row h image zero = refl
 digests_at-row h image (suc l) = digests_at-suc h l (map h.digest image) ∙ ap (λ ds. map h.digest (pack h ds)) (digests_at-row h image l)
+
+pub length-digests_at-row : (h : Hashing) (image : List (List ℕ)) (l : ℕ) → 0 < per_block h
+    → length (digests_at h l (map h.digest image)) ≡ row_len (per_block h) (length image) l
+length-digests_at-row h image l some = ap length (digests_at-row h image l) ∙ length-map (row h image l) h.digest ∙ length-row h image l some
 
 -- block i of the next row holds the digests from block i * k of this row on
 pub block_at-run : (h : Hashing) (image : List (List ℕ)) (r i : ℕ) → 0 < per_block h → i < row_len (per_block h) (length image) (suc r)

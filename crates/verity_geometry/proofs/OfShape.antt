@@ -13,7 +13,7 @@ use Rattle.verity_digest.proofs.Rows.{length-levels, length-level_of, length-row
 use Rattle.verity_digest.proofs.TreeLaws.{names_digests, grows_with_count}
 use Rattle.verity_profile.proofs.Bounds.{block_size_low}
 use Rattle.verity_geometry.specs.Geometry.{Shape, IsShape, IsOfShape, digests_per_block, levels_of, len_of, start_of, place_of, total_of, above_of}
-use Rattle.verity_geometry.specs.Laws.{CountsLevels, PlacesBlocks, NamesParents, Grows, StartsRise, ClimbsFrom}
+use Rattle.verity_geometry.specs.Laws.{ShapesImages, CountsLevels, PlacesBlocks, NamesParents, Grows, StartsRise, ClimbsFrom}
 use Rattle.verity_geometry.proofs.Shapes.{branching, some}
 
 pub IsOfShape-hashing : (s : Shape) (salted : Salted) (image : List (List ℕ)) → IsShape s → size_of salted.algorithm ≡ s.digest_size
@@ -24,6 +24,9 @@ IsOfShape-hashing s salted image ok digest blocks = record {
   digest_size = digest;
   blocks = blocks;
 }
+
+pub shapes_images : (s : Shape) → IsShape s → ShapesImages s
+shapes_images s ok salted image digest blocks = IsOfShape-hashing s salted image ok digest blocks
 
 pub same_per_block : (s : Shape) (h : Hashing) (image : List (List ℕ)) → IsOfShape s h image → per_block h ≡ digests_per_block s
 same_per_block s h image of = ap (λ b. b / h.digest_size) of.block_size ∙ ap (λ d. s.hash_size / d) of.digest_size

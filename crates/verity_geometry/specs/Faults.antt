@@ -5,13 +5,17 @@ use Rattle.verity_geometry.specs.Geometry.{Shape, is_digest_size}
 use Rattle.verity_geometry.specs.declared.fault.GeometryFault.{GeometryFault}
 use Rattle.verity_geometry.specs.declared.fault.GeometryFault.TheVariants.{BadSize, BadCount, DigestSize}
 
+abbrev pub shape_of : ℕ → ℕ → ℕ → ℕ → Shape
+shape_of data_size hash_size blocks digest_size =
+    record { data_size = data_size; hash_size = hash_size; digest_size = digest_size; blocks = blocks }
+
 -- the shape, where both block sizes, then the count and then the digest's size are allowed
 abbrev pub shape_or_fault : ℕ → ℕ → ℕ → ℕ → Result Shape GeometryFault
 shape_or_fault data_size hash_size blocks digest_size =
     if is_block_size data_size && is_block_size hash_size
     then (if is_block_count blocks
     then (if is_digest_size digest_size
-    then Ok (record { data_size = data_size; hash_size = hash_size; digest_size = digest_size; blocks = blocks })
+    then Ok (shape_of data_size hash_size blocks digest_size)
     else Err DigestSize)
     else Err BadCount)
     else Err BadSize
