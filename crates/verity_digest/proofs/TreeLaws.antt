@@ -12,7 +12,7 @@ use Rattle.verity_digest.proofs.Places.{joined_from_last}
 use Rattle.verity_digest.proofs.Roots.{root_above-one}
 use Rattle.verity_digest.proofs.Sha.{length-digest_of, IsHashing-hashing}
 use Rattle.verity_digest.proofs.Numbers.{IsLevelCount-level_count, level_below}
-use Rattle.verity_digest.proofs.Counts.{row_len_top, top_start, next_start, last_end}
+use Rattle.verity_digest.proofs.Counts.{row_len_top, top_start, next_start, last_end, placed}
 use Rattle.verity_digest.proofs.Growth.{level_count-mono, row_len-mono, level_start-mono, total-mono, above_within, above-zero, above-suc}
 use Rattle.verity_digest.proofs.Rows.{IsLevelCount-levels, length-levels, length-level_of, length-tree, tree-place, level-row, level_block-row, length-row, digests_at-row, root-row, slot-row}
 use Rattle.verity_digest.proofs.Sized.{AllSized-rounds, AllSized-tree, drop-held}
@@ -46,6 +46,7 @@ orders_levels k n two some = record {
   first = λ l top. top_start k n l top;
   next = λ l below. next_start k n l below;
   last = λ levels. last_end k n levels;
+  each = λ p below. let here = placed k n p below in (here.level, here.index, here.there, here.within, here.at);
 }
 
 -- no data block has no level

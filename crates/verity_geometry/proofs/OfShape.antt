@@ -1,7 +1,7 @@
 -- The numbers of a shape are those of the tree of each image of this shape.
 -- For the layers above: `IsOfShape-hashing` (an image hashed with the shape's sizes), `length-shape_levels`,
 -- `length-shape_level`, `length-shape_row`, `length-shape_tree`, `tree-shape_place` (which block of the tree stands at a
--- place), `slot-shape_leaf`, `slot-shape_parent`, `root-shape_top`, `starts_rise`, `climbs_from`.
+-- place), `tree_by_shape_places` (what is the tree), `slot-shape_leaf`, `slot-shape_parent`, `root-shape_top`, `starts_rise`, `climbs_from`.
 use Rattle.std.proofs.Common.{◌≡◌, ℕ, suc, ◌+◌, ◌/◌, ◌%◌, ◌<◌, ◌≤◌, List, [], length, get_or, refl, sym, ap, ◌∙◌, subst, arith}
 use Rattle.verity_digest.specs.Tree.{Hashing, per_block, slot, root, tree, IsHashing}
 use Rattle.verity_digest.specs.Hash.{Salted, hashing, size_of}
@@ -9,7 +9,7 @@ use Rattle.verity_digest.specs.Shape.{level_count, row_len, level_len, level_sta
 use Rattle.verity_digest.specs.Rows.{row, tree_levels, level_block}
 use Rattle.verity_digest.proofs.Sha.{IsHashing-hashing}
 use Rattle.verity_digest.proofs.Growth.{above_within, above-zero, above-suc}
-use Rattle.verity_digest.proofs.Rows.{length-levels, length-level_of, length-row, length-tree, tree-place}
+use Rattle.verity_digest.proofs.Rows.{length-levels, length-level_of, length-row, length-tree, tree-place, tree_by_places}
 use Rattle.verity_digest.proofs.TreeLaws.{names_digests, grows_with_count}
 use Rattle.verity_profile.proofs.Bounds.{block_size_low}
 use Rattle.verity_geometry.specs.Geometry.{Shape, IsShape, IsOfShape, digests_per_block, levels_of, len_of, start_of, place_of, total_of, above_of}
@@ -66,6 +66,16 @@ tree-shape_place s h image l i of below inside =
     let long = same_number (λ k n. level_len k n l) s h image of in
     ap (λ p. get_or (tree h image) p []) (sym (same_number (λ k n. place k n l i) s h image of))
     ∙ tree-place h image l i of.hashing.branching (there s h image l of below) (omega arith)
+
+-- a list with each block of the image's tree where the shape places it is the tree
+pub tree_by_shape_places : (s : Shape) (h : Hashing) (image blocks : List (List ℕ)) → IsOfShape s h image → length blocks ≡ total_of s
+    → ((l i : ℕ) → l < levels_of s → i < len_of s l → get_or blocks (place_of s l i) [] ≡ level_block h image l i) → blocks ≡ tree h image
+tree_by_shape_places s h image blocks of long each =
+    tree_by_places h image blocks of.hashing.branching (long ∙ sym (same_number total s h image of))
+    (λ l i below inside.
+    let count = same_number level_count s h image of in
+    let level = same_number (λ k n. level_len k n l) s h image of in
+    ap (λ p. get_or blocks p []) (same_number (λ k n. place k n l i) s h image of) ∙ each l i (omega arith) (omega arith))
 
 pub places_blocks : (s : Shape) (h : Hashing) (image : List (List ℕ)) → IsOfShape s h image → PlacesBlocks s h image
 places_blocks s h image of l i below inside = tree-shape_place s h image l i of below inside
