@@ -2,13 +2,12 @@
 -- For the layers above: `length-row`, `slot-row` (the digest that a block holds), `root-row`; `length-levels`, `level-row`
 -- and `level_block-row` (a level is a row), `length-level_of`, `length-tree`, `tree-place` (where the blocks of the tree
 -- stand), `tree_by_places` (what is the tree), `digests_at-row`, `length-digests_at-row`, `block_at-run` (a hash block by the digests that it holds).
-use Rattle.std.proofs.Common.{◌≡◌, ℕ, zero, suc, ◌+◌, ◌-◌, ◌*◌, ◌/◌, ◌%◌, ◌^◌, ◌<◌, ◌≤◌, List, [], ◌∷◌, length, map, drop, get_or, ⊎_elim, refl, sym, ap, ◌∙◌, subst, arith}
+use Rattle.std.proofs.Common.{◌≡◌, ℕ, zero, suc, ◌+◌, ◌-◌, ◌/◌, ◌%◌, ◌<◌, ◌≤◌, List, [], length, map, drop, get_or, ⊎_elim, refl, sym, ap, ◌∙◌, subst, arith}
 use Rattle.std.specs.Int.{div_ceil}
 use Rattle.std.specs.Fork.{slice_chunk}
-use Rattle.std.proofs.Math.Nat.{pow-zero}
 use Rattle.std.proofs.lemmas.Bool.{cases_lt}
 use Rattle.std.proofs.lemmas.List.{length-map, get_or-map, ext_get_or}
-use Rattle.verity_digest.specs.Tree.{Hashing, per_block, pack, hash_block, rounds, digests_at, slot, root, tree, IsHashing, IsLevelCount}
+use Rattle.verity_digest.specs.Tree.{Hashing, per_block, pack, hash_block, digests_at, slot, root, tree, IsHashing, IsLevelCount}
 use Rattle.verity_digest.specs.Shape.{level_count, row_len, level_len, blocks_of_levels, level_start, place, total}
 use Rattle.verity_digest.specs.Rows.{row, block_at, tree_levels, level_block}
 use Rattle.verity_digest.proofs.Packing.{length-pack, get_or-pack}
@@ -115,7 +114,7 @@ tree-place h image l i two below inside =
 -- a list with each block of the tree in its place is the tree
 pub tree_by_places : (h : Hashing) (image blocks : List (List ℕ)) → 2 ≤ per_block h → length blocks ≡ total (per_block h) (length image)
     → ((l i : ℕ) → l < level_count (per_block h) (length image) → i < level_len (per_block h) (length image) l
-        → get_or blocks (place (per_block h) (length image) l i) [] ≡ level_block h image l i)
+    → get_or blocks (place (per_block h) (length image) l i) [] ≡ level_block h image l i)
     → blocks ≡ tree h image
 tree_by_places h image blocks two long each =
     ext_get_or [] blocks (tree h image) (long ∙ sym (length-tree h image two))

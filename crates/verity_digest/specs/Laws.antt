@@ -57,7 +57,7 @@ pub record FillsBlocks (h : Hashing) (image : List (List ℕ)) : Type 0 where
   pub tree : All (λ block. length block ≡ h.block_size) (tree h image)
   pub zeros : (l i : ℕ) → l < level_count (per_block h) (length image) → i < level_len (per_block h) (length image) l
       → drop (held (per_block h) (length image) l i * h.digest_size) (level_block h image l i)
-          ≡ replicate (h.block_size - held (per_block h) (length image) l i * h.digest_size) 0
+      ≡ replicate (h.block_size - held (per_block h) (length image) l i * h.digest_size) 0
 
 -- row l + 1 is level l, which holds the digests of row l; the rows are as long as their numbers say,
 -- also above the root; and the digest of the one block at the top is the root

@@ -3,7 +3,7 @@
 -- `length-shape_level`, `length-shape_row`, `length-shape_tree`, `tree-shape_place` (which block of the tree stands at a
 -- place), `tree_by_shape_places` (what is the tree), `slot-shape_leaf`, `slot-shape_parent`, `root-shape_top`, `starts_rise`, `climbs_from`.
 use Rattle.std.proofs.Common.{◌≡◌, ℕ, suc, ◌+◌, ◌/◌, ◌%◌, ◌<◌, ◌≤◌, List, [], length, get_or, refl, sym, ap, ◌∙◌, subst, arith}
-use Rattle.verity_digest.specs.Tree.{Hashing, per_block, slot, root, tree, IsHashing}
+use Rattle.verity_digest.specs.Tree.{Hashing, per_block, slot, root, tree}
 use Rattle.verity_digest.specs.Hash.{Salted, hashing, size_of}
 use Rattle.verity_digest.specs.Shape.{level_count, row_len, level_len, level_start, place, total}
 use Rattle.verity_digest.specs.Rows.{row, tree_levels, level_block}
@@ -14,7 +14,7 @@ use Rattle.verity_digest.proofs.TreeLaws.{names_digests, grows_with_count}
 use Rattle.verity_profile.proofs.Bounds.{block_size_low}
 use Rattle.verity_geometry.specs.Geometry.{Shape, IsShape, IsOfShape, digests_per_block, levels_of, len_of, start_of, place_of, total_of, above_of}
 use Rattle.verity_geometry.specs.Laws.{ShapesImages, CountsLevels, PlacesBlocks, NamesParents, Grows, StartsRise, ClimbsFrom}
-use Rattle.verity_geometry.proofs.Shapes.{branching, some}
+use Rattle.verity_geometry.proofs.Shapes.{branching}
 
 pub IsOfShape-hashing : (s : Shape) (salted : Salted) (image : List (List ℕ)) → IsShape s → size_of salted.algorithm ≡ s.digest_size
     → length image ≡ s.blocks → IsOfShape s (hashing salted s.hash_size) image

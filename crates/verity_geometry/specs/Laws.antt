@@ -1,5 +1,5 @@
 -- How a shape describes the hash tree of an image, and how shapes of one volume go together.
-use Rattle.std.specs.Prelude.{◌≡◌, ℕ, suc, ◌+◌, ◌/◌, ◌%◌, ◌<◌, ◌≤◌, List, [], length, slice_index_or}
+use Rattle.std.specs.Prelude.{◌≡◌, ℕ, ◌+◌, ◌/◌, ◌%◌, ◌<◌, ◌≤◌, List, [], length, slice_index_or}
 use Rattle.verity_digest.specs.Tree.{Hashing, slot, root, tree}
 use Rattle.verity_digest.specs.Hash.{Salted, hashing, size_of}
 use Rattle.verity_digest.specs.Rows.{tree_levels, level_block}

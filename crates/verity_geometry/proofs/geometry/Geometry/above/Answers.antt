@@ -1,6 +1,6 @@
 use Rattle.std.proofs.Common.{ℕ, suc, ◌≡◌, ◌+◌, ◌/◌, ◌<◌, ◌^◌, sym, ap, ◌∙◌, subst, arith}
 use Rattle.verity_digest.proofs.Growth.{above_within}
-use Rattle.verity_geometry.specs.Geometry.{digests_per_block, len_of, above_of}
+use Rattle.verity_geometry.specs.Geometry.{digests_per_block, len_of}
 use Rattle.verity_geometry.proofs.Shapes.{level_low, branching}
 use Rattle.verity_geometry.proofs.geometry.Geometry.above.Goals as goal
 

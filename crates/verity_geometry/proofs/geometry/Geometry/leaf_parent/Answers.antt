@@ -1,4 +1,4 @@
-use Rattle.std.proofs.Common.{◌<◌, sym, arith}
+use Rattle.std.proofs.Common.{◌<◌, arith}
 use Rattle.verity_digest.proofs.Counts.{row_len_above, row_len-zero}
 use Rattle.verity_geometry.specs.Geometry.{digests_per_block}
 use Rattle.verity_geometry.proofs.geometry.Geometry.leaf_parent.Goals as goal

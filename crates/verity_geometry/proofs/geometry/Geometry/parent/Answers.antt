@@ -1,4 +1,4 @@
-use Rattle.std.proofs.Common.{ℕ, suc, ◌≡◌, ◌+◌, ◌/◌, ◌<◌, ap, subst, arith}
+use Rattle.std.proofs.Common.{ℕ, suc, ◌≡◌, ◌+◌, ◌/◌, ◌<◌, subst, arith}
 use Rattle.verity_digest.proofs.Counts.{row_len_above}
 use Rattle.verity_geometry.specs.Geometry.{digests_per_block, len_of}
 use Rattle.verity_geometry.proofs.geometry.Geometry.parent.Goals as goal
