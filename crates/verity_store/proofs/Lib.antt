@@ -1,3 +1,4 @@
 pub mod BlockLemmas
 pub mod MoveLemmas
+pub mod ScriptLemmas
 pub mod StoreLemmas

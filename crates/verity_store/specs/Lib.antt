@@ -1,4 +1,7 @@
 pub mod Blocks
+pub mod Failing
 pub mod Moves
+pub mod Script
+pub mod ScriptStore
 pub mod Stores
 pub mod Texts

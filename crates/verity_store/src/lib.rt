@@ -11,12 +11,20 @@
 //! calls leave of a store's facts), `specs/Texts.antt` (the texts).
 #![tactic(auto)]
 
+mod answer;
+mod block;
+mod fail;
 mod fault;
 mod memory;
 mod moves;
+mod script;
 mod store;
 
+pub use answer::Answer;
+pub use block::Block;
+pub use fail::FailStore;
 pub use fault::{StoreFault, Which};
 pub use memory::MemStore;
 pub use moves::move_run;
+pub use script::ScriptStore;
 pub use store::BlockStore;
