@@ -41,7 +41,7 @@ read_tells n None old new out result whole after gives fails =
     subst (λ s. ReadTells old s n out result) (sym after) (subst (λ r. ReadTells old (after_read n None old) n out r) (sym (fails refl)) (read_fails n old out))
 read_tells n (Some block) old new out (Ok u) whole after gives fails =
     let same : out ≡ block = (gives block refl).1 in
-    subst (λ s. ReadTells old s n out (Ok u)) (sym after ) (subst (λ b. ReadTells old (after_read n (Some b) old) n out (Ok u)) same (read_gives n out old u whole))
+    subst (λ s. ReadTells old s n out (Ok u)) (sym after) (subst (λ b. ReadTells old (after_read n (Some b) old) n out (Ok u)) same (read_gives n out old u whole))
 read_tells n (Some block) old new out (Err e) whole after gives fails = absurd (false≢true (gives block refl).0)
 
 pub on_ok_always : (result : Result (Unit {0}) StoreFault) (P : Type 0) → P → OnOk result P
