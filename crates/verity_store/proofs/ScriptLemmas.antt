@@ -1,8 +1,8 @@
 -- What a script's reads tell, as the trait asks.
-use Rattle.std.proofs.Common.{◌≡◌, refl, ℕ, ◌+◌, ◌<◌, ◌≤◌, Option, None, Some, List, [], length, Result, Ok, Err, IsOk, OnOk, OnErr, IfErr, replicate, sym, subst, ◌∙◌, arith}
+use Rattle.std.proofs.Common.{◌≡◌, refl, ℕ, ◌+◌, ◌<◌, ◌≤◌, Option, None, Some, List, length, Result, Ok, Err, IsOk, OnOk, OnErr, IfErr, sym, subst, arith}
 use Rattle.std.proofs.lemmas.Bool.{false≢true}
 use Rattle.std.proofs.lemmas.List.Elements.{Contains-push, Contains-append_left}
-use Rattle.std.specs.Prelude.{Contains, ⊤}
+use Rattle.std.specs.Prelude.{Contains}
 use Rattle.verity_store.specs.Script.{Script, after_read}
 use Rattle.verity_store.specs.declared.fault.StoreFault.{StoreFault}
 use Rattle.verity_store.specs.declared.fault.StoreFault.TheVariants.{Device}

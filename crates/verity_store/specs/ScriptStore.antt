@@ -1,5 +1,5 @@
 -- A script's store as contracts see it.
-use Rattle.std.specs.Prelude.{◌≡◌, ℕ, ◌+◌, ◌≤◌, List, All, length, map, reverse, vec_len, vec_capacity}
+use Rattle.std.specs.Prelude.{◌≡◌, ◌+◌, ◌≤◌, All, length, map, reverse, vec_len, vec_capacity}
 use Rattle.verity_profile.specs.Profile.{IsBlockSize}
 use Rattle.verity_store.specs.Script.{Script, block_of, IsSized}
 use Rattle.verity_store.specs.declared.script.ScriptStore.TheInside.{Inside}

@@ -1,6 +1,5 @@
-use Rattle.std.proofs.Common.{◌≡◌, ap, refl, List, ℕ, replicate, rules, ◌∙◌, sym, subst, length, arith}
+use Rattle.std.proofs.Common.{refl, rules, ◌∙◌, sym, arith}
 use Rattle.std.proofs.lemmas.Bool.{false≢true}
-use Rattle.verity_profile.specs.Profile.{zero_block}
 use Rattle.verity_store.specs.Script.{next_block}
 use Rattle.verity_store.proofs.BlockLemmas.{resized_not}
 use Rattle.verity_store.proofs.ScriptLemmas.{read_tells, on_ok_always}
