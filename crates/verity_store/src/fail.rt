@@ -47,7 +47,8 @@ fn is_past(allowed: Option<u64>, reads: u64) -> bool
 }
 
 impl<S: BlockStore> FailStore<S> {
-    ghost use Rattle.verity_store.specs.Failing.{failing_at};
+    ghost use Rattle.std.specs.Prelude.{◌≡◌, None, Some, true, false};
+    ghost use Rattle.verity_store.specs.Failing.{failing_at, is_call_due, is_read_due, after_call, after_read, after_failed_call, after_failed_read};
 
     /// A store whose call number `k` fails and no other; with `k` of 0, none.
     pub fn at(store: S, k: u64) -> FailStore<S>
@@ -100,6 +101,36 @@ impl<S: BlockStore> FailStore<S> {
         let FailStore { store, .. } = self;
         store
     }
+
+    // Counts a call that is no read, and says whether it fails.
+    fn fails_call(&mut self) -> bool
+        ensures due { result ≡ is_call_due self.old }
+        ensures failed { is_call_due self.old ≡ true → self.new ≡ after_failed_call self.old }
+        ensures passed { is_call_due self.old ≡ false → self.new ≡ after_call self.old self.old.store }
+    {
+        let due = is_next(self.calls, self.due);
+        self.calls = self.calls.saturating_add(1);
+        if due {
+            self.failed.step();
+        }
+        due
+    }
+
+    // Counts a read, and says whether it fails.
+    fn fails_read(&mut self) -> bool
+        ensures due { result ≡ is_read_due self.old }
+        ensures failed { is_read_due self.old ≡ true → self.new ≡ after_failed_read self.old }
+        ensures passed { is_read_due self.old ≡ false → self.new ≡ after_read self.old self.old.store }
+    {
+        let due = is_next(self.calls, self.due) || is_past(self.allowed, self.reads);
+        self.calls = self.calls.saturating_add(1);
+        self.reads = self.reads.saturating_add(1);
+        if due {
+            self.failed.step();
+            self.refused.step();
+        }
+        due
+    }
 }
 
 impl<S: BlockStore> BlockStore for FailStore<S> {
@@ -150,12 +181,7 @@ impl<S: BlockStore> BlockStore for FailStore<S> {
         ensures size { S.size self.new.store ≡ S.size self.old.store }
         ensures room { S.room self.new.store ≡ S.room self.old.store }
     {
-        let due = is_next(self.calls, self.due) || is_past(self.allowed, self.reads);
-        self.calls = self.calls.saturating_add(1);
-        self.reads = self.reads.saturating_add(1);
-        if due {
-            self.failed.step();
-            self.refused.step();
+        if self.fails_read() {
             return Err(StoreFault::Device);
         }
         self.store.read(n, out)
@@ -179,10 +205,7 @@ impl<S: BlockStore> BlockStore for FailStore<S> {
         ensures size { S.size self.new.store ≡ S.size self.old.store }
         ensures room { S.room self.new.store ≡ S.room self.old.store }
     {
-        let due = is_next(self.calls, self.due);
-        self.calls = self.calls.saturating_add(1);
-        if due {
-            self.failed.step();
+        if self.fails_call() {
             return Err(StoreFault::Device);
         }
         self.store.write(n, block)
@@ -223,10 +246,7 @@ impl<S: BlockStore> BlockStore for FailStore<S> {
         ensures size { S.size self.new.store ≡ S.size self.old.store }
         ensures room { S.room self.old.store ≤ S.room self.new.store }
     {
-        let due = is_next(self.calls, self.due);
-        self.calls = self.calls.saturating_add(1);
-        if due {
-            self.failed.step();
+        if self.fails_call() {
             return Err(StoreFault::Device);
         }
         self.store.set_len(blocks)
@@ -246,10 +266,7 @@ impl<S: BlockStore> BlockStore for FailStore<S> {
         ensures size { S.size self.new.store ≡ S.size self.old.store }
         ensures room { S.room self.new.store ≡ S.room self.old.store }
     {
-        let due = is_next(self.calls, self.due);
-        self.calls = self.calls.saturating_add(1);
-        if due {
-            self.failed.step();
+        if self.fails_call() {
             return Err(StoreFault::Device);
         }
         self.store.sync()

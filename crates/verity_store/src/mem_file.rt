@@ -1,5 +1,6 @@
 //! A file in memory, whose bytes are known.
-ghost use Rattle.std.specs.Prelude.{◌≡◌, ◌+◌, ◌≤◌, ◌↔◌, IsTrue, Some};
+ghost use Rattle.std.specs.Prelude.{◌≡◌, ◌+◌, ◌≤◌, ◌↔◌, IsTrue, IsOk, OnOk, Some, true, length, vec_len};
+ghost use Rattle.verity_store.specs.RawFile.{Reads};
 
 use crate::RawFile;
 use crate::memory::{get, put};
@@ -42,7 +43,11 @@ impl<A: Allocator> RawFile for MemFile<A> {
         Ok(self.bytes.len() as u64)
     }
 
-    fn read_exact_at(&mut self, at: u64, out: &mut [u8]) -> io::Result<()> {
+    fn read_exact_at(&mut self, at: u64, out: &mut [u8]) -> io::Result<()>
+        ensures within { IsOk result ↔ (at + length out.old ≤ vec_len self.old.bytes) }
+        ensures given { OnOk result (Reads (Some self.old.bytes.items) at out.new) }
+        ensures bytes { self.new.bytes.items ≡ self.old.bytes.items }
+    {
         if !is_within(at, out.len(), self.bytes.len()) {
             return Err(ErrorKind::UnexpectedEof.into());
         }
@@ -64,7 +69,11 @@ impl<A: Allocator> RawFile for MemFile<A> {
         }
     }
 
-    fn sync(&mut self) -> io::Result<()> {
+    fn sync(&mut self) -> io::Result<()>
+        ensures ok { IsOk result }
+        ensures synced { self.new.synced ≡ true }
+        ensures bytes { self.new.bytes.items ≡ self.old.bytes.items }
+    {
         self.synced = true;
         Ok(())
     }

@@ -1,3 +1,5 @@
+ghost use Rattle.verity_store.specs.Stores.{IsOnlyRead};
+
 use super::*;
 use std::test::Fail;
 
@@ -20,7 +22,9 @@ fn keeps_what_is_written<S: BlockStore>(store: &mut S) -> bool {
 }
 
 /// The first byte of a block, where it can be read.
-fn first_byte<S: BlockStore>(store: &mut S, n: u64) -> Option<u8> {
+fn first_byte<S: BlockStore>(store: &mut S, n: u64) -> Option<u8>
+    ensures { IsOnlyRead S.BlockStore store.old store.new }
+{
     let mut block = [0u8; 512];
     if store.block_size() != 512 || store.len() <= n {
         return None;
