@@ -1,0 +1,12 @@
+pub mod Protocol
+pub mod Messages
+pub mod Handshake
+pub mod Options
+pub mod Transmission
+pub mod Answers
+pub mod Talk
+pub mod Export
+pub mod Session
+pub mod Faults
+pub mod Inbox
+pub mod Conversation
