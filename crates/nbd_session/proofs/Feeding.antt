@@ -61,21 +61,6 @@ feeds old new o before after starved s input piece out out' v e m =
         talks = record { verdicts = t.verdicts; judged = t.judged; counted = t.counted; exact = m.1 ∙ ap (λ x. out ++ x) t.exact };
       })
 
--- A starved session stays so.
-pub feeds_starved : (now : Facts) (s : State) (piece out : List ℕ) → s.starved ≡ true → Feeds now now s s piece out out Starved
-feeds_starved now s piece out t = record {
-  offer = refl;
-  keeps = Keeps-refl now;
-  at = λ n. absurd (n refl);
-  talks = λ n. absurd (n refl);
-  ended = λ n. absurd (n refl);
-  awake = λ n. absurd (n refl);
-  starved = λ e. (refl, t);
-  stays = λ e input a. a;
-  for_good = λ e. refl;
-  over = λ f. let z : true ≡ false = sym t ∙ f in absurd (let q : ⊥ = cc in q);
-}
-
 -- A session that has ended stays so.
 pub feeds_ended : {A : Type 0} (now : Facts) (o : Offer) (inbox : Inbox A) (starved : Bool) (s : State) (piece out : List ℕ)
     → state_of o inbox starved ≡ s → starved ≡ false → inbox.phase ≡ Ended → Feeds now now s s piece out out status.Ended
@@ -116,25 +101,6 @@ feeds_on old new o before after starved s piece out out' result v f k p m n ende
       stays = λ e. absurd (n e);
       for_good = λ t. let z : false ≡ true = sym f ∙ t in absurd (let q : ⊥ = cc in q);
       over = λ a e. absurd (p e);
-    })
-
--- Memory was refused.
-pub feeds_lacking : {A : Type 0} (old new : Facts) (o : Offer) (before after : Inbox A) (starved : Bool) (s : State) (piece out out' : List ℕ)
-    → state_of o before starved ≡ s → starved ≡ false → Keeps old new → (before.phase ≡ Ended → ⊥) → out' ≡ out
-    → Feeds old new s (state_of o after true) piece out out' Starved
-feeds_lacking old new o before after starved s piece out out' v f k p e =
-    let P : State → Type 0 = λ x. Feeds old new x (state_of o after true) piece out out' Starved in
-    subst P v (record {
-      offer = refl;
-      keeps = k;
-      at = λ n. absurd (n refl);
-      talks = λ n. absurd (n refl);
-      ended = λ n. absurd (n refl);
-      awake = λ n. absurd (n refl);
-      starved = λ q. (e, refl);
-      stays = λ q input a z. absurd (let y : ⊥ = cc in y);
-      for_good = λ t. refl;
-      over = λ a q. absurd (p q);
     })
 
 -- feed after feed
