@@ -10,3 +10,7 @@ pub mod Session
 pub mod Faults
 pub mod Inbox
 pub mod Conversation
+pub mod Requests
+pub mod Vectors
+pub mod Rows
+pub mod Borders
