@@ -134,3 +134,38 @@ zero_option = refl
 
 starttls : talk big (flags 3 ++ option 5 (1 ∷ [])) [] ≡ greeting ++ option_reply 5 0x80000001 []
 starttls = refl
+
+-- client flags, one by one
+flags_zero : (hear big Flags (flags 0)).phase ≡ Options false false
+flags_zero = refl
+
+flags_one : (hear big Flags (flags 1)).phase ≡ Options true false
+flags_one = refl
+
+flags_two : (hear big Flags (flags 2)).phase ≡ Options false true
+flags_two = refl
+
+flags_three : (hear big Flags (flags 3)).phase ≡ Options true true
+flags_three = refl
+
+flags_four : (hear big Flags (flags 4)).phase ≡ Ended
+flags_four = refl
+
+-- an option's header but for its last byte
+option_header_waits : hear big (Options true true) (big_bytes 15 0x49484156454f505400000002000000) ≡ record { answers = []; phase = Options true true; unfinished = big_bytes 15 0x49484156454f505400000002000000 }
+option_header_waits = refl
+
+-- CACHE, BLOCK_STATUS and RESIZE
+cache_and_others : (hear big Transmission (request 0 5 0 1 ++ request 0 7 0 1 ++ request 0 8 0 1)).answers
+    ≡ (Says (simple_reply 22 cookie) ∷ Says (simple_reply 22 cookie) ∷ Says (simple_reply 22 cookie) ∷ [])
+cache_and_others = refl
+
+trim_and_write_zeroes : (hear big Transmission (request 1 4 0 0xffffffff ++ request 2 6 0xffffffffffffffff 1)).answers
+    ≡ (Says (simple_reply 1 cookie) ∷ Says (simple_reply 1 cookie) ∷ [])
+trim_and_write_zeroes = refl
+
+read_whole_export : (hear big Transmission (request 0 0 0xffffffffffffff 1)).answers ≡ (Asks 0xffffffffffffff 1 cookie ∷ [])
+read_whole_export = refl
+
+read_one_past : (hear big Transmission (request 0 0 0x100000000000000 1)).answers ≡ (Says (simple_reply 22 cookie) ∷ [])
+read_one_past = refl

@@ -45,6 +45,8 @@ pub mod conversation;
 pub mod status;
 pub mod session;
 pub mod laws;
+#[cfg(test)]
+mod tests;
 
 pub use export::{Export, ExportFault};
 pub use fault::SessionFault;
