@@ -50,16 +50,16 @@ feeds old new o before after starved s input piece out out' v e m =
     let offer = o in
     let h = hear offer Flags input in
     subst P v (λ f.
-      let a = f e in
-      let Q : Phase → Type 0 = λ p. Stands old new (hear offer p (h.unfinished ++ piece)) after m.0 in
-      let t = subst Q a.phase (m.2 h.unfinished (waits_at o before starved input a)) in
-      let n = hear offer h.phase (h.unfinished ++ piece) in
-      let r = reflects old new o after starved n m.0 e t in
-      let R : Heard → Type 0 = λ x. Reflects (state_of o after starved) x in
-      record {
-        at = λ z. subst R (sym (hear-append offer Flags input piece)) (record { phase = r.phase; held = r.held; missing = r.missing });
-        talks = record { verdicts = t.verdicts; judged = t.judged; counted = t.counted; exact = m.1 ∙ ap (λ x. out ++ x) t.exact };
-      })
+    let a = f e in
+    let Q : Phase → Type 0 = λ p. Stands old new (hear offer p (h.unfinished ++ piece)) after m.0 in
+    let t = subst Q a.phase (m.2 h.unfinished (waits_at o before starved input a)) in
+    let n = hear offer h.phase (h.unfinished ++ piece) in
+    let r = reflects old new o after starved n m.0 e t in
+    let R : Heard → Type 0 = λ x. Reflects (state_of o after starved) x in
+    record {
+      at = λ z. subst R (sym (hear-append offer Flags input piece)) (record { phase = r.phase; held = r.held; missing = r.missing });
+      talks = record { verdicts = t.verdicts; judged = t.judged; counted = t.counted; exact = m.1 ∙ ap (λ x. out ++ x) t.exact };
+    })
 
 -- A session that has ended stays so.
 pub feeds_ended : {A : Type 0} (now : Facts) (o : Offer) (inbox : Inbox A) (starved : Bool) (s : State) (piece out : List ℕ)
@@ -68,7 +68,7 @@ feeds_ended now o inbox starved s piece out v f p =
     let P : State → Type 0 = λ x. Feeds now now x x piece out out status.Ended in
     let x = state_of o inbox starved in
     let fed = λ (input : List ℕ) (a : IsAt x input).
-      feeds now now o inbox inbox starved x input piece out out refl f ([], sym (append-nil out), moves_ended now o inbox piece p) a in
+    feeds now now o inbox inbox starved x input piece out out refl f ([], sym (append-nil out), moves_ended now o inbox piece p) a in
     subst P v (record {
       offer = refl;
       keeps = Keeps-refl now;
@@ -116,10 +116,10 @@ talked_on a b c offer input piece said more k l s t =
     record {
       verdicts = vs;
       judged = subst P (sym on) (Judged-append (Fair a c) xs ys s.verdicts t.verdicts
-        (Judged-weaker (Fair a b) (Fair a c) xs s.verdicts (Fair-later a b c l) s.judged)
-        (Judged-weaker (Fair b c) (Fair a c) ys t.verdicts (Fair-earlier a b c k) t.judged));
+          (Judged-weaker (Fair a b) (Fair a c) xs s.verdicts (Fair-later a b c l) s.judged)
+          (Judged-weaker (Fair b c) (Fair a c) ys t.verdicts (Fair-earlier a b c k) t.judged));
       counted = counted_on a b c s.verdicts t.verdicts k s.counted t.counted;
       exact = ap (λ x. x ++ more) s.exact ∙ ap (λ x. talk offer input s.verdicts ++ x) t.exact
-        ∙ append_assoc greeting (replies xs s.verdicts) (replies ys t.verdicts)
-        ∙ ap (λ x. greeting ++ x) (sym (replies-append (Fair a b) xs ys s.verdicts t.verdicts s.judged) ∙ ap (λ x. replies x vs) (sym on));
+          ∙ append_assoc greeting (replies xs s.verdicts) (replies ys t.verdicts)
+          ∙ ap (λ x. greeting ++ x) (sym (replies-append (Fair a b) xs ys s.verdicts t.verdicts s.judged) ∙ ap (λ x. replies x vs) (sym on));
     }

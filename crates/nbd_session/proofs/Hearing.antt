@@ -21,17 +21,19 @@ front_of-append : (header rest more : List ℕ) (o : Option ℕ) → Extends mor
 front_of-append header rest more None = refl
 front_of-append header rest more (Some n) =
     elim (cases_lt (length rest) n) [
-      inl h ↦ rw (lt-ltb (length rest) n h) tt
-    | inr h ↦ let long : n ≤ length (rest ++ more) = omega (arith, length-append rest more) in
-      rw (le-ltb (length rest) n h, le-ltb (length (rest ++ more)) n long, take-append-le n rest more h, drop-append-le n rest more h) refl ]
+      | inl h ↦ rw (lt-ltb (length rest) n h) tt
+      | inr h ↦ let long : n ≤ length (rest ++ more) = omega (arith, length-append rest more) in
+          rw (le-ltb (length rest) n h, le-ltb (length (rest ++ more)) n long, take-append-le n rest more h, drop-append-le n rest more h) refl
+    ]
 
 pub front-append : (phase : Phase) (bytes more : List ℕ) → Extends more (front phase bytes) (front phase (bytes ++ more))
 front-append phase bytes more =
     elim (cases_lt (length bytes) (header_size phase)) [
-      inl h ↦ rw (lt-ltb (length bytes) (header_size phase) h) tt
-    | inr h ↦ let long : header_size phase ≤ length (bytes ++ more) = omega (arith, length-append bytes more) in
-      rw (le-ltb (length bytes) (header_size phase) h, le-ltb (length (bytes ++ more)) (header_size phase) long, take-append-le (header_size phase) bytes more h, drop-append-le (header_size phase) bytes more h)
-      (front_of-append (take (header_size phase) bytes) (drop (header_size phase) bytes) more (body_size phase (take (header_size phase) bytes))) ]
+      | inl h ↦ rw (lt-ltb (length bytes) (header_size phase) h) tt
+      | inr h ↦ let long : header_size phase ≤ length (bytes ++ more) = omega (arith, length-append bytes more) in
+          rw (le-ltb (length bytes) (header_size phase) h, le-ltb (length (bytes ++ more)) (header_size phase) long, take-append-le (header_size phase) bytes more h, drop-append-le (header_size phase) bytes more h)
+          (front_of-append (take (header_size phase) bytes) (drop (header_size phase) bytes) more (body_size phase (take (header_size phase) bytes)))
+    ]
 
 -- a whole message takes a byte at least
 abbrev pub Shorter : ℕ → Front → Type 0
@@ -43,15 +45,17 @@ front_of-shorter : (n : ℕ) (header rest : List ℕ) (o : Option ℕ) → lengt
 front_of-shorter n header rest None h = tt
 front_of-shorter n header rest (Some k) h =
     elim (cases_lt (length rest) k) [
-      inl l ↦ rw (lt-ltb (length rest) k l) tt
-    | inr l ↦ rw (le-ltb (length rest) k l) (omega (arith, length-drop k rest)) ]
+      | inl l ↦ rw (lt-ltb (length rest) k l) tt
+      | inr l ↦ rw (le-ltb (length rest) k l) (omega (arith, length-drop k rest))
+    ]
 
 front-shorter_by : (phase : Phase) (bytes : List ℕ) → 0 < header_size phase → Shorter (length bytes) (front phase bytes)
 front-shorter_by phase bytes h =
     elim (cases_lt (length bytes) (header_size phase)) [
-      inl l ↦ rw (lt-ltb (length bytes) (header_size phase) l) tt
-    | inr l ↦ rw (le-ltb (length bytes) (header_size phase) l)
-      (front_of-shorter (length bytes) (take (header_size phase) bytes) (drop (header_size phase) bytes) (body_size phase (take (header_size phase) bytes)) (omega (arith, length-drop (header_size phase) bytes))) ]
+      | inl l ↦ rw (lt-ltb (length bytes) (header_size phase) l) tt
+      | inr l ↦ rw (le-ltb (length bytes) (header_size phase) l)
+          (front_of-shorter (length bytes) (take (header_size phase) bytes) (drop (header_size phase) bytes) (body_size phase (take (header_size phase) bytes)) (omega (arith, length-drop (header_size phase) bytes)))
+    ]
 
 pub front-shorter : (phase : Phase) (bytes : List ℕ) → Shorter (length bytes) (front phase bytes)
 front-shorter Flags bytes = front-shorter_by Flags bytes (omega arith)

@@ -30,9 +30,12 @@ Fair-earlier a b c k o l (Refused error) (inr e) = inr (e.0, record { leave = e.
 
 pub Keeps-trans : (a b c : Facts) → Keeps a b → Keeps b c → Keeps a c
 Keeps-trans a b c h k = record {
-  size = k.size ∙ h.size; block = k.block ∙ h.block;
-  serve = λ o bytes s. k.serve o bytes (h.serve o bytes s); refuse = λ o l s. k.refuse o l (h.refuse o l s);
-  steady = λ content s. k.steady content (h.steady content s); failures = omega (arith, h.failures, k.failures);
+  size = k.size ∙ h.size;
+  block = k.block ∙ h.block;
+  serve = λ o bytes s. k.serve o bytes (h.serve o bytes s);
+  refuse = λ o l s. k.refuse o l (h.refuse o l s);
+  steady = λ content s. k.steady content (h.steady content s);
+  failures = omega (arith, h.failures, k.failures);
   lack = λ o l s. k.lack o l (h.lack o l s);
 }
 
@@ -96,9 +99,9 @@ pub stands_whole : {A : Type 0} (old new : Facts) → Keeps old new → (offer :
 stands_whole old new k offer phase bytes held inbox said m p w e =
     let P : Heard → Type 0 = λ h. Stands old new h inbox said in
     let is : hear offer phase bytes ≡ record { answers = answer offer phase (message_of phase held) ∷ []; phase = next_phase offer phase (message_of phase held); unfinished = [] } =
-      hear-front offer phase bytes ∙ ap (hear_front offer phase bytes (hear offer)) m.2
-      ∙ ap (λ a. record { answers = a ∷ []; phase = next_phase offer phase (record { header = (message_of phase held).header; body = m.0 }); unfinished = [] }) (same_answer offer phase held m.0 m.1)
-      ∙ ap (λ (x : Phase). record { answers = answer offer phase (message_of phase held) ∷ []; phase = x; unfinished = [] }) (same_phase offer phase held m.0 m.1) in
+    hear-front offer phase bytes ∙ ap (hear_front offer phase bytes (hear offer)) m.2
+    ∙ ap (λ a. record { answers = a ∷ []; phase = next_phase offer phase (record { header = (message_of phase held).header; body = m.0 }); unfinished = [] }) (same_answer offer phase held m.0 m.1)
+    ∙ ap (λ (x : Phase). record { answers = answer offer phase (message_of phase held) ∷ []; phase = x; unfinished = [] }) (same_phase offer phase held m.0 m.1) in
     subst P (sym is) (stands_answer old new k (answer offer phase (message_of phase held)) (next_phase offer phase (message_of phase held)) inbox said p w e)
 
 -- turn after turn
@@ -113,8 +116,8 @@ stands_on a b c offer h mid after piece said said' k l s t =
       verdicts = s.verdicts ++ t.verdicts;
       counted = counted_on a b c s.verdicts t.verdicts k s.counted t.counted;
       judged = Judged-append (Fair a c) h.answers next.answers s.verdicts t.verdicts
-        (Judged-weaker (Fair a b) (Fair a c) h.answers s.verdicts (Fair-later a b c l) s.judged)
-        (Judged-weaker (Fair b c) (Fair a c) next.answers t.verdicts (Fair-earlier a b c k) t.judged);
+          (Judged-weaker (Fair a b) (Fair a c) h.answers s.verdicts (Fair-later a b c l) s.judged)
+          (Judged-weaker (Fair b c) (Fair a c) next.answers t.verdicts (Fair-earlier a b c k) t.judged);
       exact = ap (λ x. x ++ said') s.exact ∙ ap (λ x. replies h.answers s.verdicts ++ x) t.exact ∙ sym (replies-append (Fair a b) h.answers next.answers s.verdicts t.verdicts s.judged);
     }
 

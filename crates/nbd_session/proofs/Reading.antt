@@ -24,9 +24,11 @@ pub read_gives : (old new : Facts) (size : ℕ) (r : Request) (before mid after 
     → mid ≡ before ++ head → head ≡ simple_reply 0 r.cookie → after ≡ mid ++ bytes → Served old new r.offset r.len bytes
     → AppendsAnswer old new (read_answer size r) before after
 read_gives old new size r before mid after head bytes h n em eh e s =
-    let P : Answer → Type 0 = λ a. Answered old new a (head ++ bytes) in
-    (head ++ bytes, e ∙ ap (λ x. x ++ bytes) em ∙ append_assoc before head bytes,
-     subst P (sym (read_asks size r h n)) (Bytes bytes, s, ap (λ x. x ++ bytes) eh))
+    let P : Answer → Type 0 = λ a. Answered old new a (head ++ bytes) in (
+      head ++ bytes,
+      e ∙ ap (λ x. x ++ bytes) em ∙ append_assoc before head bytes,
+      subst P (sym (read_asks size r h n)) (Bytes bytes, s, ap (λ x. x ++ bytes) eh),
+    )
 
 fault_verdict : (old new : Facts) (o l : ℕ) (fault : ExportFault) → (fault ≡ Io → Failed old new o l) → (fault ≡ NoMemory → Lacked old new o l) → ((error_number fault ≡ 12) × Lacked old new o l) ⊎ ((error_number fault ≡ 5) × Failed old new o l)
 fault_verdict old new o l Io h k = inr (refl, h refl)

@@ -18,16 +18,18 @@ lacks : (header rest : List ℕ) (o : Option ℕ) → front_of header rest o ≡
 lacks header rest None p m = cc
 lacks header rest (Some n) p m =
     elim (cases_lt (length rest) n) [
-      inl l ↦ omega (arith, m)
-    | inr l ↦ let q = rw (le-ltb (length rest) n l) at p in cc ]
+      | inl l ↦ omega (arith, m)
+      | inr l ↦ let q = rw (le-ltb (length rest) n l) at p in cc
+    ]
 
 short : (phase : Phase) (u : List ℕ) → front phase u ≡ Partial → missing_of phase u ≡ 0 → length u < header_size phase
 short phase u p m =
     elim (cases_lt (length u) (header_size phase)) [
-      inl l ↦ l
-    | inr l ↦ let q = rw (le-ltb (length u) (header_size phase) l) at p in
-      let k = rw (le-ltb (length u) (header_size phase) l, ← length-drop (header_size phase) u) at m in
-      absurd (lacks (take (header_size phase) u) (drop (header_size phase) u) (body_size phase (take (header_size phase) u)) q k) ]
+      | inl l ↦ l
+      | inr l ↦ let q = rw (le-ltb (length u) (header_size phase) l) at p in
+          let k = rw (le-ltb (length u) (header_size phase) l, ← length-drop (header_size phase) u) at m in
+          absurd (lacks (take (header_size phase) u) (drop (header_size phase) u) (body_size phase (take (header_size phase) u)) q k)
+    ]
 
 -- while the header comes, all is held
 pub held_header : (phase : Phase) (u held : List ℕ) (m : ℕ) → front phase u ≡ Partial → held ≡ kept phase u → m ≡ missing_of phase u → m ≡ 0 → held ≡ u
@@ -84,10 +86,11 @@ pub record Comes (phase : Phase) (u : List ℕ) (m : ℕ) : Type 0 where
 pub comes : (phase : Phase) (u : List ℕ) (m : ℕ) → m ≡ missing_of phase u → 0 < m → Comes phase u m
 comes phase u m f h =
     elim (cases_lt (length u) (header_size phase)) [
-      inl l ↦ let k = rw (lt-ltb (length u) (header_size phase) l) at f in absurd (omega arith)
-    | inr l ↦ let k = rw (le-ltb (length u) (header_size phase) l) at f in
-      let b = body_from (length u - header_size phase) m (body_size phase (take (header_size phase) u)) k h in
-      record { size = b.0; header = l; tells = b.1; rest = omega (arith, b.2, length-drop (header_size phase) u) } ]
+      | inl l ↦ let k = rw (lt-ltb (length u) (header_size phase) l) at f in absurd (omega arith)
+      | inr l ↦ let k = rw (le-ltb (length u) (header_size phase) l) at f in
+          let b = body_from (length u - header_size phase) m (body_size phase (take (header_size phase) u)) k h in
+          record { size = b.0; header = l; tells = b.1; rest = omega (arith, b.2, length-drop (header_size phase) u) }
+    ]
 
 front_body : (phase : Phase) (u c : List ℕ) (m : ℕ) (k : Comes phase u m) → front phase (u ++ c) ≡ front_of (take (header_size phase) u) (drop (header_size phase) u ++ c) (Some k.size)
 front_body phase u c m k =
@@ -131,7 +134,9 @@ whole_comes phase u c held m k e x =
     let s : length (drop (header_size phase) u ++ c) ≡ k.size = omega (arith, length-append (drop (header_size phase) u) c, k.rest) in
     let a : k.size ≤ length (drop (header_size phase) u ++ c) = omega arith in
     let b : length (drop (header_size phase) u ++ c) ≤ k.size = omega arith in
-    let P : List ℕ → Type 0 = λ v. HasBody phase v (drop (header_size phase) u ++ c) in
-    (drop (header_size phase) u ++ c, subst P (sym x) (body_kept phase u c k.header),
-     front_body phase u c m k
-     ∙ rw (le-ltb (length (drop (header_size phase) u ++ c)) k.size a, take_all k.size (drop (header_size phase) u ++ c) b, drop_all k.size (drop (header_size phase) u ++ c) b, x, header_kept phase u c k.header) refl)
+    let P : List ℕ → Type 0 = λ v. HasBody phase v (drop (header_size phase) u ++ c) in (
+      drop (header_size phase) u ++ c,
+      subst P (sym x) (body_kept phase u c k.header),
+      front_body phase u c m k
+          ∙ rw (le-ltb (length (drop (header_size phase) u ++ c)) k.size a, take_all k.size (drop (header_size phase) u ++ c) b, drop_all k.size (drop (header_size phase) u ++ c) b, x, header_kept phase u c k.header) refl,
+    )

@@ -73,7 +73,6 @@ wrong_magic = refl
 not_yet : (hear offer Flags (flags 3 ++ big_bytes 15 1)).unfinished ≡ big_bytes 15 1
 not_yet = refl
 
-
 -- option data over the longest ends the session at its header
 option_10_too_long : (hear offer Flags (flags 3 ++ option_head 10 65537)).phase ≡ Ended
 option_10_too_long = refl

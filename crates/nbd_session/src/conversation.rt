@@ -41,7 +41,14 @@ fn respond<E: Export, A: Allocator>(
             fixed_newstyle,
             no_zeroes,
         } => {
-            let next = answer_option(offer, fixed_newstyle, no_zeroes, u32_at(header, 8), body, out)?;
+            let next = answer_option(
+                offer,
+                fixed_newstyle,
+                no_zeroes,
+                u32_at(header, 8),
+                body,
+                out,
+            )?;
             Ok(next)
         }
         Phase::Transmission => answer_request(offer.size, header, export, out),

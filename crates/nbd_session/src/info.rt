@@ -9,7 +9,10 @@ ghost use Rattle.nbd_session.specs.Options.{block_size_info, block_size_reply, e
 ghost use Rattle.nbd_session.specs.Conversation.{Grows};
 
 use crate::offer::Offer;
-use crate::options::{NBD_REP_ACK, NBD_REP_ERR_INVALID, NBD_REP_ERR_UNKNOWN, NBD_REP_INFO, TRANSMISSION_FLAGS, means_export, reply};
+use crate::options::{
+    NBD_REP_ACK, NBD_REP_ERR_INVALID, NBD_REP_ERR_UNKNOWN, NBD_REP_INFO, TRANSMISSION_FLAGS,
+    means_export, reply,
+};
 use crate::transmission::MAX_LENGTH;
 use crate::wire::{u16_at, u32_at};
 use byteorder::{BigEndian, ByteOrder};
@@ -85,7 +88,12 @@ fn block_size_info(block: u32) -> [u8; 14]
 }
 
 /// Tells the block sizes, if they are asked for.
-fn tell_block_size<A: Allocator>(wanted: bool, block: u32, number: u32, out: &mut Vec<u8, A>) -> Result<(), AllocError>
+fn tell_block_size<A: Allocator>(
+    wanted: bool,
+    block: u32,
+    number: u32,
+    out: &mut Vec<u8, A>,
+) -> Result<(), AllocError>
     ensures ok { OnOk result (out.new.items ≡ out.old.items ++ block_size_reply wanted block number) }
     ensures err { OnErr result (Grows out.old.items out.new.items) }
 {
@@ -96,7 +104,12 @@ fn tell_block_size<A: Allocator>(wanted: bool, block: u32, number: u32, out: &mu
 }
 
 /// Answers data that parses and names the export.
-fn tell_export<A: Allocator>(offer: &Offer, number: u32, bytes: &[u8], out: &mut Vec<u8, A>) -> Result<(), AllocError>
+fn tell_export<A: Allocator>(
+    offer: &Offer,
+    number: u32,
+    bytes: &[u8],
+    out: &mut Vec<u8, A>,
+) -> Result<(), AllocError>
     requires { is_info_data bytes.now ≡ true }
     ensures ok { OnOk result (out.new.items ≡ out.old.items ++ known_replies offer.now number bytes.now) }
     ensures err { OnErr result (Grows out.old.items out.new.items) }
@@ -109,7 +122,12 @@ fn tell_export<A: Allocator>(offer: &Offer, number: u32, bytes: &[u8], out: &mut
 }
 
 /// Answers INFO and GO, and tells whether the export was named.
-pub fn answer_info<A: Allocator>(offer: &Offer, number: u32, bytes: &[u8], out: &mut Vec<u8, A>) -> Result<bool, AllocError>
+pub fn answer_info<A: Allocator>(
+    offer: &Offer,
+    number: u32,
+    bytes: &[u8],
+    out: &mut Vec<u8, A>,
+) -> Result<bool, AllocError>
     ensures named { IfOk result (λ named. named ≡ names_export offer.now bytes.now) }
     ensures ok { OnOk result (out.new.items ≡ out.old.items ++ info_replies offer.now number bytes.now) }
     ensures err { OnErr result (Grows out.old.items out.new.items) }

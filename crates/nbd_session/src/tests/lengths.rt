@@ -45,8 +45,14 @@ fn longest_option_is_answered_when_its_data_is_whole(rt: HostRuntime) -> Result<
     let alloc = rt.alloc();
     let input = spelled(alloc, "00000003 49484156454f5054 0000000a 00010000")?;
     let (before, last, status) = followed_by_zeros(alloc, &input, 65_536)?;
-    assert_eq!(rt; before.as_slice(), spelled(alloc, "4e42444d41474943 49484156454f5054 0003")?.as_slice());
-    assert_eq!(rt; last.as_slice(), spelled(alloc, "0003e889045565a9 0000000a 80000001 00000000")?.as_slice());
+    assert_eq!(rt;
+        before.as_slice(),
+        spelled(alloc, "4e42444d41474943 49484156454f5054 0003")?.as_slice()
+    );
+    assert_eq!(rt;
+        last.as_slice(),
+        spelled(alloc, "0003e889045565a9 0000000a 80000001 00000000")?.as_slice()
+    );
     assert_eq!(rt; status, Status::Open);
     Ok(())
 }
@@ -55,10 +61,16 @@ fn longest_option_is_answered_when_its_data_is_whole(rt: HostRuntime) -> Result<
 fn longest_write_is_refused_after_its_payload(rt: HostRuntime) -> Result<(), Fail> {
     let alloc = rt.alloc();
     let mut input = spelled(alloc, BEGIN)?;
-    input.extend_from_slice(&spelled(alloc, "25609513 0000 0001 0102030405060708 0000000000000000 02000000")?)?;
+    input.extend_from_slice(&spelled(
+        alloc,
+        "25609513 0000 0001 0102030405060708 0000000000000000 02000000",
+    )?)?;
     let (before, last, status) = followed_by_zeros(alloc, &input, 33_554_432)?;
     assert_eq!(rt; before.as_slice(), spelled(alloc, BEGUN)?.as_slice());
-    assert_eq!(rt; last.as_slice(), spelled(alloc, "67446698 00000001 0102030405060708")?.as_slice());
+    assert_eq!(rt;
+        last.as_slice(),
+        spelled(alloc, "67446698 00000001 0102030405060708")?.as_slice()
+    );
     assert_eq!(rt; status, Status::Open);
     Ok(())
 }
@@ -68,16 +80,32 @@ fn headers_end_a_session_with_their_last_byte(rt: HostRuntime) -> Result<(), Fai
     let alloc = rt.alloc();
     let headers = [
         ("unknown flags", "", "00000004"),
-        ("a wrong option magic", "00000003", "49484156454f5055 00000003 00000000"),
-        ("option data of 65,537 bytes", "00000003", "49484156454f5054 0000000a 00010001"),
-        ("a WRITE of 33,554,433 bytes", BEGIN, "25609513 0000 0001 0102030405060708 0000000000000000 02000001"),
+        (
+            "a wrong option magic",
+            "00000003",
+            "49484156454f5055 00000003 00000000",
+        ),
+        (
+            "option data of 65,537 bytes",
+            "00000003",
+            "49484156454f5054 0000000a 00010001",
+        ),
+        (
+            "a WRITE of 33,554,433 bytes",
+            BEGIN,
+            "25609513 0000 0001 0102030405060708 0000000000000000 02000001",
+        ),
     ];
     for (name, begin, header) in headers {
         let mut input = spelled(alloc, begin)?;
         input.extend_from_slice(&spelled(alloc, header)?)?;
         for end in 0..input.len() + 1 {
             let (_, status) = said(alloc, &input[..end], end, 1, None)?;
-            let expected = if end < input.len() { Status::Open } else { Status::Ended };
+            let expected = if end < input.len() {
+                Status::Open
+            } else {
+                Status::Ended
+            };
             assert_eq!(rt; status, expected, "{name}, {end} bytes of it");
         }
     }
@@ -88,16 +116,26 @@ fn headers_end_a_session_with_their_last_byte(rt: HostRuntime) -> Result<(), Fai
 fn payload_of_requests_is_skipped(rt: HostRuntime) -> Result<(), Fail> {
     let alloc = rt.alloc();
     let mut input = spelled(alloc, BEGIN)?;
-    input.extend_from_slice(&spelled(alloc, "25609513 0000 0001 0102030405060708 0000000000000000 00000258")?)?;
+    input.extend_from_slice(&spelled(
+        alloc,
+        "25609513 0000 0001 0102030405060708 0000000000000000 00000258",
+    )?)?;
     for _ in 0..150 {
         input.extend_from_slice(&spelled(alloc, "25609513")?)?;
     }
     input.extend_from_slice(&spelled(alloc, READ_LAST)?)?;
     let mut output = spelled(alloc, BEGUN)?;
-    output.extend_from_slice(&spelled(alloc, "67446698 00000001 0102030405060708 67446698 00000000 0102030405060708 5a")?)?;
+    output.extend_from_slice(&spelled(
+        alloc,
+        "67446698 00000001 0102030405060708 67446698 00000000 0102030405060708 5a",
+    )?)?;
     for (first, step) in [(input.len(), 1), (0, 1), (330, 1_000), (648, 28)] {
         let (out, status) = said(alloc, &input, first, step, None)?;
-        assert_eq!(rt; out.as_slice(), output.as_slice(), "cut at {first}, then by {step}");
+        assert_eq!(rt;
+            out.as_slice(),
+            output.as_slice(),
+            "cut at {first}, then by {step}"
+        );
         assert_eq!(rt; status, Status::Open);
     }
     Ok(())

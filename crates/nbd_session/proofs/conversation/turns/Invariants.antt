@@ -12,7 +12,7 @@ invariant-loop-done g l =
       within : l.done ≤ length l.piece;
       keeps : Keeps (facts l.fn.export) (facts l.export);
       form : IsInForm l.inbox;
-      moves : AppendsMove (facts l.fn.export) (facts l.export) l.offer l.fn.inbox l.inbox (take l.done l.piece) l.fn.out.items l.out.items
+      moves : AppendsMove (facts l.fn.export) (facts l.export) l.offer l.fn.inbox l.inbox (take l.done l.piece) l.fn.out.items l.out.items;
     }
 
 abbrev pub decreases-loop-done : goal.decreases-loop-done

@@ -15,9 +15,9 @@ returns-in-Err-clause-ok g c =
     let head = c.simple_reply-head.result in
     let whole : length c.overwrite_end.new.out ≡ c.read_at.new.out.len = c.overwrite_end.auto.out ∙ c.deref_mut.ensures.len in
     let shown : c.overwrite_end.new.out ≡ before ++ head =
-      c.overwrite_end.ensures
-      ∙ ap (λ (x : List ℕ). take c.len-start.result x ++ head) (c.deref_mut.ensures.value ∙ c.in-Err.ensures.unchanged ∙ c.in_ok-extend_from_slice-2.ensures.items)
-      ∙ ap (λ (x : List ℕ). x ++ head) (take_at before c.simple_reply-2.result c.len-start.result (search rules)) in
+    c.overwrite_end.ensures
+    ∙ ap (λ (x : List ℕ). take c.len-start.result x ++ head) (c.deref_mut.ensures.value ∙ c.in-Err.ensures.unchanged ∙ c.in_ok-extend_from_slice-2.ensures.items)
+    ∙ ap (λ (x : List ℕ). x ++ head) (take_at before c.simple_reply-2.result c.len-start.result (search rules)) in
     let back = take_at c.overwrite_end.new.out (drop (length c.overwrite_end.new.out) c.read_at.new.out.items) c.read_at.new.out.len whole in
     read_fails _ _ c.args.size c.error_number.result c.args.request.now before _ head c.in-Err.fault
     c.if-not-may_read.ensures c.if-request-eq0.false (back ∙ shown) c.error_number.ensures c.simple_reply-head.ensures (λ e. c.in-Err.ensures.io (ap Err e)) (λ e. c.in-Err.ensures.lack (ap Err e))
