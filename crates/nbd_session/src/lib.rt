@@ -2,8 +2,8 @@
 //!
 //! A session takes in what a client sends, in pieces of any size, and appends to an output what the server says.
 //! The protocol is that of the NBD project's `doc/proto.md`; its section names stand at each item. What a client
-//! may ask for is in the table of each file: [`handshake`] (the greeting and the client's flags), [`options`] and
-//! [`info`] ("Option haggling"), [`transmission`] (requests).
+//! may ask for is in the table of each file: `handshake` (the greeting and the client's flags), `options` and `info`
+//! ("Option haggling"), `transmission` (requests).
 //!
 //! # The contract
 //!
@@ -31,22 +31,22 @@
 //! see of an export), `Session` (what a feed ensures). `Vectors`, `Rows` and `Borders` check them by computation.
 #![tactic(auto)]
 
-pub mod conversation;
-pub mod export;
-pub mod fault;
-pub mod handshake;
-pub mod inbox;
-pub mod info;
+mod conversation;
+mod export;
+mod fault;
+mod handshake;
+mod inbox;
+mod info;
 pub mod laws;
-pub mod offer;
-pub mod options;
-pub mod phase;
-pub mod session;
-pub mod status;
+mod offer;
+mod options;
+mod phase;
+mod session;
+mod status;
 #[cfg(test)]
 mod tests;
-pub mod transmission;
-pub mod wire;
+mod transmission;
+mod wire;
 
 pub use export::{Export, ExportFault};
 pub use fault::SessionFault;
