@@ -1,21 +1,21 @@
 -- A feed, for every input that the session was at.
-use Rattle.std.proofs.Common.{◌≡◌, ◌≢◌, ◌↔◌, ℕ, Bool, true, false, List, [], ◌∷◌, ◌++◌, refl, sym, ap, ◌∙◌, subst, append_assoc, append-nil}
+use Rattle.std.proofs.Common.{◌≡◌, ◌≢◌, ◌↔◌, ℕ, Bool, true, false, List, [], ◌++◌, refl, sym, ap, ◌∙◌, subst, append_assoc, append-nil}
 use Rattle.nbd_session.specs.declared.phase.Phase.{Phase}
 use Rattle.nbd_session.specs.declared.phase.Phase.TheVariants.{Flags, Ended}
 use Rattle.nbd_session.specs.declared.inbox.Inbox.{Inbox}
 use Rattle.nbd_session.specs.declared.offer.Offer.{Offer}
 use Rattle.nbd_session.specs.Transmission.{Answer}
-use Rattle.nbd_session.specs.Messages.{Front, Partial, front}
+use Rattle.nbd_session.specs.Messages.{Partial, front}
 use Rattle.nbd_session.specs.Talk.{talk, Heard, Judged, hear, replies}
 use Rattle.nbd_session.specs.Export.{Facts, Fair, Keeps}
-use Rattle.nbd_session.specs.Conversation.{AppendsMove, Moves, Stands}
+use Rattle.nbd_session.specs.Conversation.{AppendsMove, Stands}
 use Rattle.nbd_session.specs.declared.status.Status.{Status}
 use Rattle.nbd_session.specs.declared.status.Status.TheVariants.{Starved}
 use Rattle.nbd_session.specs.declared.status.Status.TheVariants as status
 use Rattle.nbd_session.specs.Handshake.{greeting}
 use Rattle.nbd_session.specs.Session.{Feeds, Talked, IsAt, Reflects, State, TalksOn, added}
 use Rattle.nbd_session.specs.Inbox.{Waits, kept, missing_of}
-use Rattle.nbd_session.proofs.Hearing.{hear-append, go_on, Judged-append, Judged-weaker, replies-append}
+use Rattle.nbd_session.proofs.Hearing.{hear-append, Judged-append, Judged-weaker, replies-append}
 use Rattle.nbd_session.proofs.Moving.{Keeps-refl, counted_on, moves_ended, rest_partial, Fair-later, Fair-earlier}
 
 -- the model of a session with these fields

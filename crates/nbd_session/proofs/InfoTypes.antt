@@ -1,7 +1,7 @@
 -- The answers to options.
-use Rattle.std.proofs.Common.{◌≡◌, ℕ, zero, suc, ◌+◌, ◌-◌, ◌<◌, ◌||◌, eqb, Bool, true, false, List, [], ◌++◌, length, drop, refl, sym, ap, ◌∙◌, arith, append_assoc}
+use Rattle.std.proofs.Common.{◌≡◌, ℕ, zero, suc, ◌+◌, ◌-◌, ◌<◌, ◌||◌, List, [], ◌++◌, length, drop, sym, ap, ◌∙◌, arith, append_assoc}
 use Rattle.std.proofs.lemmas.List.{drop-drop}
-use Rattle.std.proofs.lemmas.Bool.{ne_eqb, eq-eqb}
+use Rattle.std.proofs.lemmas.Bool.{ne_eqb}
 use Rattle.byteorder.specs.Endian.{big_bytes}
 use Rattle.nbd_session.specs.declared.offer.Offer.{Offer}
 use Rattle.nbd_session.specs.Options.{list_replies, lists_type}
@@ -16,10 +16,6 @@ lists_next (suc k) kind place types h n =
     ap (λ b. b || lists_type k kind (drop 2 (drop place types))) (ne_eqb (number_at place 2 types) kind n)
     ∙ ap (lists_type k kind) (drop-drop 2 place types)
     ∙ ap (λ x. lists_type x kind (drop (place + 2) types)) (sym e)
-
-pub lists_now : (left kind place : ℕ) (types : List ℕ) → 0 < left → number_at place 2 types ≡ kind → lists_type left kind (drop place types) ≡ true
-lists_now zero kind place types h n = absurd (omega arith)
-lists_now (suc k) kind place types h n = ap (λ b. b || lists_type k kind (drop 2 (drop place types))) (eq-eqb (number_at place 2 types) kind n)
 
 -- one part after another
 pub two_parts : (o o1 o2 a b : List ℕ) → o1 ≡ o ++ a → o2 ≡ o1 ++ b → o2 ≡ o ++ (a ++ b)

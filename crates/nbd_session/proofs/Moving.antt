@@ -1,20 +1,20 @@
 -- What a session has said, piece after piece.
-use Rattle.std.proofs.Common.{◌≡◌, ℕ, ◌+◌, ◌-◌, ◌<◌, ◌≤◌, ◌⊎◌, List, [], ◌∷◌, ◌++◌, length, take, drop, Bool, zero, suc, inl, inr, refl, sym, ap, ◌∙◌, subst, arith, append_assoc, append-nil}
+use Rattle.std.proofs.Common.{◌≡◌, ℕ, ◌+◌, ◌-◌, ◌<◌, List, [], ◌∷◌, ◌++◌, length, take, drop, Bool, zero, suc, inl, inr, refl, sym, ap, ◌∙◌, subst, arith, append_assoc, append-nil}
 use Rattle.std.proofs.lemmas.Bool.{le-ltb}
 use Rattle.std.proofs.lemmas.List.{take_rest, take-take, drop-take, take-append-drop}
 use Rattle.nbd_session.specs.declared.phase.Phase.{Phase}
 use Rattle.nbd_session.specs.declared.phase.Phase.TheVariants.{Flags, Options, Transmission, Ended}
 use Rattle.nbd_session.specs.declared.inbox.Inbox.{Inbox}
 use Rattle.nbd_session.specs.declared.offer.Offer.{Offer}
-use Rattle.nbd_session.specs.Messages.{Front, Halt, Message, Partial, Whole, front, header_size, number_at}
+use Rattle.nbd_session.specs.Messages.{Front, Halt, Partial, Whole, front, header_size, number_at}
 use Rattle.nbd_session.specs.Transmission.{Answer, Asks, Says}
 use Rattle.nbd_session.specs.Answers.{answer, next_phase}
 use Rattle.nbd_session.specs.Options.{option_answer, phase_after_option}
-use Rattle.nbd_session.specs.Talk.{Bytes, Heard, Judged, Refused, Verdict, after_answer, hear, hear_front, read_reply, replies}
-use Rattle.nbd_session.specs.Export.{Counted, Facts, Failed, Fair, Keeps, Served, eios, is_eio}
+use Rattle.nbd_session.specs.Talk.{Bytes, Heard, Refused, Verdict, hear, hear_front, read_reply, replies}
+use Rattle.nbd_session.specs.Export.{Counted, Facts, Fair, Keeps, eios, is_eio}
 use Rattle.nbd_session.specs.Conversation.{Answered, AppendsMove, Moves, Stands, message_of}
 use Rattle.nbd_session.specs.Inbox.{Waits, HasBody}
-use Rattle.nbd_session.proofs.Hearing.{Shorter, front-shorter, hear-front, hear-ended, hear-append, go_on, behind, Judged-append, Judged-weaker, replies-append}
+use Rattle.nbd_session.proofs.Hearing.{Shorter, front-shorter, hear-front, hear-ended, hear-append, go_on, Judged-append, Judged-weaker, replies-append}
 
 -- verdicts of a part of the time are verdicts of the whole
 

@@ -1,10 +1,9 @@
 -- The answer to a READ.
-use Rattle.std.proofs.Common.{◌≡◌, ℕ, [], ◌+◌, ◌≤◌, Bool, true, false, not, ◌&&◌, cond, eqb, leb, ◌⊎◌, List, ◌++◌, inl, inr, refl, sym, ap, ◌∙◌, subst, append_assoc, arith}
-use Rattle.std.proofs.lemmas.Bool.{ne_eqb, leb-true, and_parts}
+use Rattle.std.proofs.Common.{◌≡◌, ℕ, [], true, not, cond, eqb, ◌⊎◌, List, ◌++◌, inl, inr, refl, sym, ap, ◌∙◌, subst, append_assoc}
+use Rattle.std.proofs.lemmas.Bool.{ne_eqb}
 use Rattle.nbd_session.specs.declared.transmission.Request.{Request}
 use Rattle.nbd_session.specs.Transmission.{Answer, Asks, Says, may_read, read_answer, request_answer, simple_reply}
-use Rattle.nbd_session.specs.Protocol.{max_length}
-use Rattle.nbd_session.specs.Talk.{Bytes, Refused, Verdict}
+use Rattle.nbd_session.specs.Talk.{Bytes, Refused}
 use Rattle.nbd_session.specs.Export.{Facts, Failed, Lacked, Served, error_number}
 use Rattle.nbd_session.specs.Conversation.{Answered, AppendsAnswer}
 use Rattle.nbd_session.specs.declared.export.ExportFault.{ExportFault}
@@ -15,10 +14,6 @@ read_asks : (size : ℕ) (r : Request) → true ≡ may_read size r → (r.len �
 read_asks size r h n =
     ap (λ t. cond (not t) (Says (simple_reply 22 r.cookie)) (cond (eqb r.len 0) (Says (simple_reply 0 r.cookie)) (Asks r.offset r.len r.cookie))) (sym h)
     ∙ ap (λ t. cond t (Says (simple_reply 0 r.cookie)) (Asks r.offset r.len r.cookie)) (ne_eqb r.len 0 n)
-
--- an allowed READ is inside
-pub read_inside : (size : ℕ) (r : Request) → true ≡ may_read size r → r.offset + r.len ≤ size
-read_inside size r h = leb-true (r.offset + r.len) size ((and_parts ((eqb r.flags 0) && leb r.len max_length) _ (sym h)).1)
 
 pub read_gives : (old new : Facts) (size : ℕ) (r : Request) (before mid after head bytes : List ℕ) → true ≡ may_read size r → (r.len ≡ 0 → ⊥)
     → mid ≡ before ++ head → head ≡ simple_reply 0 r.cookie → after ≡ mid ++ bytes → Served old new r.offset r.len bytes

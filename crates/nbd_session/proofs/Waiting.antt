@@ -1,10 +1,10 @@
 -- What an inbox keeps, and the front of the bytes that it stands for.
-use Rattle.std.proofs.Common.{◌≡◌, ℕ, zero, suc, ◌+◌, ◌-◌, ◌<◌, ◌≤◌, List, [], ◌∷◌, ◌++◌, length, take, drop, Option, Some, None, inl, inr, refl, sym, ap, ◌∙◌, subst, arith, append_assoc, length-append, length-drop, cond, ltb}
+use Rattle.std.proofs.Common.{◌≡◌, ℕ, ◌+◌, ◌-◌, ◌<◌, ◌≤◌, List, [], ◌++◌, length, take, drop, Option, Some, None, inl, inr, refl, sym, ◌∙◌, subst, arith, length-append, length-drop}
 use Rattle.std.proofs.lemmas.Bool.{cases_lt, lt-ltb, le-ltb}
-use Rattle.std.proofs.lemmas.List.{take_all, drop_all, take-append-le, drop-append-le, take-take, length-take-le}
+use Rattle.std.proofs.lemmas.List.{take_all, drop_all, take-append-le, drop-append-le, take-take}
 use Rattle.nbd_session.specs.declared.phase.Phase.{Phase}
 use Rattle.nbd_session.specs.declared.phase.Phase.TheVariants.{Flags, Options, Transmission, Ended}
-use Rattle.nbd_session.specs.Messages.{Front, Halt, Message, Partial, Whole, body_size, front, front_of, header_size}
+use Rattle.nbd_session.specs.Messages.{Partial, Whole, body_size, front, front_of, header_size}
 use Rattle.nbd_session.specs.Inbox.{kept, with_body, lacking, missing_of, HasBody}
 
 kept_short : (phase : Phase) (u : List ℕ) → length u ≤ header_size phase → kept phase u ≡ u

@@ -1,5 +1,5 @@
 -- The borders of the protocol's numbers, checked by computation: each at its border and one past it.
-use Rattle.std.specs.Prelude.{◌≡◌, ℕ, true, false, List, [], ◌∷◌, ◌++◌, length, replicate, refl}
+use Rattle.std.specs.Prelude.{◌≡◌, true, false, [], ◌∷◌, ◌++◌, replicate, refl}
 use Rattle.byteorder.specs.Endian.{big_bytes}
 use Rattle.nbd_session.specs.declared.phase.Phase.TheVariants.{Flags, Options, Transmission, Ended}
 use Rattle.nbd_session.specs.declared.offer.Offer.{Offer}

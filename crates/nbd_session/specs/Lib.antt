@@ -7,7 +7,7 @@ pub mod Answers
 pub mod Talk
 pub mod Export
 pub mod Session
-pub mod Faults
+pub mod Texts
 pub mod Inbox
 pub mod Conversation
 pub mod Requests

@@ -1,5 +1,5 @@
 -- What a client sends, for the worked conversations: an export of 8,704 bytes with blocks of 512 bytes under the name "vol".
-use Rattle.std.specs.Prelude.{ℕ, List, [], ◌∷◌, ◌++◌, length, codes}
+use Rattle.std.specs.Prelude.{ℕ, List, [], ◌++◌, length, codes}
 use Rattle.nbd_session.specs.declared.offer.Offer.{Offer}
 use Rattle.nbd_session.specs.Protocol.{ihaveopt, nbd_request_magic}
 use Rattle.nbd_session.specs.Handshake.{greeting}

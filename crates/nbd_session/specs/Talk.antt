@@ -1,9 +1,8 @@
 -- The whole conversation: what a server has said when a client has sent some input.
-use Rattle.std.specs.Prelude.{◌≡◌, ℕ, zero, suc, ◌⊎◌, List, [], ◌∷◌, ◌++◌, length}
+use Rattle.std.specs.Prelude.{ℕ, zero, suc, List, [], ◌∷◌, ◌++◌, length}
 use Rattle.nbd_session.specs.declared.phase.Phase.{Phase}
 use Rattle.nbd_session.specs.declared.phase.Phase.TheVariants.{Flags, Ended}
 use Rattle.nbd_session.specs.declared.offer.Offer.{Offer}
-use Rattle.nbd_session.specs.Protocol.{nbd_eio, nbd_enomem}
 use Rattle.nbd_session.specs.Messages.{Front, Partial, Whole, Halt, front}
 use Rattle.nbd_session.specs.Handshake.{greeting}
 use Rattle.nbd_session.specs.Transmission.{Answer, Says, Asks, simple_reply}

@@ -1,10 +1,9 @@
 -- The vectors of the wire, checked by computation: each reply written out byte by byte.
-use Rattle.std.specs.Prelude.{◌≡◌, ℕ, List, [], ◌∷◌, ◌++◌, length, replicate, refl}
+use Rattle.std.specs.Prelude.{◌≡◌, [], ◌∷◌, ◌++◌, refl}
 use Rattle.byteorder.specs.Endian.{big_bytes}
-use Rattle.nbd_session.specs.declared.phase.Phase.TheVariants.{Flags, Ended}
 use Rattle.nbd_session.specs.Handshake.{greeting}
-use Rattle.nbd_session.specs.Talk.{hear, talk, Bytes, Refused}
-use Rattle.nbd_session.specs.Requests.{vol, offer, flags, option_head, option, request, begin, begun}
+use Rattle.nbd_session.specs.Talk.{talk, Bytes}
+use Rattle.nbd_session.specs.Requests.{offer, flags, option, request, begin, begun}
 
 -- the greeting: NBDMAGIC, IHAVEOPT, fixed newstyle and no zeroes
 greets : talk offer [] [] ≡ big_bytes 18 0x4e42444d4147494349484156454f50540003

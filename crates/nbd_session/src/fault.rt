@@ -2,6 +2,7 @@
 
 ghost use Rattle.std.specs.Prelude.{Some};
 
+use std::error::Error;
 use std::fmt;
 
 /// A refusal of [`ExportName::new`](crate::ExportName::new) or [`Session::open`](crate::Session::open). Its text is its number.
@@ -14,9 +15,9 @@ pub enum SessionFault {
 }
 
 impl fmt::Display for SessionFault {
-    ghost use Rattle.nbd_session.specs.Faults.{fault_text};
+    ghost use Rattle.nbd_session.specs.Texts.{session_text};
 
-    ghost output = { λ fault. Some (fault_text fault) };
+    ghost output = { λ fault. Some (session_text fault) };
 
     fn fmt<W: fmt::Write>(&self, f: &mut fmt::Formatter<W>) -> fmt::Result {
         match self {
@@ -25,3 +26,5 @@ impl fmt::Display for SessionFault {
         }
     }
 }
+
+impl Error for SessionFault {}

@@ -1,9 +1,3 @@
-use Rattle.std.proofs.Common.{◌≡◌, ◌++◌, List, ℕ, sym, ap, ◌∙◌, subst}
-use Rattle.nbd_session.specs.declared.phase.Phase.{Phase}
-use Rattle.nbd_session.specs.Conversation.{Answered, message_of}
-use Rattle.nbd_session.specs.declared.offer.Offer.{Offer}
-use Rattle.nbd_session.specs.Answers.{answer, next_phase}
-use Rattle.nbd_session.specs.Messages.{header_size}
 use Rattle.nbd_session.proofs.Moving.{answers_option}
 use Rattle.nbd_session.proofs.conversation.respond.Goals as goal
 

@@ -1,12 +1,10 @@
-use Rattle.std.proofs.Common.{◌≡◌, ◌<◌, ◌≤◌, ◌++◌, List, ℕ, length, take, drop, [], sym, ap, ◌∙◌, subst, append-nil}
+use Rattle.std.proofs.Common.{◌++◌, List, ℕ, take, [], sym, ap, ◌∙◌, subst, append-nil}
 use Rattle.nbd_session.specs.declared.phase.Phase.{Phase}
 use Rattle.nbd_session.specs.declared.inbox.Progress.{Progress}
 use Rattle.nbd_session.specs.Talk.{hear}
-use Rattle.nbd_session.specs.Conversation.{Answered, AppendsMove, Stands, message_of}
-use Rattle.nbd_session.specs.declared.offer.Offer.{Offer}
+use Rattle.nbd_session.specs.Conversation.{Answered, Stands, message_of}
 use Rattle.nbd_session.specs.Answers.{answer, next_phase}
-use Rattle.nbd_session.specs.Messages.{header_size}
-use Rattle.nbd_session.specs.Inbox.{Waits, Progressed, HasBody}
+use Rattle.nbd_session.specs.Inbox.{Progressed}
 use Rattle.nbd_session.proofs.Moving.{Keeps-refl, stands_partial, stands_halt, stands_whole}
 use Rattle.nbd_session.proofs.conversation.turn.Goals as goal
 

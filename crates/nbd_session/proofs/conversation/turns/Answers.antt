@@ -1,7 +1,6 @@
-use Rattle.std.proofs.Common.{rules, ◌≡◌, ◌<◌, ◌≤◌, ◌++◌, ◌+◌, ◌-◌, List, ℕ, length, take, drop, [], sym, ap, ◌∙◌, subst, arith, append-nil, take-append-drop}
+use Rattle.std.proofs.Common.{List, ℕ, take, drop, [], sym, subst, arith, append-nil, take-append-drop}
 use Rattle.std.proofs.lemmas.Grind.{common_steps}
 use Rattle.nbd_session.specs.Conversation.{AppendsMove}
-use Rattle.nbd_session.specs.declared.offer.Offer.{Offer}
 use Rattle.nbd_session.proofs.Moving.{Keeps-refl, Keeps-trans, appends_on, moves_none, moves_ended, next_bytes}
 use Rattle.nbd_session.proofs.conversation.turns.Goals as goal
 

@@ -1,7 +1,6 @@
-use Rattle.std.proofs.Common.{◌≡◌, ◌≤◌, ◌-◌, length, take}
+use Rattle.std.proofs.Common.{◌≤◌, ◌-◌, length, take}
 use Rattle.nbd_session.specs.Export.{Keeps}
 use Rattle.nbd_session.specs.Conversation.{AppendsMove}
-use Rattle.nbd_session.specs.declared.offer.Offer.{Offer}
 use Rattle.nbd_session.specs.Inbox.{IsInForm}
 use Rattle.nbd_session.proofs.conversation.turns.Given as goal
 

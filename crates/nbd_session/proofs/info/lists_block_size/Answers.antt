@@ -1,4 +1,4 @@
-use Rattle.std.proofs.Common.{◌≡◌, ◌≤◌, ◌+◌, ◌-◌, ◌*◌, length, sym, ◌∙◌, arith}
+use Rattle.std.proofs.Common.{sym, ◌∙◌, arith}
 use Rattle.nbd_session.proofs.InfoTypes.{lists_next}
 use Rattle.nbd_session.proofs.info.lists_block_size.Goals as goal
 

@@ -1,4 +1,4 @@
-use Rattle.std.proofs.Common.{◌≡◌, ◌++◌, List, ℕ, length, sym, ap, ◌∙◌}
+use Rattle.std.proofs.Common.{◌++◌, ap, ◌∙◌}
 use Rattle.byteorder.specs.Endian.{big_bytes}
 use Rattle.nbd_session.specs.Options.{ack, block_size_reply, option_reply, transmission_flags}
 use Rattle.nbd_session.proofs.InfoTypes.{three_parts}

@@ -1,6 +1,4 @@
-use Rattle.std.proofs.Common.{◌≡◌, ◌++◌, List, ℕ, length, sym, ap, ◌∙◌}
-use Rattle.byteorder.specs.Endian.{big_bytes}
-use Rattle.nbd_session.specs.Protocol.{option_reply_magic}
+use Rattle.std.proofs.Common.{◌++◌, ap, ◌∙◌}
 use Rattle.nbd_session.proofs.InfoTypes.{two_parts}
 use Rattle.nbd_session.proofs.options.reply.Goals as goal
 

@@ -1,7 +1,4 @@
-use Rattle.std.proofs.Common.{◌≡◌, ◌++◌, List, ℕ, length, sym, ap, ◌∙◌}
-use Rattle.byteorder.specs.Endian.{big_bytes}
-use Rattle.nbd_session.specs.Options.{ack, block_size_reply, option_reply}
-use Rattle.nbd_session.specs.declared.offer.Offer.{Offer}
+use Rattle.std.proofs.Common.{◌∙◌}
 use Rattle.nbd_session.proofs.InfoTypes.{four_parts, name_told}
 use Rattle.nbd_session.proofs.options.tell_name.Goals as goal
 

@@ -4,7 +4,7 @@ use Rattle.nbd_session.proofs.tests.said.Given as goal
 abbrev pub invariant-loop-done : goal.invariant-loop-done
 invariant-loop-done l = record {
   within : l.done ≤ length l.rest;
-  size : l.session.offer.size ≡ length l.export.bytes.items
+  size : l.session.offer.size ≡ length l.export.bytes.items;
 }
 
 abbrev pub decreases-loop-done : goal.decreases-loop-done

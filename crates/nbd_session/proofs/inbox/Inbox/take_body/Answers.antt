@@ -1,8 +1,7 @@
-use Rattle.std.proofs.Common.{◌≡◌, ◌<◌, ◌≤◌, ◌++◌, ℕ, List, length, take, ◌+◌, ◌-◌, sym, ap, ◌∙◌, arith}
+use Rattle.std.proofs.Common.{◌≡◌, length, take, ◌-◌, ap, ◌∙◌, arith}
 use Rattle.std.proofs.lemmas.Grind.{common_steps}
 use Rattle.std.proofs.lemmas.List.{length-take-le}
-use Rattle.nbd_session.specs.Inbox.{Waits, kept, with_body}
-use Rattle.nbd_session.specs.Messages.{front, header_size}
+use Rattle.nbd_session.specs.Inbox.{with_body}
 use Rattle.nbd_session.proofs.Waiting.{Comes, comes, front_comes, missing_comes, kept_comes, whole_comes}
 use Rattle.nbd_session.proofs.inbox.Inbox.take_body.Goals as goal
 

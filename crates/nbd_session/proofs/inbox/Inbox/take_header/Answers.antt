@@ -1,8 +1,7 @@
-use Rattle.std.proofs.Common.{rules, ◌≡◌, ◌<◌, ◌≤◌, ◌++◌, ℕ, List, length, take, IfOk, ◌+◌, ◌-◌, Some, [], ◌∷◌, sym, ap, ◌∙◌, arith, refl, length-append}
+use Rattle.std.proofs.Common.{◌≡◌, ◌<◌, ◌++◌, length, take, Some, [], sym, ap, ◌∙◌, arith}
 use Rattle.std.proofs.lemmas.Grind.{common_steps}
 use Rattle.std.proofs.lemmas.List.{take_all}
-use Rattle.nbd_session.specs.Inbox.{IsInForm, LeavesForm, Progressed, Waits, kept}
-use Rattle.nbd_session.specs.Messages.{Front, Message, Whole, body_size, front, header_size}
+use Rattle.nbd_session.specs.Messages.{Whole, body_size, header_size}
 use Rattle.nbd_session.proofs.Waiting.{held_header, front_short, kept_before, missing_short, front_at, missing_at, kept_at, front_needs, no_body}
 use Rattle.nbd_session.proofs.inbox.Inbox.take_header.Goals as goal
 

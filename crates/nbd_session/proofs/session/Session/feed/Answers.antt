@@ -1,4 +1,3 @@
-use Rattle.std.proofs.Common.{ap, sym, ◌∙◌}
 use Rattle.nbd_session.proofs.Feeding.{feeds_ended, feeds_on}
 use Rattle.nbd_session.proofs.session.Session.feed.Goals as goal
 

@@ -3,6 +3,6 @@ use Rattle.std.specs.Prelude.{ℕ, List, codes}
 use Rattle.nbd_session.specs.declared.fault.SessionFault.{SessionFault}
 use Rattle.nbd_session.specs.declared.fault.SessionFault.TheVariants.{NameLength, NoMemory}
 
-abbrev pub fault_text : SessionFault → List ℕ
-fault_text NameLength = codes "P1"
-fault_text NoMemory = codes "P2"
+abbrev pub session_text : SessionFault → List ℕ
+session_text NameLength = codes "P1"
+session_text NoMemory = codes "P2"
