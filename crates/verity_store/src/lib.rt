@@ -7,8 +7,13 @@
 //!
 //! Its faults are S1 to S4 (`StoreFault`). A call answers S1 only where `failures` rose in it.
 //!
+//! Four stores: `MemStore` in memory and `FileStore` in a file, which are honest; `ScriptStore`, which gives what it was told to
+//! give, and `FailStore`, some of whose calls fail, which are for whoever wants to see what a layer above makes of them.
+//! `move_run` moves a run of blocks within any store.
+//!
 //! Definitions: `specs/Blocks.antt` (lists of blocks), `specs/Moves.antt` (runs that are moved), `specs/Stores.antt` (what
-//! calls leave of a store's facts), `specs/Texts.antt` (the texts).
+//! calls leave of a store's facts), `specs/Script.antt` and `specs/Failing.antt` (those two stores), `specs/RawFile.antt` (the
+//! bytes of a file), `specs/Texts.antt` (the texts).
 #![tactic(auto)]
 
 mod answer;
