@@ -1,0 +1,5 @@
+pub mod Superblock
+pub mod Reading
+pub mod Texts
+pub mod Laws
+pub mod Image

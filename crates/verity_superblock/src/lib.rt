@@ -1,0 +1,11 @@
+//! The superblock of a hash device, and the table line of a volume.
+#![tactic(auto)]
+
+mod faults;
+pub mod laws;
+mod start;
+mod superblock;
+
+pub use faults::{SuperFault, TableFault};
+pub use start::tree_start;
+pub use superblock::Superblock;
