@@ -9,7 +9,8 @@
 //! count rises by one. Its only errors are those of `Salt::new`.
 //!
 //! The definitions stand in `specs/`: `Hash` (salted digests), `Tree` (packing, rounds, root, tree),
-//! `Shape` (the tree in numbers). [`laws`] has what follows from them.
+//! `Rows` (the same by rows, and the block at a place), `Shape` (the tree in numbers). [`laws`] has
+//! what follows from them, and `specs/Laws` says it.
 #![tactic(auto)]
 
 mod algorithm;

@@ -1,0 +1,5 @@
+use Rattle.verity_digest.proofs.TreeLaws
+use Rattle.verity_digest.proofs.laws.names_digests.Goals as goal
+
+pub returns : goal.returns
+returns c = TreeLaws.names_digests

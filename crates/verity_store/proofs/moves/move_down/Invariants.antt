@@ -1,0 +1,16 @@
+use Rattle.std.proofs.Common.{◌≡◌, ℕ, ◌+◌, ◌-◌, ◌<◌, ◌≤◌, true, List, [], length, slice_index_or}
+use Rattle.verity_store.specs.Moves.{IsMoved, ChangesWithin}
+use Rattle.verity_store.proofs.moves.move_down.Given as goal
+
+abbrev pub invariant-loop-i : goal.invariant-loop-i
+invariant-loop-i g l =
+    record {
+      moved : g.S.BlockStore.tells l.initial.store ≡ true → IsMoved l.from l.to l.i (g.S.BlockStore.content l.initial.store) (g.S.BlockStore.content l.store);
+      others : ChangesWithin l.to l.i (g.S.BlockStore.content l.initial.store) (g.S.BlockStore.content l.store);
+      tells : g.S.BlockStore.tells l.store ≡ g.S.BlockStore.tells l.initial.store;
+      size : g.S.BlockStore.size l.store ≡ g.S.BlockStore.size l.initial.store;
+      room : g.S.BlockStore.room l.store ≡ g.S.BlockStore.room l.initial.store;
+      failures : g.S.BlockStore.failures l.store ≡ g.S.BlockStore.failures l.initial.store;
+      reads : g.S.BlockStore.reads l.store ≡ g.S.BlockStore.reads l.initial.store + l.i;
+      gave : (k : ℕ) (b : List ℕ) → g.S.BlockStore.gave l.initial.store k b → g.S.BlockStore.gave l.store k b;
+    }

@@ -1,0 +1,4 @@
+pub mod Blocks
+pub mod Moves
+pub mod Stores
+pub mod Texts

@@ -1,0 +1,134 @@
+//! What is asked of a block store.
+ghost use Rattle.std.specs.Prelude.{◌≡◌, ◌≢◌, ℕ, ◌+◌, ◌^◌, ◌<◌, ◌≤◌, Bool, true, List, [], length, slice_index_or, slice_set, OnOk, OnErr, IfErr};
+ghost use Rattle.verity_profile.specs.Profile.{IsBlockSize, AllSized};
+ghost use Rattle.verity_store.specs.Blocks.{resized, ResizedToward, ChangesAt};
+
+use crate::StoreFault;
+
+/// A list of blocks of one size, which may fail and need not be honest.
+///
+/// The size is one of the profile and never changes. Each call is at most one access to the device.
+pub trait BlockStore {
+    /// The bytes of a block.
+    ghost size: { Self → ℕ };
+
+    /// The blocks that the store holds.
+    ghost content: { Self → List (List ℕ) };
+
+    /// A read that succeeds gives the block of `content`, and a write that succeeds puts it there.
+    ghost tells: { Self → Bool };
+
+    /// The block was given by a read of this number.
+    ghost gave: { Self → ℕ → List ℕ → Type 0 };
+
+    /// How often the device failed.
+    ghost failures: { Self → ℕ };
+
+    /// How many reads were asked for.
+    ghost reads: { Self → ℕ };
+
+    /// Up to how many blocks `set_len` is not refused for memory.
+    ghost room: { Self → ℕ };
+
+    /// The bytes of a block.
+    fn block_size(&self) -> usize
+        ensures value { result ≡ size self.now }
+        ensures profile { IsBlockSize result }
+        ensures blocks { AllSized result (content self.now) };
+
+    /// How many blocks there are.
+    fn len(&self) -> u64
+        ensures { result ≡ length (content self.now) };
+
+    /// Reads block `n` into `out`, which has the bytes of a block.
+    ///
+    /// S1 where the device failed; `out` may then hold anything. The read is counted in either case.
+    fn read(&mut self, n: u64, out: &mut [u8]) -> Result<(), StoreFault>
+        requires within { n < length (content self.old) }
+        requires sized { length out.old ≡ size self.old }
+        ensures given { OnOk result (gave self.new n out.new) }
+        ensures right { OnOk result (tells self.old ≡ true → slice_index_or (content self.old) n [] ≡ out.new) }
+        ensures error { IfErr result (λ e. e ≡ StoreFault.Device) }
+        ensures failed { OnErr result (failures self.old < failures self.new) }
+        ensures unfailed { OnOk result (failures self.new ≡ failures self.old) }
+        ensures failures { failures self.old ≤ failures self.new }
+        ensures counted { reads self.new ≡ reads self.old + 1 }
+        ensures content { content self.new ≡ content self.old }
+        ensures gave { (k : ℕ) (b : List ℕ) → gave self.old k b → gave self.new k b }
+        ensures tells { tells self.new ≡ tells self.old }
+        ensures size { size self.new ≡ size self.old }
+        ensures room { room self.new ≡ room self.old };
+
+    /// Writes `block`, which has the bytes of a block, to block `n`.
+    ///
+    /// S1 where the device failed; block `n` may then hold anything. No other block changes.
+    fn write(&mut self, n: u64, block: &[u8]) -> Result<(), StoreFault>
+        requires within { n < length (content self.old) }
+        requires sized { length block.now ≡ size self.old }
+        ensures written { OnOk result (tells self.old ≡ true → content self.new ≡ slice_set (content self.old) n block.now) }
+        ensures others { ChangesAt n (content self.old) (content self.new) }
+        ensures blocks { AllSized (size self.old) (content self.old) → AllSized (size self.old) (content self.new) }
+        ensures error { IfErr result (λ e. e ≡ StoreFault.Device) }
+        ensures failed { OnErr result (failures self.old < failures self.new) }
+        ensures unfailed { OnOk result (failures self.new ≡ failures self.old) }
+        ensures failures { failures self.old ≤ failures self.new }
+        ensures reads { reads self.new ≡ reads self.old }
+        ensures gave { (k : ℕ) (b : List ℕ) → gave self.old k b → gave self.new k b }
+        ensures tells { tells self.new ≡ tells self.old }
+        ensures size { size self.new ≡ size self.old }
+        ensures room { room self.new ≡ room self.old };
+
+    /// Makes room for `blocks` blocks, so that `set_len` to as many is not refused for memory. No block changes.
+    ///
+    /// S3 where memory was refused, which it is only where there was no such room before.
+    fn reserve(&mut self, blocks: u64) -> Result<(), StoreFault>
+        requires { blocks ≤ 2 ^ 41 }
+        ensures reserved { OnOk result (blocks ≤ room self.new) }
+        ensures needed { OnErr result (room self.old < blocks) }
+        ensures error { IfErr result (λ e. e ≡ StoreFault.NoMemory) }
+        ensures failures { failures self.new ≡ failures self.old }
+        ensures reads { reads self.new ≡ reads self.old }
+        ensures content { content self.new ≡ content self.old }
+        ensures gave { (k : ℕ) (b : List ℕ) → gave self.old k b → gave self.new k b }
+        ensures tells { tells self.new ≡ tells self.old }
+        ensures size { size self.new ≡ size self.old }
+        ensures room { room self.old ≤ room self.new };
+
+    /// Cuts the store to `blocks` blocks, or fills it up to as many with zero blocks.
+    ///
+    /// S1 where the device failed; S3 where memory was refused, which it is only past `room`. The blocks that are in both
+    /// lengths stay in any case, and after a refusal the store has either length or one between.
+    fn set_len(&mut self, blocks: u64) -> Result<(), StoreFault>
+        requires { blocks ≤ 2 ^ 41 }
+        ensures done { OnOk result (content self.new ≡ resized (size self.old) blocks (content self.old)) }
+        ensures partly { ResizedToward (size self.old) blocks (content self.old) (content self.new) }
+        ensures blocks { AllSized (size self.old) (content self.old) → AllSized (size self.old) (content self.new) }
+        ensures error { IfErr result (λ e. e ≢ StoreFault.Device → (e ≡ StoreFault.NoMemory) × (room self.old < blocks)) }
+        ensures failed { result ≡ Err StoreFault.Device → failures self.old < failures self.new }
+        ensures refused { result ≡ Err StoreFault.NoMemory → failures self.new ≡ failures self.old }
+        ensures unfailed { OnOk result (failures self.new ≡ failures self.old) }
+        ensures failures { failures self.old ≤ failures self.new }
+        ensures reads { reads self.new ≡ reads self.old }
+        ensures gave { (k : ℕ) (b : List ℕ) → gave self.old k b → gave self.new k b }
+        ensures tells { tells self.new ≡ tells self.old }
+        ensures size { size self.new ≡ size self.old }
+        ensures room { room self.old ≤ room self.new };
+
+    /// Asks the device to keep what was written. No block changes.
+    ///
+    /// S1 where the device failed. No contract can say that what was written outlives a stop.
+    fn sync(&mut self) -> Result<(), StoreFault>
+        ensures error { IfErr result (λ e. e ≡ StoreFault.Device) }
+        ensures failed { OnErr result (failures self.old < failures self.new) }
+        ensures unfailed { OnOk result (failures self.new ≡ failures self.old) }
+        ensures failures { failures self.old ≤ failures self.new }
+        ensures reads { reads self.new ≡ reads self.old }
+        ensures content { content self.new ≡ content self.old }
+        ensures gave { (k : ℕ) (b : List ℕ) → gave self.old k b → gave self.new k b }
+        ensures tells { tells self.new ≡ tells self.old }
+        ensures size { size self.new ≡ size self.old }
+        ensures room { room self.new ≡ room self.old };
+
+    /// What was given are blocks.
+    ghost gave_sized: { (s : Self) (n : ℕ) (b : List ℕ) → gave s n b → length b ≡ size s };
+}
