@@ -1,5 +1,8 @@
 //! What follows from the definitions, for the layers above.
-ghost use Rattle.verity_superblock.specs.Laws.{ReadsBack, Determines, RefusesTheRest};
+ghost use Rattle.std.specs.Prelude.{ℕ, List, length};
+ghost use Rattle.verity_profile.specs.Profile.{AllSized};
+ghost use Rattle.verity_superblock.specs.Superblock.{Params, IsProfile};
+ghost use Rattle.verity_superblock.specs.Laws.{ReadsBack, Determines, RefusesTheRest, IsInBlocks};
 
 /// A superblock has 512 bytes, and reads as what it was made from, whatever follows it.
 pub fn reads_back()
@@ -14,4 +17,10 @@ pub fn determines()
 /// `decode` refuses nothing that reads as a volume of the profile, and all else.
 pub fn refuses_the_rest()
     ensures { RefusesTheRest }
+{}
+
+/// A hash device is whole blocks: those in front, the superblock's, and the tree's. A store whose bytes
+/// are the device's holds these blocks and no other.
+pub fn is_in_blocks()
+    ensures { (p : Params) (image front : List (List ℕ)) → IsProfile p (length image) → AllSized p.hash_block_size front → IsInBlocks p image front }
 {}
