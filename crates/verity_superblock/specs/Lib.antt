@@ -3,3 +3,4 @@ pub mod Reading
 pub mod Texts
 pub mod Laws
 pub mod Image
+pub mod Line

@@ -3,6 +3,7 @@
 
 mod faults;
 pub mod laws;
+mod line;
 mod start;
 mod superblock;
 
