@@ -5,3 +5,5 @@ pub mod Blocks
 pub mod Readings
 pub mod Splits
 pub mod Tests
+pub mod LineReads
+pub mod Canonical

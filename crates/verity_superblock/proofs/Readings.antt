@@ -74,11 +74,11 @@ ok_not_err r e h ok = let clash = subst (λ x. IsOk x) h ok in cc
 
 -- ---- numbers
 
-all_ascii_digits-list_all : (digits : List ℕ) → all_ascii_digits digits ≡ list_all is_ascii_digit digits
+pub all_ascii_digits-list_all : (digits : List ℕ) → all_ascii_digits digits ≡ list_all is_ascii_digit digits
 all_ascii_digits-list_all [] = refl
 all_ascii_digits-list_all (d ∷ digits) = ap (λ rest. is_ascii_digit d && rest) (all_ascii_digits-list_all digits)
 
-abbrev own : IsNumeralModel (λ ds. all_ascii_digits ds ≡ true) (digits_value 10)
+abbrev pub own : IsNumeralModel (λ ds. all_ascii_digits ds ≡ true) (digits_value 10)
 own = numerals_by_value (λ ds. all_ascii_digits ds ≡ true) tells_all_ascii_digits
 
 pub record IsNumeralText (digits : List ℕ) : Type 0 where

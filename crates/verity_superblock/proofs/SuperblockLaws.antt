@@ -51,7 +51,7 @@ determines = record { params = params-determined; count = λ bytes p q n m r s. 
 -- ---- what is refused
 
 -- the algorithm of a name that is one of the two
-algorithm_named : (name : List ℕ) → (is_text name (name_of Sha256) || is_text name (name_of Sha512)) ≡ true → (a : Algorithm) × (name ≡ name_of a)
+pub algorithm_named : (name : List ℕ) → (is_text name (name_of Sha256) || is_text name (name_of Sha512)) ≡ true → (a : Algorithm) × (name ≡ name_of a)
 algorithm_named name h = elim (or_cases (is_text name (name_of Sha256)) (is_text name (name_of Sha512)) h) [
   | inl first ↦ (Sha256, same_text name (name_of Sha256) (sym first))
   | inr second ↦ (Sha512, same_text name (name_of Sha512) (sym second))

@@ -53,6 +53,11 @@ two-none true true x y h = (refl, refl)
 two-none true false x y h = cc
 two-none false b x y h = cc
 
+pub two-taken : {F : Type 0} (a b : Bool) (x y : F) → a ≡ true → b ≡ true → None ≡ (if not a then Some x else if not b then Some y else None)
+two-taken true true x y ha hb = refl
+two-taken true false x y ha hb = cc
+two-taken false b x y ha hb = cc
+
 pub one-none : {F : Type 0} (a : Bool) (x : F) → None ≡ (if not a then Some x else None) → a ≡ true
 one-none true x h = refl
 one-none false x h = cc

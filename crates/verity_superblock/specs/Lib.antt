@@ -4,3 +4,4 @@ pub mod Texts
 pub mod Laws
 pub mod Image
 pub mod Line
+pub mod LineLaws

@@ -153,11 +153,11 @@ line_refusal text = option_or (shape_refusal text)
     (option_or (digest_refusal (field text 7) (field text 8)) (salt_refusal (field text 9))))
 
 -- of values
-abbrev pub values_refusal : TableLine → Option TableFault
-values_refusal t =
-    if not (is_path t.dev && is_path t.hash_dev) then Some fault.Fields
-    else if not (is_block_size t.data_block_size && is_block_size t.hash_block_size) then Some fault.Size
-    else if not (is_block_count t.data_blocks && nat_le t.hash_start_block (2 ^ 40)) then Some fault.Count
+abbrev pub values_refusal : List ℕ → List ℕ → ℕ → ℕ → ℕ → ℕ → Option TableFault
+values_refusal dev hash_dev data_size hash_size count start =
+    if not (is_path dev && is_path hash_dev) then Some fault.Fields
+    else if not (is_block_size data_size && is_block_size hash_size) then Some fault.Size
+    else if not (is_block_count count && nat_le start (2 ^ 40)) then Some fault.Count
     else None
 
 -- the algorithm of a digest, by its size

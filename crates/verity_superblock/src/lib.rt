@@ -6,7 +6,9 @@ pub mod laws;
 mod line;
 mod start;
 mod superblock;
+mod table;
 
 pub use faults::{SuperFault, TableFault};
 pub use start::tree_start;
 pub use superblock::Superblock;
+pub use table::Table;

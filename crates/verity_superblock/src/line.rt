@@ -36,6 +36,7 @@ fn no_field_is_empty(text: &str) -> bool
 }
 
 /// The ten fields of a table line, but for its version.
+#[derive(Clone, Copy)]
 pub(crate) struct Fields<'a> {
     pub(crate) dev: &'a str,
     pub(crate) hash_dev: &'a str,

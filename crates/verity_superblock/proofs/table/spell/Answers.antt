@@ -1,0 +1,4 @@
+use Rattle.verity_superblock.proofs.table.spell.Goals as goal
+
+pub returns : goal.returns
+returns g c = ?
