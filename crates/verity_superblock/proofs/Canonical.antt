@@ -1,12 +1,12 @@
 -- The canonical spelling of a table line, and the laws of table lines.
-use Rattle.std.proofs.Common.{◌≡◌, ◌≢◌, ℕ, ◌+◌, ◌*◌, ◌^◌, ◌<◌, ◌≤◌, ◌==◌, Bool, true, false, List, [], ◌∷◌, ◌++◌, length, nat_lt, Option, Some, None, Result, Ok, Err, refl, sym, ap, ◌∙◌, arith, lit<, subst, ◌⊎◌, inl, inr}
+use Rattle.std.proofs.Common.{append_assoc, ◌≡◌, ◌≢◌, ℕ, ◌+◌, ◌*◌, ◌^◌, ◌<◌, ◌≤◌, ◌==◌, Bool, true, false, List, [], ◌∷◌, ◌++◌, length, nat_lt, Option, Some, None, Result, Ok, Err, refl, sym, ap, ◌∙◌, arith, lit<, subst, ◌⊎◌, inl, inr}
 use Rattle.std.specs.Prelude.{not, ◌&&◌, ◌||◌, nat_le, codes, if◌then◌else◌, slice_index_or, ◌↔◌}
 use Rattle.std.specs.List.{All, AllPass, list_all, join_with_byte}
 use Rattle.std.specs.Char.{is_ascii_digit}
 use Rattle.std.specs.Fmt.{decimal}
 use Rattle.std.specs.Str.{all_ascii_digits}
 use Rattle.std.specs.Str.Parse.{digits_value}
-use Rattle.std.proofs.lemmas.Bool.{and_from, and_parts, eq-eqb, lt-ltb, le-leb, ne_eqb, false_from_ne_true, ltb-true}
+use Rattle.std.proofs.lemmas.Bool.{and_from, and_parts, eq-eqb, lt-ltb, le-leb, ne_eqb, false_from_ne_true, ltb-true, leb-true}
 use Rattle.std.proofs.lemmas.Fmt.{digits_decimal, digits_value-decimal, length-decimal-le, decimal_nonempty}
 use Rattle.std.proofs.lemmas.List.Elements.{All-nil, All-cons, All-get_or, All-from_get_or}
 use Rattle.std.proofs.lemmas.List.Sums.{AllPass-from_list_all, list_all-from_AllPass}
@@ -17,12 +17,12 @@ use Rattle.verity_digest.specs.declared.algorithm.Algorithm.TheVariants.{Sha256,
 use Rattle.verity_digest.specs.Hash.{name_of, size_of}
 use Rattle.verity_profile.proofs.Bounds.{block_size_high, block_count_high}
 use Rattle.verity_superblock.specs.Reading.{is_text}
-use Rattle.verity_superblock.specs.Line.{TableLine, IsTableLine, Line, IsNumber, IsSaltOf, fields_of, field, has_ten_fields, is_path, is_number, number, salt_text, canonical, line_refusal, is_salt, algorithm_of}
+use Rattle.verity_superblock.specs.Line.{TableLine, IsTableLine, Line, IsNumber, IsSaltOf, fields_of, field, has_ten_fields, is_path, is_number, number, salt_text, canonical, line_refusal, is_salt, algorithm_of, values_refusal}
 use Rattle.verity_superblock.specs.LineLaws.{SpellsBack, DeterminesLine, RefusesOtherLines}
 use Rattle.verity_superblock.proofs.Readings.{parts-is_number, own, all_ascii_digits-list_all, numbers-taken, root-taken, ok_from}
 use Rattle.verity_superblock.proofs.Splits.{HasNoSpace, fields_of-joined, list_all-no_space, field-is_path}
 use Rattle.verity_superblock.proofs.LineReads.{same_line, at_place, no_refusal, line-said, root-read, salt-read, salt-is, line_refusal-taken}
-use Rattle.verity_superblock.proofs.Tests.{one-taken, two-taken}
+use Rattle.verity_superblock.proofs.Tests.{one-taken, two-taken, three-none}
 use Rattle.verity_superblock.proofs.Refusals.{text_true}
 use Rattle.verity_superblock.specs.declared.faults.TableFault.TheVariants as fault
 use Rattle.verity_profile.specs.Profile.{is_block_size, is_block_count}
@@ -208,3 +208,41 @@ none_where_line text t line =
 
 pub refuses_other_lines : RefusesOtherLines
 refuses_other_lines text = (line_where_none text, λ line. none_where_line text line.0 line.1)
+
+-- the fields joined by threes and fours are the fields joined
+by_threes : (a b c d e f g h i j : List ℕ)
+    → join_with_byte 32 (join_with_byte 32 (a ∷ b ∷ c ∷ []) ∷ join_with_byte 32 (d ∷ e ∷ f ∷ g ∷ []) ∷ join_with_byte 32 (h ∷ i ∷ j ∷ []) ∷ [])
+    ≡ join_with_byte 32 (a ∷ b ∷ c ∷ d ∷ e ∷ f ∷ g ∷ h ∷ i ∷ j ∷ [])
+by_threes a b c d e f g h i j = simp append_assoc
+
+-- what spells these values
+pub spelt-from : (t : TableLine) (paths numbers digests : List ℕ)
+    → paths ≡ join_with_byte 32 (codes "1" ∷ t.dev ∷ t.hash_dev ∷ [])
+    → numbers ≡ join_with_byte 32 (decimal t.data_block_size ∷ decimal t.hash_block_size ∷ decimal t.data_blocks ∷ decimal t.hash_start_block ∷ [])
+    → digests ≡ join_with_byte 32 (name_of t.algorithm ∷ encode_lower t.root ∷ salt_text t.salt ∷ [])
+    → join_with_byte 32 (paths ∷ numbers ∷ digests ∷ []) ≡ canonical t
+spelt-from t paths numbers digests e1 e2 e3 =
+    ap (λ (x : List ℕ). join_with_byte 32 (x ∷ numbers ∷ digests ∷ [])) e1
+    ∙ ap (λ (x : List ℕ). join_with_byte 32 (join_with_byte 32 (codes "1" ∷ t.dev ∷ t.hash_dev ∷ []) ∷ x ∷ digests ∷ [])) e2
+    ∙ ap (λ (x : List ℕ). join_with_byte 32 (join_with_byte 32 (codes "1" ∷ t.dev ∷ t.hash_dev ∷ [])
+        ∷ join_with_byte 32 (decimal t.data_block_size ∷ decimal t.hash_block_size ∷ decimal t.data_blocks ∷ decimal t.hash_start_block ∷ []) ∷ x ∷ [])) e3
+    ∙ by_threes (codes "1") t.dev t.hash_dev (decimal t.data_block_size) (decimal t.hash_block_size) (decimal t.data_blocks) (decimal t.hash_start_block) (name_of t.algorithm) (encode_lower t.root) (salt_text t.salt)
+
+-- values of which none is refused
+pub record ValuesFit (dev hash_dev : List ℕ) (data_size hash_size blocks begin : ℕ) : Type 0 where
+  pub paths : (is_path dev ≡ true) × (is_path hash_dev ≡ true)
+  pub sizes : (is_block_size data_size ≡ true) × (is_block_size hash_size ≡ true)
+  pub count : is_block_count blocks ≡ true
+  pub near : begin ≤ 2 ^ 40
+
+pub values_refusal-none : (dev hash_dev : List ℕ) (data_size hash_size blocks begin : ℕ) → None ≡ values_refusal dev hash_dev data_size hash_size blocks begin → ValuesFit dev hash_dev data_size hash_size blocks begin
+values_refusal-none dev hash_dev data_size hash_size blocks begin h =
+    let all = three-none (is_path dev && is_path hash_dev) (is_block_size data_size && is_block_size hash_size) (is_block_count blocks && nat_le begin (2 ^ 40))
+        fault.Fields fault.Size fault.Count h in
+    let counts = and_parts (is_block_count blocks) (nat_le begin (2 ^ 40)) all.third in
+    record {
+      paths = and_parts (is_path dev) (is_path hash_dev) all.first;
+      sizes = and_parts (is_block_size data_size) (is_block_size hash_size) all.second;
+      count = counts.0;
+      near = leb-true begin (2 ^ 40) counts.1;
+    }

@@ -1,10 +1,13 @@
 //! The table line of a volume.
-ghost use Rattle.std.specs.Prelude.{◌≡◌, ◌^◌, ◌≤◌, IsOkUnless, IfOk, MatchOption, string_bytes, length};
+ghost use Rattle.std.specs.Prelude.{◌≡◌, ◌^◌, ◌≤◌, ◌∷◌, [], codes, IsOkUnless, IfOk, MatchOption, string_bytes, length};
 ghost use Rattle.verity_profile.specs.Profile.{IsBlockSize, IsBlockCount};
 ghost use Rattle.verity_superblock.specs.Line.{IsTableLine, Line, canonical, line_refusal, values_refusal, salt_text, algorithm_of};
+ghost use Rattle.hex.specs.Hex.{IsBytes};
 ghost use Rattle.std.specs.Result.{result_err};
+ghost use Rattle.std.specs.List.{join_with_byte};
+ghost use Rattle.std.specs.Fmt.{decimal};
 
-use crate::line::{FARTHEST_START, path_fits, read_fields, read_numbers, read_root, read_salt};
+use crate::line::{FARTHEST_START, Numbers, path_fits, read_fields, read_numbers, read_root, read_salt};
 use crate::TableFault;
 use std::alloc::{AllocError, Allocator, Global};
 use std::marker::Model;
@@ -103,9 +106,9 @@ impl<A: Allocator + Copy> Table<A> {
         ensures refused { MatchOption (values_refusal dev.now hash_dev.now data_size hash_size blocks start) (IsOkUnless result TableFault.NoMemory) (λ fault. result ≡ Err fault) }
     {
         check_values(dev, hash_dev, data_size, hash_size, blocks, start)?;
-        let _root = root.bytes();
-        let _algorithm = root.algorithm();
-        let _salt = salt.bytes();
+        are_bytes(root.bytes());
+        are_bytes(salt.bytes());
+        let _sized = root.algorithm();
         let Ok(dev) = String::from_str(alloc, dev) else {
             return Err(TableFault::NoMemory);
         };
@@ -230,20 +233,50 @@ fn check_values(dev: &str, hash_dev: &str, data_size: usize, hash_size: usize, b
     Ok(())
 }
 
+/// The items of a slice of bytes are bytes: numbers below 256.
+fn are_bytes(bytes: &[u8])
+    ensures { IsBytes bytes.now }
+{
+    let _ = bytes;
+}
+
 /// The canonical spelling of a table line.
 fn spell<A: Allocator + Copy>(alloc: A, table: &Table<A>) -> Result<String<A>, AllocError>
     ensures { IfOk result (λ s. string_bytes s ≡ canonical table.now) }
 {
-    let dev = table.dev();
-    let hash_dev = table.hash_dev();
-    let data_block_size = table.data_block_size();
-    let hash_block_size = table.hash_block_size();
-    let data_blocks = table.data_blocks();
-    let start = table.hash_start_block();
-    let algorithm = table.algorithm().name();
+    let numbers = Numbers {
+        data_block_size: table.data_block_size(),
+        hash_block_size: table.hash_block_size(),
+        data_blocks: table.data_blocks(),
+        hash_start_block: table.hash_start_block(),
+    };
     let root = hex::encode(alloc, table.root().bytes())?;
     let salt = spell_salt(alloc, table.salt())?;
-    format!(in alloc; "1 {dev} {hash_dev} {data_block_size} {hash_block_size} {data_blocks} {start} {algorithm} {root} {salt}")
+    let paths = join_three(alloc, "1", table.dev(), table.hash_dev())?;
+    let numbers = join_numbers(alloc, numbers)?;
+    let digests = join_three(alloc, table.algorithm().name(), root.as_str(), salt.as_str())?;
+    join_three(alloc, paths.as_str(), numbers.as_str(), digests.as_str())
+}
+
+/// Three texts, apart by one space each.
+fn join_three<A: Allocator>(alloc: A, first: &str, second: &str, third: &str) -> Result<String<A>, AllocError>
+    ensures { IfOk result (λ s. string_bytes s ≡ join_with_byte 32 (first.now ∷ second.now ∷ third.now ∷ [])) }
+{
+    format!(in alloc; "{first} {second} {third}")
+}
+
+/// The four numbers of a table line, apart by one space each.
+fn join_numbers<A: Allocator>(alloc: A, numbers: Numbers) -> Result<String<A>, AllocError>
+    ensures {
+        IfOk result (λ s. string_bytes s ≡ join_with_byte 32 (
+            decimal numbers.data_block_size ∷ decimal numbers.hash_block_size ∷ decimal numbers.data_blocks ∷ decimal numbers.hash_start_block ∷ []))
+    }
+{
+    let data_size = numbers.data_block_size;
+    let hash_size = numbers.hash_block_size;
+    let blocks = numbers.data_blocks;
+    let start = numbers.hash_start_block;
+    format!(in alloc; "{data_size} {hash_size} {blocks} {start}")
 }
 
 /// The canonical spelling of a salt.
