@@ -46,9 +46,9 @@ path-field path h =
 spaceless-pass : (p : ℕ → Bool) (xs : List ℕ) → p 32 ≡ false → AllPass p xs → HasNoSpace xs
 spaceless-pass p xs space all =
     All-from_get_or (λ b. (b == 32) ≡ false) xs 0 (λ i below.
-      ne_eqb (slice_index_or xs i 0) 32 (λ e.
-        let passes : p (slice_index_or xs i 0) ≡ true = All-get_or (λ x. p x ≡ true) xs i 0 below all in
-        let clash : false ≡ true = sym space ∙ sym (ap p e) ∙ passes in cc))
+    ne_eqb (slice_index_or xs i 0) 32 (λ e.
+    let passes : p (slice_index_or xs i 0) ≡ true = All-get_or (λ x. p x ≡ true) xs i 0 below all in
+    let clash : false ≡ true = sym space ∙ sym (ap p e) ∙ passes in cc))
 
 decimal-number : (n : ℕ) → n < 2 ^ 64 → IsNumber (decimal n) n
 decimal-number n small =
@@ -130,11 +130,28 @@ are-fields t ok =
     let data_high = block_size_high t.data_block_size ok.data_size in
     let hash_high = block_size_high t.hash_block_size ok.hash_size in
     let count_high = block_count_high t.data_blocks ok.count in
-    let near = ok.start in
-    (one-field, (path-field t.dev ok.dev, (path-field t.hash_dev ok.hash_dev,
-      (decimal-field t.data_block_size (omega arith), (decimal-field t.hash_block_size (omega arith),
-      (decimal-field t.data_blocks (omega arith), (decimal-field t.hash_start_block (omega arith),
-      (name-field t.algorithm, (hex-field t.root (root-some t.algorithm t.root ok.digest) ok.digest_bytes, (salt-field t.salt ok.salt_bytes, tt))))))))))
+    let near = ok.start in (
+      one-field,
+      (
+        path-field t.dev ok.dev,
+        (
+          path-field t.hash_dev ok.hash_dev,
+          (
+            decimal-field t.data_block_size (omega arith),
+            (
+              decimal-field t.hash_block_size (omega arith),
+              (
+                decimal-field t.data_blocks (omega arith),
+                (
+                  decimal-field t.hash_start_block (omega arith),
+                  (name-field t.algorithm, (hex-field t.root (root-some t.algorithm t.root ok.digest) ok.digest_bytes, (salt-field t.salt ok.salt_bytes, tt))),
+                ),
+              ),
+            ),
+          ),
+        ),
+      ),
+    )
 
 spelt : (t : TableLine) → IsTableLine t → fields_of (canonical t) ≡ codes "1" ∷ after_version t
 spelt t ok = fields_of-joined (codes "1") (after_version t) (all-spaceless (codes "1" ∷ after_version t) (are-fields t ok))
@@ -177,9 +194,15 @@ line_where_none text none =
     let root = root-read (field text 7) (field text 8) ok.name ok.digest in
     let salt = salt-read (field text 9) ok.salt in
     let t : TableLine = record {
-      dev = field text 1; hash_dev = field text 2;
-      data_block_size = number (field text 3); hash_block_size = number (field text 4); data_blocks = number (field text 5); hash_start_block = number (field text 6);
-      algorithm = algorithm_of root.0; root = root.0; salt = salt.0;
+      dev = field text 1;
+      hash_dev = field text 2;
+      data_block_size = number (field text 3);
+      hash_block_size = number (field text 4);
+      data_blocks = number (field text 5);
+      hash_start_block = number (field text 6);
+      algorithm = algorithm_of root.0;
+      root = root.0;
+      salt = salt.0;
     } in
     (t, line-said text t none (record { dev = refl; hash_dev = refl; data_size = refl; hash_size = refl; count = refl; start = refl; algorithm = refl; digest = root.1; salt = salt.1 }))
 
@@ -200,10 +223,10 @@ none_where_line text t line =
     line_refusal-taken text
     (two-taken (has_ten_fields text) (is_text (field text 0) (codes "1")) fault.Fields fault.Version line.ten (text_true (field text 0) (codes "1") line.version))
     (numbers-taken (field text 3) (field text 4) (field text 5) (field text 6)
-      (record { first = line.data_size.reads; second = line.hash_size.reads; third = line.count.reads; fourth = line.start.reads })
-      (ap is_block_size line.data_size.value ∙ v.data_size) (ap is_block_size line.hash_size.value ∙ v.hash_size) (ap is_block_count line.count.value ∙ v.count) (omega arith))
+    (record { first = line.data_size.reads; second = line.hash_size.reads; third = line.count.reads; fourth = line.start.reads })
+    (ap is_block_size line.data_size.value ∙ v.data_size) (ap is_block_size line.hash_size.value ∙ v.hash_size) (ap is_block_count line.count.value ∙ v.count) (omega arith))
     (root-taken t.algorithm (field text 7) (field text 8) line.algorithm (ok_from (decode_sized (field text 8) (size_of t.algorithm)) t.root
-      (sym (decode_sized-twice (field text 8) (size_of t.algorithm) twice ∙ line.digest))))
+    (sym (decode_sized-twice (field text 8) (size_of t.algorithm) twice ∙ line.digest))))
     (one-taken (is_salt (field text 9)) fault.Salt (salt-is (field text 9) t.salt (field-some text 9 line.ten (omega arith)) v.short_salt line.salt))
 
 pub refuses_other_lines : RefusesOtherLines
@@ -225,7 +248,7 @@ spelt-from t paths numbers digests e1 e2 e3 =
     ap (λ (x : List ℕ). join_with_byte 32 (x ∷ numbers ∷ digests ∷ [])) e1
     ∙ ap (λ (x : List ℕ). join_with_byte 32 (join_with_byte 32 (codes "1" ∷ t.dev ∷ t.hash_dev ∷ []) ∷ x ∷ digests ∷ [])) e2
     ∙ ap (λ (x : List ℕ). join_with_byte 32 (join_with_byte 32 (codes "1" ∷ t.dev ∷ t.hash_dev ∷ [])
-        ∷ join_with_byte 32 (decimal t.data_block_size ∷ decimal t.hash_block_size ∷ decimal t.data_blocks ∷ decimal t.hash_start_block ∷ []) ∷ x ∷ [])) e3
+    ∷ join_with_byte 32 (decimal t.data_block_size ∷ decimal t.hash_block_size ∷ decimal t.data_blocks ∷ decimal t.hash_start_block ∷ []) ∷ x ∷ [])) e3
     ∙ by_threes (codes "1") t.dev t.hash_dev (decimal t.data_block_size) (decimal t.hash_block_size) (decimal t.data_blocks) (decimal t.hash_start_block) (name_of t.algorithm) (encode_lower t.root) (salt_text t.salt)
 
 -- values of which none is refused
@@ -238,7 +261,7 @@ pub record ValuesFit (dev hash_dev : List ℕ) (data_size hash_size blocks begin
 pub values_refusal-none : (dev hash_dev : List ℕ) (data_size hash_size blocks begin : ℕ) → None ≡ values_refusal dev hash_dev data_size hash_size blocks begin → ValuesFit dev hash_dev data_size hash_size blocks begin
 values_refusal-none dev hash_dev data_size hash_size blocks begin h =
     let all = three-none (is_path dev && is_path hash_dev) (is_block_size data_size && is_block_size hash_size) (is_block_count blocks && nat_le begin (2 ^ 40))
-        fault.Fields fault.Size fault.Count h in
+    fault.Fields fault.Size fault.Count h in
     let counts = and_parts (is_block_count blocks) (nat_le begin (2 ^ 40)) all.third in
     record {
       paths = and_parts (is_path dev) (is_path hash_dev) all.first;

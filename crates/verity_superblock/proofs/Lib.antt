@@ -7,3 +7,4 @@ pub mod Splits
 pub mod Tests
 pub mod LineReads
 pub mod Canonical
+pub mod Rows

@@ -54,8 +54,8 @@ no_refusal text h =
     let salt_none = sym (sym (or-next (digest_refusal (field text 7) (field text 8)) (salt_refusal (field text 9)) digest_none) ∙ after_numbers) in
     let shape = two-none (has_ten_fields text) (is_text (field text 0) (codes "1")) fault.Fields fault.Version shape_none in
     let numbers = three-none (is_number (field text 3) && (is_number (field text 4) && (is_number (field text 5) && is_number (field text 6))))
-        (is_block_size (number (field text 3)) && is_block_size (number (field text 4))) (is_block_count (number (field text 5)) && nat_le (number (field text 6)) (2 ^ 40))
-        fault.Number fault.Size fault.Count numbers_none in
+    (is_block_size (number (field text 3)) && is_block_size (number (field text 4))) (is_block_count (number (field text 5)) && nat_le (number (field text 6)) (2 ^ 40))
+    fault.Number fault.Size fault.Count numbers_none in
     let sizes = and_parts (is_block_size (number (field text 3))) (is_block_size (number (field text 4))) numbers.second in
     let counts = and_parts (is_block_count (number (field text 5))) (nat_le (number (field text 6)) (2 ^ 40)) numbers.third in
     let digest = two-none (is_name (field text 7)) (is_hex (digest_digits (field text 7)) (field text 8)) fault.Algorithm fault.Digest digest_none in
@@ -242,7 +242,7 @@ unfolding line_refusal
 line_refusal-cut text dev hash_dev data_size hash_size blocks begin name digest salt e taken =
     or-next (shape_refusal text) (option_or (numbers_of text) (later_of text)) taken
     ∙ ap (λ (fs : List (List ℕ)). option_or (numbers_refusal (slice_index_or fs 3 []) (slice_index_or fs 4 []) (slice_index_or fs 5 []) (slice_index_or fs 6 []))
-        (option_or (digest_refusal (slice_index_or fs 7 []) (slice_index_or fs 8 [])) (salt_refusal (slice_index_or fs 9 [])))) e
+    (option_or (digest_refusal (slice_index_or fs 7 []) (slice_index_or fs 8 [])) (salt_refusal (slice_index_or fs 9 [])))) e
 
 -- what stands after the salt was refused
 pub salt-exit : {T U : Type 0} (salt : List ℕ) (r : Result T TableFault) (f : TableFault) → r ≡ Err f → (is_salt salt ≡ false → Path (Result U TableFault) (Err f) (Err fault.Salt)) → (is_salt salt ≡ true → f ≡ fault.NoMemory)

@@ -162,21 +162,6 @@ sizes a b = is_block_size (number a) && is_block_size (number b)
 abbrev counts : List ℕ → List ℕ → Bool
 counts c d = is_block_count (number c) && nat_le (number d) (2 ^ 40)
 
-pub numbers-unread : (a b c d : List ℕ) → (FourNumbers a b c d → ⊥) → Some Number ≡ numbers_refusal a b c d
-numbers-unread a b c d none =
-    three-first (all_numbers a b c d) (sizes a b) (counts c d) Number Size Count (false_from_ne_true (all_numbers a b c d) (λ h. none (all_numbers-parts a b c d h)))
-
-pub numbers-missized : (a b c d : List ℕ) → FourNumbers a b c d → (IsBlockSize (number a) → IsBlockSize (number b) → ⊥) → Some Size ≡ numbers_refusal a b c d
-numbers-missized a b c d read none =
-    three-second (all_numbers a b c d) (sizes a b) (counts c d) Number Size Count (parts-all_numbers a b c d read)
-    (false_from_ne_true (sizes a b) (λ h. let both = and_parts (is_block_size (number a)) (is_block_size (number b)) h in none both.0 both.1))
-
-pub numbers-miscounted : (a b c d : List ℕ) → FourNumbers a b c d → IsBlockSize (number a) → IsBlockSize (number b) → (IsBlockCount (number c) → number d ≤ 2 ^ 40 → ⊥) → Some Count ≡ numbers_refusal a b c d
-numbers-miscounted a b c d read sized_a sized_b none =
-    three-third (all_numbers a b c d) (sizes a b) (counts c d) Number Size Count (parts-all_numbers a b c d read)
-    (and_from (is_block_size (number a)) (is_block_size (number b)) sized_a sized_b)
-    (false_from_ne_true (counts c d) (λ h. let both = and_parts (is_block_count (number c)) (nat_le (number d) (2 ^ 40)) h in none both.0 (leb-true (number d) (2 ^ 40) both.1)))
-
 pub numbers-taken : (a b c d : List ℕ) → FourNumbers a b c d → IsBlockSize (number a) → IsBlockSize (number b) → IsBlockCount (number c) → number d ≤ 2 ^ 40 → None ≡ numbers_refusal a b c d
 numbers-taken a b c d read sized_a sized_b counted near =
     three-taken (all_numbers a b c d) (sizes a b) (counts c d) Number Size Count (parts-all_numbers a b c d read)

@@ -153,6 +153,13 @@ impl<A: Allocator> Superblock<A> {
         &self.salt
     }
 
+    /// What every superblock keeps: its values are of the profile.
+    pub fn facts(&self)
+        ensures { IsProfile self.now.params self.now.data_blocks }
+    {
+        let _ = &self.salt;
+    }
+
     /// The UUID.
     pub fn uuid(&self) -> Uuid
         ensures { result ≡ self.now.params.uuid }

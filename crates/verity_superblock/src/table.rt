@@ -7,8 +7,10 @@ ghost use Rattle.std.specs.Result.{result_err};
 ghost use Rattle.std.specs.List.{join_with_byte};
 ghost use Rattle.std.specs.Fmt.{decimal};
 
-use crate::line::{FARTHEST_START, Numbers, path_fits, read_fields, read_numbers, read_root, read_salt};
 use crate::TableFault;
+use crate::line::{
+    FARTHEST_START, Numbers, path_fits, read_fields, read_numbers, read_root, read_salt,
+};
 use std::alloc::{AllocError, Allocator, Global};
 use std::marker::Model;
 use verity_digest::{Algorithm, Digest, Salt};
@@ -35,21 +37,29 @@ impl<A: Allocator> Model for Table<A> {
 
     ghost Value = { TableLine };
 
-    ghost view = {
-        λ t. record {
-            dev = string_bytes t.dev; hash_dev = string_bytes t.hash_dev;
-            data_block_size = t.data_block_size; hash_block_size = t.hash_block_size;
-            data_blocks = t.data_blocks; hash_start_block = t.hash_start_block;
-            algorithm = algorithm_of t.root; root = t.root; salt = t.salt }
-    };
+    ghost view = { λ t. record {
+      dev = string_bytes t.dev;
+      hash_dev = string_bytes t.hash_dev;
+      data_block_size = t.data_block_size;
+      hash_block_size = t.hash_block_size;
+      data_blocks = t.data_blocks;
+      hash_start_block = t.hash_start_block;
+      algorithm = algorithm_of t.root;
+      root = t.root;
+      salt = t.salt;
+    } };
 
-    ghost invariant = {
-        λ t. IsTableLine (record {
-            dev = string_bytes t.dev; hash_dev = string_bytes t.hash_dev;
-            data_block_size = t.data_block_size; hash_block_size = t.hash_block_size;
-            data_blocks = t.data_blocks; hash_start_block = t.hash_start_block;
-            algorithm = algorithm_of t.root; root = t.root; salt = t.salt })
-    };
+    ghost invariant = { λ t. IsTableLine (record {
+      dev = string_bytes t.dev;
+      hash_dev = string_bytes t.hash_dev;
+      data_block_size = t.data_block_size;
+      hash_block_size = t.hash_block_size;
+      data_blocks = t.data_blocks;
+      hash_start_block = t.hash_start_block;
+      algorithm = algorithm_of t.root;
+      root = t.root;
+      salt = t.salt;
+    }) };
 }
 
 impl<A: Allocator + Copy> Table<A> {
@@ -96,12 +106,17 @@ impl<A: Allocator + Copy> Table<A> {
         root: Digest,
         salt: Salt<A>,
     ) -> Result<Self, TableFault>
-        ensures value {
-            IfOk result (λ t. t ≡ record {
-                dev = dev.now; hash_dev = hash_dev.now;
-                data_block_size = data_size; hash_block_size = hash_size; data_blocks = blocks; hash_start_block = start;
-                algorithm = algorithm_of root; root = root; salt = salt })
-        }
+        ensures value { IfOk result (λ t. t ≡ record {
+          dev = dev.now;
+          hash_dev = hash_dev.now;
+          data_block_size = data_size;
+          hash_block_size = hash_size;
+          data_blocks = blocks;
+          hash_start_block = start;
+          algorithm = algorithm_of root;
+          root = root;
+          salt = salt;
+        }) }
         ensures profile { IfOk result (λ t. IsTableLine t) }
         ensures refused { MatchOption (values_refusal dev.now hash_dev.now data_size hash_size blocks start) (IsOkUnless result TableFault.NoMemory) (λ fault. result ≡ Err fault) }
     {
@@ -218,7 +233,14 @@ impl<A: Allocator> Table<A> {
 }
 
 /// L1, L4 or L5, the first that applies to these values.
-fn check_values(dev: &str, hash_dev: &str, data_size: usize, hash_size: usize, blocks: u64, start: u64) -> Result<(), TableFault>
+fn check_values(
+    dev: &str,
+    hash_dev: &str,
+    data_size: usize,
+    hash_size: usize,
+    blocks: u64,
+    start: u64,
+) -> Result<(), TableFault>
     ensures { result_err result ≡ values_refusal dev.now hash_dev.now data_size hash_size blocks start }
 {
     if !path_fits(dev) || !path_fits(hash_dev) {
@@ -254,12 +276,22 @@ fn spell<A: Allocator + Copy>(alloc: A, table: &Table<A>) -> Result<String<A>, A
     let salt = spell_salt(alloc, table.salt())?;
     let paths = join_three(alloc, "1", table.dev(), table.hash_dev())?;
     let numbers = join_numbers(alloc, numbers)?;
-    let digests = join_three(alloc, table.algorithm().name(), root.as_str(), salt.as_str())?;
+    let digests = join_three(
+        alloc,
+        table.algorithm().name(),
+        root.as_str(),
+        salt.as_str(),
+    )?;
     join_three(alloc, paths.as_str(), numbers.as_str(), digests.as_str())
 }
 
 /// Three texts, apart by one space each.
-fn join_three<A: Allocator>(alloc: A, first: &str, second: &str, third: &str) -> Result<String<A>, AllocError>
+fn join_three<A: Allocator>(
+    alloc: A,
+    first: &str,
+    second: &str,
+    third: &str,
+) -> Result<String<A>, AllocError>
     ensures { IfOk result (λ s. string_bytes s ≡ join_with_byte 32 (first.now ∷ second.now ∷ third.now ∷ [])) }
 {
     format!(in alloc; "{first} {second} {third}")
@@ -267,10 +299,8 @@ fn join_three<A: Allocator>(alloc: A, first: &str, second: &str, third: &str) ->
 
 /// The four numbers of a table line, apart by one space each.
 fn join_numbers<A: Allocator>(alloc: A, numbers: Numbers) -> Result<String<A>, AllocError>
-    ensures {
-        IfOk result (λ s. string_bytes s ≡ join_with_byte 32 (
-            decimal numbers.data_block_size ∷ decimal numbers.hash_block_size ∷ decimal numbers.data_blocks ∷ decimal numbers.hash_start_block ∷ []))
-    }
+    ensures { IfOk result (λ s. string_bytes s ≡ join_with_byte 32 (
+        decimal numbers.data_block_size ∷ decimal numbers.hash_block_size ∷ decimal numbers.data_blocks ∷ decimal numbers.hash_start_block ∷ [])) }
 {
     let data_size = numbers.data_block_size;
     let hash_size = numbers.hash_block_size;

@@ -16,13 +16,13 @@ returns-in_err-numbers-clause-refused g c =
 pub returns-in_err-root-clause-refused : goal.returns-in_err-root-clause-refused
 returns-in_err-root-clause-refused g c =
     rw (line_refusal-cut c.args.text.now _ _ _ _ _ _ _ _ _ c.in_ok-fields.ensures.fields c.in_ok-fields.ensures.refused ∙ or-next _ _ c.in_ok-numbers.ensures.refused
-        ∙ or-first _ _ c.in_err-root.field-0.0 c.in_err-root.ensures.refused) (search rules)
+    ∙ or-first _ _ c.in_err-root.field-0.0 c.in_err-root.ensures.refused) (search rules)
 
 pub returns-in_err-salt-clause-refused : goal.returns-in_err-salt-clause-refused
 returns-in_err-salt-clause-refused g c =
     rw (line_refusal-cut c.args.text.now _ _ _ _ _ _ _ _ _ c.in_ok-fields.ensures.fields c.in_ok-fields.ensures.refused ∙ or-next _ _ c.in_ok-numbers.ensures.refused ∙ or-next _ _ c.in_ok-root.ensures.refused)
     (let back : c.from_residual-in_err-salt.result ≡ Err c.in_err-salt.field-0.0 = search rules in
-     salt-exit c.in_ok-fields.fields.salt.now c.from_residual-in_err-salt.result c.in_err-salt.field-0.0 back c.in_err-salt.ensures.refused c.in_err-salt.ensures.taken)
+    salt-exit c.in_ok-fields.fields.salt.now c.from_residual-in_err-salt.result c.in_err-salt.field-0.0 back c.in_err-salt.ensures.refused c.in_err-salt.ensures.taken)
 
 pub returns-in_default-clause-refused : goal.returns-in_default-clause-refused
 returns-in_default-clause-refused g c =
