@@ -6,6 +6,10 @@ use Rattle.verity_build.specs.Open.{Open}
 abbrev pub nothing_open : Open
 nothing_open = record { block_size = 0; digest_size = 0; digests = []; index = 0 }
 
+-- block 0 of a level, with no digest in it
+abbrev pub empty : ℕ → ℕ → Open
+empty block_size digest_size = record { block_size = block_size; digest_size = digest_size; digests = []; index = 0 }
+
 -- the open block of a level
 abbrev pub open_at : List Open → ℕ → Open
 open_at opens level = slice_index_or opens level nothing_open
@@ -13,6 +17,10 @@ open_at opens level = slice_index_or opens level nothing_open
 -- each open block has the sizes of this tree
 abbrev pub AreAlike : Hashing → List Open → Type 0
 AreAlike h opens = (l : ℕ) → l < length opens → ((open_at opens l).block_size ≡ h.block_size) × ((open_at opens l).digest_size ≡ h.digest_size)
+
+-- no digest has come to any level
+abbrev pub AreEmpty : List Open → Type 0
+AreEmpty opens = (l : ℕ) → l < length opens → ((open_at opens l).digests ≡ []) × ((open_at opens l).index ≡ 0)
 
 -- a digest comes to a level: its open block gets it, or above the top level it is the root
 pub record Comes (level : ℕ) (digest : List ℕ) (old new : List Open) (old_root new_root : Option (List ℕ)) : Type 0 where
