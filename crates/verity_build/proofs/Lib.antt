@@ -1,2 +1,4 @@
 pub mod SlotLemmas
 pub mod Changes
+pub mod Settles
+pub mod Rightly

@@ -1,6 +1,7 @@
 -- How the open blocks of a tree change.
 use Rattle.std.specs.Prelude.{◌≡◌, ◌≢◌, ℕ, suc, ◌+◌, ◌<◌, ◌≤◌, List, [], ◌∷◌, ◌++◌, length, slice_index_or, Option, Some}
 use Rattle.verity_digest.specs.Tree.{Hashing, hash_block}
+use Rattle.verity_geometry.specs.Geometry.{Shape}
 use Rattle.verity_build.specs.Open.{Open}
 
 abbrev pub nothing_open : Open
@@ -14,9 +15,9 @@ empty block_size digest_size = record { block_size = block_size; digest_size = d
 abbrev pub open_at : List Open → ℕ → Open
 open_at opens level = slice_index_or opens level nothing_open
 
--- each open block has the sizes of this tree
-abbrev pub AreAlike : Hashing → List Open → Type 0
-AreAlike h opens = (l : ℕ) → l < length opens → ((open_at opens l).block_size ≡ h.block_size) × ((open_at opens l).digest_size ≡ h.digest_size)
+-- each open block has the sizes of this volume
+abbrev pub AreAlike : Shape → List Open → Type 0
+AreAlike s opens = (l : ℕ) → l < length opens → ((open_at opens l).block_size ≡ s.hash_size) × ((open_at opens l).digest_size ≡ s.digest_size)
 
 -- no digest has come to any level
 abbrev pub AreEmpty : List Open → Type 0

@@ -1,3 +1,4 @@
 pub mod Open
 pub mod Filled
 pub mod Climb
+pub mod Progress

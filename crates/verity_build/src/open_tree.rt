@@ -1,8 +1,8 @@
 //! The hash blocks that are being filled, one a level.
 ghost use Rattle.std.specs.Prelude.{◌≡◌, ℕ, suc, ◌+◌, ◌/◌, ◌^◌, ◌<◌, ◌≤◌, ◌↔◌, ◌∷◌, [], length, IsTrue, IfOk, None};
 ghost use Rattle.verity_digest.specs.Hash.{size_of, hashing, salted_digest};
-ghost use Rattle.verity_digest.specs.Tree.{Hashing, per_block, hash_block};
-ghost use Rattle.verity_geometry.specs.Geometry.{levels_of, len_of, place_of};
+ghost use Rattle.verity_digest.specs.Tree.{hash_block};
+ghost use Rattle.verity_geometry.specs.Geometry.{digests_per_block, levels_of};
 ghost use Rattle.verity_build.specs.Climb.{open_at, AreAlike, AreEmpty, Comes, Closes};
 
 use crate::open_block::OpenBlock;
@@ -19,7 +19,7 @@ pub(crate) struct OpenTree<A: Allocator = Global> {
     pub(crate) root: Option<Digest>,
     ghost sized: { size_of hasher.salted.algorithm ≡ geometry.digest_size },
     ghost levels: { length blocks.items ≡ levels_of geometry },
-    ghost alike: { AreAlike (hashing hasher.salted geometry.hash_size) blocks.items },
+    ghost alike: { AreAlike geometry blocks.items },
 }
 
 impl<A: Allocator + Copy> OpenTree<A> {
@@ -55,7 +55,7 @@ impl<A: Allocator> OpenTree<A> {
     fn put(&mut self, level: usize, digest: Digest)
         requires sized { length digest ≡ self.old.geometry.digest_size }
         requires room { level < length self.old.blocks.items
-            → length (open_at self.old.blocks.items level).digests < per_block (hashing self.old.hasher.salted self.old.geometry.hash_size) }
+            → length (open_at self.old.blocks.items level).digests < digests_per_block self.old.geometry }
         ensures comes { Comes level digest self.old.blocks.items self.new.blocks.items self.old.root self.new.root }
         ensures salted { self.new.hasher.salted ≡ self.old.hasher.salted }
         ensures geometry { self.new.geometry ≡ self.old.geometry }
@@ -71,7 +71,7 @@ impl<A: Allocator> OpenTree<A> {
     /// Takes the next data block: its digest comes to level 0.
     pub(crate) fn take(&mut self, data_block: &[u8])
         requires room { 0 < length self.old.blocks.items
-            → length (open_at self.old.blocks.items 0).digests < per_block (hashing self.old.hasher.salted self.old.geometry.hash_size) }
+            → length (open_at self.old.blocks.items 0).digests < digests_per_block self.old.geometry }
         ensures comes { Comes 0 (salted_digest self.old.hasher.salted data_block.now) self.old.blocks.items self.new.blocks.items self.old.root self.new.root }
         ensures salted { self.new.hasher.salted ≡ self.old.hasher.salted }
         ensures geometry { self.new.geometry ≡ self.old.geometry }
@@ -83,7 +83,7 @@ impl<A: Allocator> OpenTree<A> {
     /// Whether the open block of a level is full.
     pub(crate) fn is_full(&self, level: usize) -> bool
         requires { level < length self.now.blocks.items }
-        ensures { IsTrue result ↔ (length (open_at self.now.blocks.items level).digests ≡ per_block (hashing self.now.hasher.salted self.now.geometry.hash_size)) }
+        ensures { IsTrue result ↔ (length (open_at self.now.blocks.items level).digests ≡ digests_per_block self.now.geometry) }
     {
         self.blocks[level].is_full()
     }
@@ -111,7 +111,7 @@ impl<A: Allocator> OpenTree<A> {
         requires level { level < length self.old.blocks.items }
         requires few { (open_at self.old.blocks.items level).index < 2 ^ 41 }
         requires room { suc level < length self.old.blocks.items
-            → length (open_at self.old.blocks.items (suc level)).digests < per_block (hashing self.old.hasher.salted self.old.geometry.hash_size) }
+            → length (open_at self.old.blocks.items (suc level)).digests < digests_per_block self.old.geometry }
         ensures closes { Closes (hashing self.old.hasher.salted self.old.geometry.hash_size) level self.old.blocks.items self.new.blocks.items self.old.root self.new.root }
         ensures salted { self.new.hasher.salted ≡ self.old.hasher.salted }
         ensures geometry { self.new.geometry ≡ self.old.geometry }

@@ -24,7 +24,7 @@ invariant_of-result g c =
     record {
       sized = c.requires;
       levels = count ∙ all;
-      alike = λ l below. (ap (λ o. o.block_size) (each l below), ap (λ o. o.digest_size) (each l below) ∙ sym c.requires);
+      alike = λ l below. (ap (λ o. o.block_size) (each l below), ap (λ o. o.digest_size) (each l below));
     }
 
 pub returns-clause-empty : goal.returns-clause-empty
