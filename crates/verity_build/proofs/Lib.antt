@@ -2,3 +2,4 @@ pub mod SlotLemmas
 pub mod Changes
 pub mod Settles
 pub mod Rightly
+pub mod Writes
