@@ -3,3 +3,4 @@ pub mod Changes
 pub mod Settles
 pub mod Rightly
 pub mod Writes
+pub mod Turns
