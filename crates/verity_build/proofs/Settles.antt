@@ -40,7 +40,7 @@ order_push k c o o' d order is =
     omega (arith, length-push o o' d is)
 
 module _ (k n : ℕ) (d : List ℕ) (old new : List Open) (old_root new_root : Option (List ℕ)) (growing : Growing k n old old_root) (comes : Comes 0 d old new old_root new_root) where
-  same_index : (q : ℕ) → q < length old → (open_at new q).index ≡ (open_at old q).index
+  pub same_index : (q : ℕ) → q < length old → (open_at new q).index ≡ (open_at old q).index
   same_index zero there = ap (λ o. o.index) (comes.here there)
   same_index (suc q) there = ap (λ o. o.index) (comes.others (suc q) (λ e. absurd (omega arith)))
 

@@ -1,7 +1,7 @@
 -- One open block is closed, in the tree of an image of this volume.
 use Rattle.std.proofs.Common.{◌≡◌, ℕ, suc, ◌/◌, ◌<◌, ◌≤◌, List, [], length, get_or, sym, ap, ◌∙◌, subst, arith}
 use Rattle.std.specs.Prelude.{Option}
-use Rattle.verity_digest.specs.Hash.{Salted, size_of, hashing}
+use Rattle.verity_digest.specs.Hash.{Salted, size_of, hashing, salted_digest}
 use Rattle.verity_digest.specs.Tree.{Hashing, per_block, hash_block, tree, IsHashing}
 use Rattle.verity_digest.specs.Rows.{block_at}
 use Rattle.verity_digest.specs.Shape.{row_len, level_count}
@@ -11,10 +11,11 @@ use Rattle.verity_geometry.specs.Geometry.{Shape, IsShape, IsOfShape, digests_pe
 use Rattle.verity_geometry.proofs.OfShape.{IsOfShape-hashing, same_per_block, tree-shape_place}
 use Rattle.verity_geometry.proofs.Shapes.{wide, some}
 use Rattle.verity_build.specs.Open.{Open}
-use Rattle.verity_build.specs.Climb.{open_at, Closes}
-use Rattle.verity_build.specs.Progress.{Settling, IsRight}
-use Rattle.verity_build.proofs.Settles.{index_below}
-use Rattle.verity_build.proofs.Rightly.{closed_block, right_close}
+use Rattle.verity_build.specs.Climb.{open_at, Comes, Closes}
+use Rattle.verity_build.specs.Progress.{Growing, Settling, IsRight}
+use Rattle.verity_build.specs.Device.{AreStored}
+use Rattle.verity_build.proofs.Settles.{index_below, same_index}
+use Rattle.verity_build.proofs.Rightly.{closed_block, right_come, right_close}
 
 -- a tree has one block at its top, seen by the numbers of its shape
 pub top_of_shape : (s : Shape) (salted : Salted) (image : List (List ℕ)) (m : ℕ) → IsShape s → size_of salted.algorithm ≡ s.digest_size → length image ≡ s.blocks → m ≡ levels_of s
@@ -65,3 +66,21 @@ module _ (salted : Salted) (s : Shape) (n j : ℕ) (old : List Open) (old_root :
     turn_right new new_root closes =
         right_close (hashing salted s.hash_size) image n j old old_root turn_some (omega arith) turn_settling there turn_done right new new_root closes
         (top_of_shape s salted image (length old) shaped sized count levels)
+
+-- a data block's digest comes to level 0
+module _ (salted : Salted) (s : Shape) (n : ℕ) (block : List ℕ) (old new : List Open) (old_root new_root : Option (List ℕ)) (shaped : IsShape s) (sized : size_of salted.algorithm ≡ s.digest_size)
+    (levels : length old ≡ levels_of s) (growing : Growing (digests_per_block s) n old old_root) (comes : Comes 0 (salted_digest salted block) old new old_root new_root) where
+  pub come_right : (image : List (List ℕ)) → length image ≡ s.blocks → n < s.blocks → get_or image n [] ≡ block
+      → IsRight (hashing salted s.hash_size) image old old_root → IsRight (hashing salted s.hash_size) image new new_root
+  come_right image count below read right =
+      let h : Hashing = hashing salted s.hash_size in
+      let width : per_block h ≡ digests_per_block s = ap (λ d. s.hash_size / d) sized in
+      let P : ℕ → Type 0 = λ k. Growing k n old old_root in
+      right_come h image n (salted_digest salted block) old new old_root new_root (top_of_shape s salted image (length old) shaped sized count levels)
+      (subst P (sym width) growing) comes (omega arith) (ap (salted_digest salted) (sym read)) right
+
+  pub come_stored : (start : ℕ) (blocks content : List (List ℕ)) → AreStored s start blocks old content → AreStored s start blocks new content
+  come_stored start blocks content stored l i there below =
+      let inside : l < length old = (let len = comes.len in omega arith) in
+      let index = same_index (digests_per_block s) n (salted_digest salted block) old new old_root new_root growing comes l inside in
+      stored l i inside (omega arith)

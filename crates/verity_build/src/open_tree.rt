@@ -2,7 +2,7 @@
 ghost use Rattle.std.specs.Prelude.{◌≡◌, ℕ, suc, ◌+◌, ◌/◌, ◌^◌, ◌<◌, ◌≤◌, ◌↔◌, ◌∷◌, [], length, IsTrue, IfOk, None};
 ghost use Rattle.verity_digest.specs.Hash.{size_of, hashing, salted_digest};
 ghost use Rattle.verity_digest.specs.Tree.{hash_block};
-ghost use Rattle.verity_geometry.specs.Geometry.{digests_per_block, levels_of};
+ghost use Rattle.verity_geometry.specs.Geometry.{IsShape, digests_per_block, levels_of};
 ghost use Rattle.verity_build.specs.Climb.{open_at, AreAlike, AreEmpty, Comes, Closes};
 
 use crate::open_block::OpenBlock;
@@ -17,6 +17,7 @@ pub(crate) struct OpenTree<A: Allocator = Global> {
     pub(crate) geometry: Geometry,
     blocks: Vec<OpenBlock<A>, A>,
     pub(crate) root: Option<Digest>,
+    ghost shaped: { IsShape geometry },
     ghost sized: { size_of hasher.salted.algorithm ≡ geometry.digest_size },
     ghost levels: { length blocks.items ≡ levels_of geometry },
     ghost alike: { AreAlike geometry blocks.items },

@@ -22,6 +22,7 @@ invariant_of-result g c =
         let there : l < c.loop.counter = omega arith in
         ap (λ xs. open_at xs l) c.loop.invariant ∙ get_or-replicate c.loop.counter l e nothing_open there in
     record {
+      shaped = c.levels-end.ensures.shaped;
       sized = c.requires;
       levels = count ∙ all;
       alike = λ l below. (ap (λ o. o.block_size) (each l below), ap (λ o. o.digest_size) (each l below));
