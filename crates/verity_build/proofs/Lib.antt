@@ -4,3 +4,5 @@ pub mod Settles
 pub mod Rightly
 pub mod Writes
 pub mod Turns
+pub mod Finishes
+pub mod Compares

@@ -3,3 +3,7 @@ pub mod Filled
 pub mod Climb
 pub mod Progress
 pub mod Device
+pub mod Parameters
+pub mod Faults
+pub mod Texts
+pub mod Differences

@@ -3,7 +3,7 @@ use Rattle.verity_digest.specs.Hash.{hashing}
 use Rattle.verity_geometry.specs.Geometry.{digests_per_block}
 use Rattle.verity_build.specs.Progress.{Settling}
 use Rattle.verity_build.specs.Device.{StaysRight, StaysStored, WritesFrom}
-use Rattle.verity_build.proofs.build.write_done.Given as goal
+use Rattle.verity_build.proofs.building.write_done.Given as goal
 
 abbrev pub invariant-loop-level : goal.invariant-loop-level
 invariant-loop-level g l =

@@ -5,7 +5,7 @@ use Rattle.verity_geometry.specs.Geometry.{digests_per_block}
 use Rattle.verity_store.specs.Stores.{IsOnlyRead}
 use Rattle.verity_build.specs.Progress.{Growing, Grown, IsRight}
 use Rattle.verity_build.specs.Device.{AreStored, WritesFrom}
-use Rattle.verity_build.proofs.build.write_tree.Given as goal
+use Rattle.verity_build.proofs.building.write_tree.Given as goal
 
 abbrev pub invariant-loop-n : goal.invariant-loop-n
 invariant-loop-n g l =

@@ -14,7 +14,7 @@ use Rattle.verity_build.proofs.Settles.{growing_empty, settling_from}
 use Rattle.verity_build.proofs.Rightly.{right_empty}
 use Rattle.verity_build.proofs.Turns.{come_right, come_stored}
 use Rattle.verity_build.proofs.Writes.{writes_none, writes_then}
-use Rattle.verity_build.proofs.build.write_tree.Goals as goal
+use Rattle.verity_build.proofs.building.write_tree.Goals as goal
 
 pub loop-n-init : goal.loop-n-init
 loop-n-init g c =

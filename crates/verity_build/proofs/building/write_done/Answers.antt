@@ -13,8 +13,8 @@ use Rattle.verity_build.specs.Device.{AreStored}
 use Rattle.verity_build.proofs.Settles.{index_below, settling_next}
 use Rattle.verity_build.proofs.Turns.{turn_tree, turn_right}
 use Rattle.verity_build.proofs.Writes.{writes_then, writes_one, stored_next}
-use Rattle.verity_build.proofs.build.write_done.Goals as goal
-use Rattle.verity_build.proofs.build.write_done.Goals.{else-not-last-via-then-not-last+else-not-is_full, else-not-last-via-else-not-last}
+use Rattle.verity_build.proofs.building.write_done.Goals as goal
+use Rattle.verity_build.proofs.building.write_done.Goals.{else-not-last-via-then-not-last+else-not-is_full, else-not-last-via-else-not-last}
 
 pub place-place-requires-clause-index : goal.place-place-requires-clause-index
 place-place-requires-clause-index g c =
