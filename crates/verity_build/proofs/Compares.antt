@@ -154,8 +154,8 @@ module _ (s : Shape) (salted : Salted) (image : List (List ℕ)) (start : ℕ) (
       let len : length (tree h image) ≡ total_of s = length-shape_tree s h image end_of in
       let short : length (take (length (tree h image)) (drop start content)) ≡ length (tree h image) =
       ⊎_elim
-      (λ some. let enough = long_enough compared some in rw (length-take, length-drop) (omega arith))
-      (λ none. rw (length-take, length-drop) (omega arith))
+      (λ (some : 0 < total_of s). let enough = long_enough compared some in rw (length-take, length-drop) (omega arith))
+      (λ (none : total_of s ≤ 0). rw (length-take, length-drop) (omega arith))
       (cases_lt 0 (total_of s)) in
       ext_get_or [] (take (length (tree h image)) (drop start content)) (tree h image) short
       (λ q below.

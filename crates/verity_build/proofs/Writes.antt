@@ -36,7 +36,7 @@ writes_one facts start at old new behind others reads room later = record {
 }
 
 -- which blocks are closed after one more was
-closed_before : (h : Hashing) (j : ℕ) (old new : List Open) (old_root new_root : Option (List ℕ)) → Closes h j old new old_root new_root
+pub closed_before : (h : Hashing) (j : ℕ) (old new : List Open) (old_root new_root : Option (List ℕ)) → Closes h j old new old_root new_root
     → (l i : ℕ) → l < length old → i < (open_at new l).index → (l ≡ j → i ≡ (open_at old j).index → ⊥) → i < (open_at old l).index
 closed_before h j old new old_root new_root closes l i there below apart =
     ⊎_elim
