@@ -136,10 +136,10 @@ fn compare_tree<A: Allocator, D: BlockStore, H: BlockStore>(
             return Err(Which::Data);
         };
         tree.take(data_block);
-        match compare_done(tree, hash_store, start, n + 1, hash_block, found) {
-            Ok(now_found) => found = now_found,
-            Err(_) => return Err(Which::Hash),
-        }
+        let Ok(first) = compare_done(tree, hash_store, start, n + 1, hash_block, found) else {
+            return Err(Which::Hash);
+        };
+        found = first;
     }
     Ok(found)
 }
