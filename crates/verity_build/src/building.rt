@@ -20,6 +20,7 @@ use crate::prepare::{prepare, superblock_of, zeros};
 use crate::{BuildFault, Params};
 use std::alloc::Allocator;
 use verity_digest::Digest;
+use verity_geometry::GeometryFault;
 use verity_store::{BlockStore, StoreFault, Which};
 
 /// Writes each hash block that no digest will come to any more, after `blocks` data blocks have come:
@@ -174,20 +175,48 @@ fn write_device<A: Allocator, D: BlockStore, H: BlockStore>(
     }
 }
 
-/// Makes the hash device of a data store in a hash store, behind a superblock at byte offset 0: as
-/// `build_at`.
+/// Makes the hash device of a data store in a hash store, with the superblock at byte 0: as `build_at`
+/// with the offset 0, which U4 never refuses.
 pub fn build<A: Allocator + Copy, P: Allocator, D: BlockStore, H: BlockStore>(
     alloc: A,
     data_store: &mut D,
     hash_store: &mut H,
     params: &Params<P>,
 ) -> Result<Digest, BuildFault>
+    ensures built { OnOk result (D.tells data_store.old ≡ true → H.tells hash_store.old ≡ true
+        → H.content hash_store.new ≡ hash_blocks (volume params.now (D.size data_store.old) (H.size hash_store.old)) (D.content data_store.old) []) }
+    ensures bytes { OnOk result (D.tells data_store.old ≡ true → H.tells hash_store.old ≡ true
+        → concat (H.content hash_store.new) ≡ hash_image (volume params.now (D.size data_store.old) (H.size hash_store.old)) (D.content data_store.old) []) }
+    ensures root { IfOk result (λ digest. D.tells data_store.old ≡ true → digest ≡ root (hashing (salted_by params.now) (H.size hash_store.old)) (D.content data_store.old)) }
+    ensures ok { OnOk result (IsBlockCount (length (D.content data_store.old))) }
+    ensures bad_count { IsErrOf result (BuildFault.Geometry GeometryFault.BadCount) ↔ ¬ IsBlockCount (length (D.content data_store.old)) }
+    ensures fault { IfErr result (Explains (length (D.content data_store.old)) 0 (H.size hash_store.old) (D.failures data_store.old < D.failures data_store.new) (H.failures hash_store.old < H.failures hash_store.new)) }
+    ensures no_offset { IfErr result (λ fault. fault ≢ BuildFault.Offset) }
+    ensures refused { IfErr result (λ fault. fault ≢ BuildFault.Store Which.Data → fault ≢ BuildFault.Store Which.Hash → H.content hash_store.new ≡ H.content hash_store.old) }
+    ensures data_store { IsOnlyRead D.BlockStore data_store.old data_store.new }
+    ensures data_reads { OnOk result (D.reads data_store.new ≡ D.reads data_store.old + length (D.content data_store.old)) }
+    ensures data_reads_most { D.reads data_store.new ≤ D.reads data_store.old + length (D.content data_store.old) }
+    ensures hash_store { IsLater H.BlockStore hash_store.old hash_store.new }
 {
     build_at(alloc, data_store, hash_store, params, 0)
 }
 
-/// Makes the hash device of a data store in a hash store, behind a superblock at a byte offset, and
-/// answers the root hash.
+/// Makes the hash device of a data store in a hash store, with the superblock at a byte offset, and
+/// answers the root hash (cryptsetup's on-disk format of verity, and "Verity hash table format" of the
+/// Linux dm-verity documentation).
+///
+/// The hash store then holds the blocks in front that it held before, zero blocks where it was shorter,
+/// the superblock with zeros behind it, and the tree; nothing follows, and it was synced last. The data
+/// store is only read, each block once, from block 0 on.
+///
+/// The first that applies: U1 where the data store has no block or more than 2^40; U4 where the offset
+/// isn't a multiple of the hash block size, or is of 2^40 of them or more; U3 where memory was refused;
+/// U2 with the store of which a call failed. After U1, U3 and U4 both stores hold what they held. After
+/// U2 the hash store's content is open, but for the blocks in front, which are as they were.
+///
+/// It reads and hashes each data block once, and hashes and writes each block of the tree once. It takes
+/// memory for the salt, twice, for one hash block a level, and for one block of the larger size, all of
+/// it before the first write, as is the hash store's room.
 pub fn build_at<A: Allocator + Copy, P: Allocator, D: BlockStore, H: BlockStore>(
     alloc: A,
     data_store: &mut D,
@@ -201,6 +230,8 @@ pub fn build_at<A: Allocator + Copy, P: Allocator, D: BlockStore, H: BlockStore>
         → concat (H.content hash_store.new) ≡ hash_image (volume params.now (D.size data_store.old) (H.size hash_store.old)) (D.content data_store.old) (front offset (H.size hash_store.old) (H.content hash_store.old))) }
     ensures root { IfOk result (λ digest. D.tells data_store.old ≡ true → digest ≡ root (hashing (salted_by params.now) (H.size hash_store.old)) (D.content data_store.old)) }
     ensures ok { OnOk result (CanBuild (length (D.content data_store.old)) offset (H.size hash_store.old)) }
+    ensures bad_count { IsErrOf result (BuildFault.Geometry GeometryFault.BadCount) ↔ ¬ IsBlockCount (length (D.content data_store.old)) }
+    ensures bad_offset { IsErrOf result BuildFault.Offset ↔ (IsBlockCount (length (D.content data_store.old)) × ¬ CanBegin offset (H.size hash_store.old)) }
     ensures fault { IfErr result (Explains (length (D.content data_store.old)) offset (H.size hash_store.old) (D.failures data_store.old < D.failures data_store.new) (H.failures hash_store.old < H.failures hash_store.new)) }
     ensures refused { IfErr result (λ fault. fault ≢ BuildFault.Store Which.Data → fault ≢ BuildFault.Store Which.Hash → H.content hash_store.new ≡ H.content hash_store.old) }
     ensures front { (q : ℕ) → q < offset / H.size hash_store.old → q < length (H.content hash_store.old) → slice_index_or (H.content hash_store.new) q [] ≡ slice_index_or (H.content hash_store.old) q [] }

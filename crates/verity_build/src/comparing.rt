@@ -1,10 +1,11 @@
 //! Compares a hash device with the tree of a data store.
-ghost use Rattle.std.specs.Prelude.{◌≡◌, ◌+◌, ◌^◌, ◌<◌, ◌≤◌, ◌↔◌, true, [], length, slice_index_or, IsTrue, OnOk, OnErr, IfOk, IfErr, None};
+ghost use Rattle.std.specs.Prelude.{◌≡◌, ◌≢◌, ◌+◌, ◌^◌, ◌<◌, ◌≤◌, ◌↔◌, true, [], length, slice_index_or, IsTrue, OnOk, OnErr, IfOk, IfErr, IsErrOf, None};
 ghost use Rattle.verity_digest.specs.Hash.{hashing};
 ghost use Rattle.verity_digest.specs.Tree.{tree as tree_of};
 ghost use Rattle.verity_geometry.specs.Geometry.{digests_per_block};
 ghost use Rattle.verity_store.specs.Stores.{IsOnlyRead};
-ghost use Rattle.verity_superblock.specs.Image.{start_behind};
+ghost use Rattle.verity_superblock.specs.Image.{CanBegin, start_behind};
+ghost use Rattle.verity_profile.specs.Profile.{IsBlockCount};
 ghost use Rattle.verity_build.specs.Parameters.{salted_by, shape_over};
 ghost use Rattle.verity_build.specs.Faults.{CanBuild, Explains};
 ghost use Rattle.verity_build.specs.Climb.{AreEmpty};
@@ -16,6 +17,7 @@ use crate::open_tree::OpenTree;
 use crate::prepare::{prepare, zeros};
 use crate::{BuildFault, Compared, Params};
 use std::alloc::Allocator;
+use verity_geometry::GeometryFault;
 use verity_store::{BlockStore, StoreFault, Which};
 
 /// Where a hash block stands in a tree.
@@ -144,19 +146,44 @@ fn compare_tree<A: Allocator, D: BlockStore, H: BlockStore>(
     Ok(found)
 }
 
-/// Compares the tree of a data store with a hash store, behind a superblock at byte offset 0: as
-/// `compare_at`.
+/// Compares the tree of a data store with a hash store from hash block 1 on: as `compare_at` with the
+/// offset 0, which U4 never refuses.
 pub fn compare<A: Allocator + Copy, P: Allocator, D: BlockStore, H: BlockStore>(
     alloc: A,
     data_store: &mut D,
     hash_store: &mut H,
     params: &Params<P>,
 ) -> Result<Compared, BuildFault>
+    ensures compared { IfOk result (λ found. D.tells data_store.old ≡ true → H.tells hash_store.old ≡ true
+        → spec.IsCompared (shape_over params.now (D.size data_store.old) (H.size hash_store.old) (length (D.content data_store.old)))
+            (hashing (salted_by params.now) (H.size hash_store.old)) (D.content data_store.old) 1 (H.content hash_store.old) found) }
+    ensures ok { OnOk result (IsBlockCount (length (D.content data_store.old))) }
+    ensures bad_count { IsErrOf result (BuildFault.Geometry GeometryFault.BadCount) ↔ ¬ IsBlockCount (length (D.content data_store.old)) }
+    ensures fault { IfErr result (Explains (length (D.content data_store.old)) 0 (H.size hash_store.old) (D.failures data_store.old < D.failures data_store.new) (H.failures hash_store.old < H.failures hash_store.new)) }
+    ensures no_offset { IfErr result (λ fault. fault ≢ BuildFault.Offset) }
+    ensures data_store { IsOnlyRead D.BlockStore data_store.old data_store.new }
+    ensures data_reads { OnOk result (D.reads data_store.new ≡ D.reads data_store.old + length (D.content data_store.old)) }
+    ensures data_reads_most { D.reads data_store.new ≤ D.reads data_store.old + length (D.content data_store.old) }
+    ensures hash_store { IsOnlyRead H.BlockStore hash_store.old hash_store.new }
 {
     compare_at(alloc, data_store, hash_store, params, 0)
 }
 
-/// Compares the tree of a data store with a hash store, behind a superblock at a byte offset.
+/// Compares the tree of a data store with a hash store, from the hash block behind a superblock at a byte
+/// offset on.
+///
+/// `Same` with the root hash where the hash store holds there what `build_at` would write; else `Differs`
+/// with the first block that differs in the order of the device, the top level first. A place past the
+/// end of the hash store differs. The superblock's block isn't looked at, nor what is in front of it or
+/// behind the tree. Both stores are only read, the data store's blocks once, from block 0 on.
+///
+/// The first that applies: U1 where the data store has no block or more than 2^40; U4 where the offset
+/// isn't a multiple of the hash block size, or is of 2^40 of them or more; U3 where memory was refused;
+/// U2 with the store of which a read failed.
+///
+/// It reads and hashes each data block once, and reads each block of the tree at most once, and hashes
+/// it from its digests once. It takes memory for the salt, one hash block a level, a data block and a
+/// hash block, all before the first read.
 pub fn compare_at<A: Allocator + Copy, P: Allocator, D: BlockStore, H: BlockStore>(
     alloc: A,
     data_store: &mut D,
@@ -168,6 +195,8 @@ pub fn compare_at<A: Allocator + Copy, P: Allocator, D: BlockStore, H: BlockStor
         → spec.IsCompared (shape_over params.now (D.size data_store.old) (H.size hash_store.old) (length (D.content data_store.old)))
             (hashing (salted_by params.now) (H.size hash_store.old)) (D.content data_store.old) (start_behind offset (H.size hash_store.old)) (H.content hash_store.old) found) }
     ensures ok { OnOk result (CanBuild (length (D.content data_store.old)) offset (H.size hash_store.old)) }
+    ensures bad_count { IsErrOf result (BuildFault.Geometry GeometryFault.BadCount) ↔ ¬ IsBlockCount (length (D.content data_store.old)) }
+    ensures bad_offset { IsErrOf result BuildFault.Offset ↔ (IsBlockCount (length (D.content data_store.old)) × ¬ CanBegin offset (H.size hash_store.old)) }
     ensures fault { IfErr result (Explains (length (D.content data_store.old)) offset (H.size hash_store.old) (D.failures data_store.old < D.failures data_store.new) (H.failures hash_store.old < H.failures hash_store.new)) }
     ensures data_store { IsOnlyRead D.BlockStore data_store.old data_store.new }
     ensures data_reads { OnOk result (D.reads data_store.new ≡ D.reads data_store.old + length (D.content data_store.old)) }
@@ -177,7 +206,7 @@ pub fn compare_at<A: Allocator + Copy, P: Allocator, D: BlockStore, H: BlockStor
     let (start, mut tree) = prepare(alloc, data_store, hash_store, params, offset)?;
     let mut data_block = zeros(alloc, tree.geometry.data_size())?;
     let mut hash_block = zeros(alloc, tree.geometry.hash_size())?;
-    match compare_tree(
+    let found = match compare_tree(
         &mut tree,
         data_store,
         hash_store,
@@ -185,14 +214,17 @@ pub fn compare_at<A: Allocator + Copy, P: Allocator, D: BlockStore, H: BlockStor
         &mut data_block,
         &mut hash_block,
     ) {
-        Ok(Some(place)) => Ok(Compared::Differs {
+        Ok(found) => found,
+        Err(which) => return Err(BuildFault::Store(which)),
+    };
+    match found {
+        Some(place) => Ok(Compared::Differs {
             level: place.level,
             index: place.index,
         }),
-        Ok(None) => match tree.root {
+        None => match tree.root {
             Some(root) => Ok(Compared::Same(root)),
             None => unreachable!(),
         },
-        Err(which) => Err(BuildFault::Store(which)),
     }
 }
