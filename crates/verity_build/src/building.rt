@@ -113,6 +113,7 @@ fn write_superblock<H: BlockStore>(
     ensures written { OnOk result (H.tells hash_store.old ≡ true
         → H.content hash_store.new ≡ slice_set (H.content hash_store.old) place (zero_filled (H.size hash_store.old) superblock.now)) }
     ensures others { ChangesAt place (H.content hash_store.old) (H.content hash_store.new) }
+    ensures reads { H.reads hash_store.new ≡ H.reads hash_store.old }
     ensures later { IsLater H.BlockStore hash_store.old hash_store.new }
     ensures failed { OnErr result (H.failures hash_store.old < H.failures hash_store.new) }
 {
@@ -152,6 +153,7 @@ fn write_device<A: Allocator, D: BlockStore, H: BlockStore>(
     ensures data_reads { OnOk result (D.reads data_store.new ≡ D.reads data_store.old + tree.old.geometry.blocks) }
     ensures data_reads_most { D.reads data_store.new ≤ D.reads data_store.old + tree.old.geometry.blocks }
     ensures hash_store { IsLater H.BlockStore hash_store.old hash_store.new }
+    ensures hash_reads { H.reads hash_store.new ≡ H.reads hash_store.old }
     ensures data_failed { result ≡ Err Which.Data → D.failures data_store.old < D.failures data_store.new }
     ensures hash_failed { result ≡ Err Which.Hash → H.failures hash_store.old < H.failures hash_store.new }
 {
@@ -197,6 +199,7 @@ pub fn build<A: Allocator + Copy, P: Allocator, D: BlockStore, H: BlockStore>(
     ensures data_reads { OnOk result (D.reads data_store.new ≡ D.reads data_store.old + length (D.content data_store.old)) }
     ensures data_reads_most { D.reads data_store.new ≤ D.reads data_store.old + length (D.content data_store.old) }
     ensures hash_store { IsLater H.BlockStore hash_store.old hash_store.new }
+    ensures hash_reads { H.reads hash_store.new ≡ H.reads hash_store.old }
 {
     build_at(alloc, data_store, hash_store, params, 0)
 }
@@ -239,6 +242,7 @@ pub fn build_at<A: Allocator + Copy, P: Allocator, D: BlockStore, H: BlockStore>
     ensures data_reads { OnOk result (D.reads data_store.new ≡ D.reads data_store.old + length (D.content data_store.old)) }
     ensures data_reads_most { D.reads data_store.new ≤ D.reads data_store.old + length (D.content data_store.old) }
     ensures hash_store { IsLater H.BlockStore hash_store.old hash_store.new }
+    ensures hash_reads { H.reads hash_store.new ≡ H.reads hash_store.old }
 {
     let (start, mut tree) = prepare(alloc, data_store, hash_store, params, offset)?;
     let superblock = superblock_of(alloc, &tree.geometry, params)?;
