@@ -146,7 +146,7 @@ fn write_device<A: Allocator, D: BlockStore, H: BlockStore>(
     requires hash_buffer { tree.old.geometry.hash_size ≤ length buffer.old }
     ensures written { OnOk result (D.tells data_store.old ≡ true → H.tells hash_store.old ≡ true
         → let s = tree.old.geometry in H.content hash_store.new ≡ resized s.hash_size (start - 1) (H.content hash_store.old)
-            ++ (zero_filled s.hash_size superblock.now ∷ tree_of (hashing tree.old.hasher.salted s.hash_size) (D.content data_store.old))) }
+        ++ (zero_filled s.hash_size superblock.now ∷ tree_of (hashing tree.old.hasher.salted s.hash_size) (D.content data_store.old))) }
     ensures root { IfOk result (λ digest. D.tells data_store.old ≡ true → digest ≡ root (hashing tree.old.hasher.salted tree.old.geometry.hash_size) (D.content data_store.old)) }
     ensures front { (q : ℕ) → suc q < start → q < length (H.content hash_store.old) → slice_index_or (H.content hash_store.new) q [] ≡ slice_index_or (H.content hash_store.old) q [] }
     ensures data_store { IsOnlyRead D.BlockStore data_store.old data_store.new }
@@ -162,7 +162,13 @@ fn write_device<A: Allocator, D: BlockStore, H: BlockStore>(
         return Err(Which::Hash);
     };
     let data_size = tree.geometry.data_size();
-    write_tree(tree, data_store, hash_store, start, &mut buffer[..data_size])?;
+    write_tree(
+        tree,
+        data_store,
+        hash_store,
+        start,
+        &mut buffer[..data_size],
+    )?;
     let hash_size = tree.geometry.hash_size();
     let block = &mut buffer[..hash_size];
     let Ok(()) = write_superblock(hash_store, start - 1, superblock, block) else {

@@ -156,7 +156,7 @@ pub fn compare<A: Allocator + Copy, P: Allocator, D: BlockStore, H: BlockStore>(
 ) -> Result<Compared, BuildFault>
     ensures compared { IfOk result (λ found. D.tells data_store.old ≡ true → H.tells hash_store.old ≡ true
         → spec.IsCompared (shape_over params.now (D.size data_store.old) (H.size hash_store.old) (length (D.content data_store.old)))
-            (hashing (salted_by params.now) (H.size hash_store.old)) (D.content data_store.old) 1 (H.content hash_store.old) found) }
+        (hashing (salted_by params.now) (H.size hash_store.old)) (D.content data_store.old) 1 (H.content hash_store.old) found) }
     ensures ok { OnOk result (IsBlockCount (length (D.content data_store.old))) }
     ensures bad_count { IsErrOf result (BuildFault.Geometry GeometryFault.BadCount) ↔ ¬ IsBlockCount (length (D.content data_store.old)) }
     ensures fault { IfErr result (Explains (length (D.content data_store.old)) 0 (H.size hash_store.old) (D.failures data_store.old < D.failures data_store.new) (H.failures hash_store.old < H.failures hash_store.new)) }
@@ -193,7 +193,7 @@ pub fn compare_at<A: Allocator + Copy, P: Allocator, D: BlockStore, H: BlockStor
 ) -> Result<Compared, BuildFault>
     ensures compared { IfOk result (λ found. D.tells data_store.old ≡ true → H.tells hash_store.old ≡ true
         → spec.IsCompared (shape_over params.now (D.size data_store.old) (H.size hash_store.old) (length (D.content data_store.old)))
-            (hashing (salted_by params.now) (H.size hash_store.old)) (D.content data_store.old) (start_behind offset (H.size hash_store.old)) (H.content hash_store.old) found) }
+        (hashing (salted_by params.now) (H.size hash_store.old)) (D.content data_store.old) (start_behind offset (H.size hash_store.old)) (H.content hash_store.old) found) }
     ensures ok { OnOk result (CanBuild (length (D.content data_store.old)) offset (H.size hash_store.old)) }
     ensures bad_count { IsErrOf result (BuildFault.Geometry GeometryFault.BadCount) ↔ ¬ IsBlockCount (length (D.content data_store.old)) }
     ensures bad_offset { IsErrOf result BuildFault.Offset ↔ (IsBlockCount (length (D.content data_store.old)) × ¬ CanBegin offset (H.size hash_store.old)) }

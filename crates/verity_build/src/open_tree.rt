@@ -26,11 +26,7 @@ pub(crate) struct OpenTree<A: Allocator = Global> {
 impl<A: Allocator + Copy> OpenTree<A> {
     /// The open blocks of a volume's tree, before its first data block. It takes memory for the
     /// bytes of one hash block a level.
-    pub(crate) fn new(
-        alloc: A,
-        hasher: Hasher<A>,
-        geometry: Geometry,
-    ) -> Result<Self, AllocError>
+    pub(crate) fn new(alloc: A, hasher: Hasher<A>, geometry: Geometry) -> Result<Self, AllocError>
         requires { size_of hasher.salted.algorithm ≡ geometry.digest_size }
         ensures salted { IfOk result (λ tree. tree.hasher.salted ≡ hasher.salted) }
         ensures geometry { IfOk result (λ tree. tree.geometry ≡ geometry) }

@@ -38,8 +38,10 @@ loop-level-preserved g c =
     let kept = c.loop-level.invariant in
     let w = wide s c.levels-level-end.ensures.shaped in
     let full : n < s.blocks → length (open_at now.blocks.items j).digests ≡ digests_per_block s = λ less.
-    elim c.else-not-last.branch [ else-not-last-via-then-not-last+else-not-is_full b ↦ b.is_full.ensures.0 b.if-not-is_full.false ∙ ap digests_per_block kept.geometry
-    | else-not-last-via-else-not-last b ↦ absurd (omega (arith, c.blocks-2.ensures.value, b.if-not-last.false)) ] in
+    elim c.else-not-last.branch [
+      | else-not-last-via-then-not-last+else-not-is_full b ↦ b.is_full.ensures.0 b.if-not-is_full.false ∙ ap digests_per_block kept.geometry
+      | else-not-last-via-else-not-last b ↦ absurd (omega (arith, c.blocks-2.ensures.value, b.if-not-last.false))
+    ] in
     let levels : length now.blocks.items ≡ levels_of s = now.levels ∙ ap levels_of kept.geometry in
     let there : j < length now.blocks.items = omega (arith, c.levels-level-end.ensures.value, c.loop-level-test.true) in
     let sized = c.args.tree.now.sized in

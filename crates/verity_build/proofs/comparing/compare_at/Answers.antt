@@ -56,6 +56,7 @@ returns-in-Some-root-clause-compared g c = λ td th.
     (all_closed s new.blocks.items new.root first.shaped levels done.grown) compared in
     let right = root_right s new.blocks.items new.root first.shaped levels done.grown first.hasher.salted image first.sized count c.in-Some-root.root (done.right td) c.in-Some-root.is in
     let h : Hashing = hashing (salted_by c.args.params.now) (g.H.BlockStore.size c.args.hash_store.now) in
-    let same : hashing first.hasher.salted s.hash_size ≡ h = λ i. hashing (begun.salted i) (begun.geometry i).hash_size in
-    (right ∙ ap (λ x. root x image) same,
-    subst (λ a. BeginsWith a (tree h image) content) begun.start (subst (λ x. BeginsWith start (tree x image) content) same begins))
+    let same : hashing first.hasher.salted s.hash_size ≡ h = λ i. hashing (begun.salted i) (begun.geometry i).hash_size in (
+      right ∙ ap (λ x. root x image) same,
+      subst (λ a. BeginsWith a (tree h image) content) begun.start (subst (λ x. BeginsWith start (tree x image) content) same begins),
+    )

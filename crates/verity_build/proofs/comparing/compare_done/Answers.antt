@@ -48,8 +48,10 @@ loop-level-preserved g c =
     let kept = c.loop-level.invariant in
     let w = wide s c.levels-level-end.ensures.shaped in
     let full : n < s.blocks → length (open_at now.blocks.items j).digests ≡ digests_per_block s = λ less.
-    elim c.else-not-last.branch [ else-not-last-via-then-not-last+else-not-is_full b ↦ b.is_full.ensures.0 b.if-not-is_full.false ∙ ap digests_per_block kept.geometry
-    | else-not-last-via-else-not-last b ↦ absurd (omega (arith, c.blocks-2.ensures.value, b.if-not-last.false)) ] in
+    elim c.else-not-last.branch [
+      | else-not-last-via-then-not-last+else-not-is_full b ↦ b.is_full.ensures.0 b.if-not-is_full.false ∙ ap digests_per_block kept.geometry
+      | else-not-last-via-else-not-last b ↦ absurd (omega (arith, c.blocks-2.ensures.value, b.if-not-last.false))
+    ] in
     let levels : length now.blocks.items ≡ levels_of s = now.levels ∙ ap levels_of kept.geometry in
     let there : j < length now.blocks.items = omega (arith, c.levels-level-end.ensures.value, c.loop-level-test.true) in
     let sized = c.args.tree.now.sized in
@@ -85,7 +87,7 @@ loop-level-preserved g c =
           let same = c.in_ok-holds.ensures.same (kept.read.later.tells ∙ tells) in
           let Q : Option Place → Type 0 = λ found. AreCompared s c.args.start blocks new.blocks.items content found in
           elim c.if-not-branch.branch [
-            then-not-branch b ↦
+            | then-not-branch b ↦
                 let differs : get_or content (c.args.start + place_of s j index) [] ≢ get_or blocks (place_of s j index) [] = λ e.
                 let yes = same.1 (here ∙ e ∙ sym tree_block) in let no = b.if-not-branch.true in absurd (cc) in
                 let found = b.found-is ∙ b.earlier-found.ensures ∙ ap (λ i. earlier c.loop-level.found (record { level = j; index = i })) c.index-index.ensures in

@@ -19,8 +19,8 @@ invariant_of-result g c =
     let all : c.loop.counter ≡ levels_of c.args.geometry = omega (arith, c.levels-end.ensures.value) in
     let count : length c.loop.blocks.items ≡ c.loop.counter = ap length c.loop.invariant ∙ length-replicate c.loop.counter e in
     let each = λ (l : ℕ) (below : l < length c.loop.blocks.items).
-        let there : l < c.loop.counter = omega arith in
-        ap (λ xs. open_at xs l) c.loop.invariant ∙ get_or-replicate c.loop.counter l e nothing_open there in
+    let there : l < c.loop.counter = omega arith in
+    ap (λ xs. open_at xs l) c.loop.invariant ∙ get_or-replicate c.loop.counter l e nothing_open there in
     record {
       shaped = c.levels-end.ensures.shaped;
       sized = c.requires;
