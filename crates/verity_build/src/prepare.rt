@@ -15,6 +15,17 @@ use verity_geometry::Geometry;
 use verity_store::BlockStore;
 use verity_superblock::{Superblock, tree_start};
 
+/// A salt of the same bytes. U3 where memory was refused.
+fn copy_of<A: Allocator, P: Allocator>(alloc: A, salt: &Salt<P>) -> Result<Salt<A>, BuildFault>
+    ensures value { IfOk result (λ copy. copy ≡ salt.now) }
+    ensures fault { IfErr result (λ fault. fault ≡ BuildFault.NoMemory) }
+{
+    match Salt::new(alloc, salt.bytes()) {
+        Ok(copy) => Ok(copy),
+        Err(_) => Err(BuildFault::NoMemory),
+    }
+}
+
 /// Where the tree of a volume over these stores begins, and its open blocks. The first that applies:
 /// U1, U4, U3.
 pub(crate) fn prepare<A: Allocator + Copy, P: Allocator, D: BlockStore, H: BlockStore>(
@@ -46,9 +57,7 @@ pub(crate) fn prepare<A: Allocator + Copy, P: Allocator, D: BlockStore, H: Block
     let Ok(start) = tree_start(offset, hash_store.block_size()) else {
         return Err(BuildFault::Offset);
     };
-    let Ok(salt) = Salt::new(alloc, params.salt().bytes()) else {
-        return Err(BuildFault::NoMemory);
-    };
+    let salt = copy_of(alloc, params.salt())?;
     match OpenTree::new(alloc, Hasher::new(salt, algorithm), geometry) {
         Ok(tree) => Ok((start, tree)),
         Err(_) => Err(BuildFault::NoMemory),
@@ -64,9 +73,7 @@ pub(crate) fn superblock_of<A: Allocator + Copy, P: Allocator>(
     ensures value { IfOk result (λ bytes. bytes ≡ superblock (volume params.now geometry.now.data_size geometry.now.hash_size) geometry.now.blocks) }
     ensures fault { IfErr result (λ fault. fault ≡ BuildFault.NoMemory) }
 {
-    let Ok(salt) = Salt::new(alloc, params.salt().bytes()) else {
-        return Err(BuildFault::NoMemory);
-    };
+    let salt = copy_of(alloc, params.salt())?;
     match Superblock::new(
         geometry.data_size(),
         geometry.hash_size(),
