@@ -1,18 +1,17 @@
 -- The laws of hash trees, put together.
-use Rattle.std.proofs.Common.{◌≡◌, ℕ, zero, suc, ◌+◌, ◌*◌, ◌/◌, ◌%◌, ◌^◌, ◌<◌, ◌≤◌, List, [], ◌∷◌, length, map, drop, get_or, sym, ap, ◌∙◌, subst, arith}
-use Rattle.std.proofs.Math.Nat.{pow-zero}
+use Rattle.std.proofs.Common.{◌≡◌, ℕ, suc, ◌*◌, ◌/◌, ◌%◌, ◌^◌, ◌<◌, ◌≤◌, List, [], ◌∷◌, length, map, drop, sym, ap, ◌∙◌, arith}
 use Rattle.verity_digest.specs.Laws.{UnfoldsRounds, HasNoLevel, CountsBlocks, PlacesBlocks, OrdersLevels, NamesDigests, FillsBlocks, GoesByRows, NamesByRows, HashesAll, GrowsWithCount, LiesAbove}
-use Rattle.verity_digest.specs.Tree.{Hashing, per_block, slot, last_digests, tree_above, IsHashing, IsLevelCount}
+use Rattle.verity_digest.specs.Tree.{Hashing, per_block, slot, IsHashing}
 use Rattle.verity_digest.specs.Shape.{level_count, row_len, held}
-use Rattle.verity_digest.specs.Rows.{levels_of, level_block, block_at}
+use Rattle.verity_digest.specs.Rows.{tree_levels, block_at}
 use Rattle.verity_digest.proofs.Rounds.{rounds-few, rounds-more}
 use Rattle.verity_digest.proofs.Levels.{length-last_digests}
 use Rattle.verity_digest.proofs.Slots.{AreSized-digests}
 use Rattle.verity_digest.proofs.Places.{joined_from_last}
 use Rattle.verity_digest.proofs.Roots.{root_above-one}
 use Rattle.verity_digest.proofs.Sha.{length-digest_of, IsHashing-hashing}
-use Rattle.verity_digest.proofs.Numbers.{IsLevelCount-level_count, level_below}
-use Rattle.verity_digest.proofs.Counts.{row_len_top, top_start, next_start, last_end}
+use Rattle.verity_digest.proofs.Numbers.{level_below}
+use Rattle.verity_digest.proofs.Counts.{row_len_top, top_start, next_start, last_end, placed}
 use Rattle.verity_digest.proofs.Growth.{level_count-mono, row_len-mono, level_start-mono, total-mono, above_within, above-zero, above-suc}
 use Rattle.verity_digest.proofs.Rows.{IsLevelCount-levels, length-levels, length-level_of, length-tree, tree-place, level-row, level_block-row, length-row, digests_at-row, root-row, slot-row}
 use Rattle.verity_digest.proofs.Sized.{AllSized-rounds, AllSized-tree, drop-held}
@@ -26,7 +25,7 @@ unfolds_rounds h two = record {
 
 pub has_no_level : (h : Hashing) (block : List ℕ) → HasNoLevel h block
 has_no_level h block =
-    let none : levels_of h (block ∷ []) ≡ [] = rounds-few h (h.digest block ∷ []) (omega arith) in
+    let none : tree_levels h (block ∷ []) ≡ [] = rounds-few h (h.digest block ∷ []) (omega arith) in
     record { levels = none; tree = ap (λ levels. joined_from_last levels) none; root = root_above-one h (h.digest block ∷ []) (omega arith) }
 
 pub counts_blocks : (h : Hashing) (image : List (List ℕ)) → 2 ≤ per_block h → CountsBlocks h image
@@ -46,15 +45,8 @@ orders_levels k n two some = record {
   first = λ l top. top_start k n l top;
   next = λ l below. next_start k n l below;
   last = λ levels. last_end k n levels;
+  each = λ p below. let here = placed k n p below in (here.level, here.index, here.there, here.within, here.at);
 }
-
--- two data blocks have a level above them
-some_level : (k n L : ℕ) → 1 < n → IsLevelCount k n L → 0 < L
-some_level k n zero more counted = absurd (omega (arith, counted.enough, pow-zero k))
-some_level k n (suc L) more counted = omega arith
-
-level_above_two : (k n : ℕ) → 2 ≤ k → 1 < n → 0 < level_count k n
-level_above_two k n two more = some_level k n (level_count k n) more (IsLevelCount-level_count k n two)
 
 -- no data block has no level
 some_image : (k n l : ℕ) → 2 ≤ k → suc l ≡ level_count k n → 0 < n
@@ -62,8 +54,7 @@ some_image k n l two top = let below : k ^ l < n = level_below k n l two (omega 
 
 pub names_digests : (h : Hashing) (image : List (List ℕ)) → IsHashing h → NamesDigests h image
 names_digests h image ok = record {
-  leaf = λ b more below.
-      let some : 0 < level_count (per_block h) (length image) = level_above_two (per_block h) (length image) ok.branching more in
+  leaf = λ b some below.
       ap (λ block. slot h block (b % per_block h)) (level_block-row h image 0 (b / per_block h) ok.branching some)
       ∙ slot-row h image 0 b ok below;
   level = λ l i below inside.

@@ -13,9 +13,9 @@ abbrev pub block_at : Hashing → List (List ℕ) → ℕ → ℕ → List ℕ
 block_at h image r i = slice_index_or (row h image r) i []
 
 -- the levels of an image's tree, from level 0 up
-abbrev pub levels_of : Hashing → List (List ℕ) → List (List (List ℕ))
-levels_of h image = rounds h (map h.digest image)
+abbrev pub tree_levels : Hashing → List (List ℕ) → List (List (List ℕ))
+tree_levels h image = rounds h (map h.digest image)
 
 -- block i of level l of an image's tree
 abbrev pub level_block : Hashing → List (List ℕ) → ℕ → ℕ → List ℕ
-level_block h image l i = slice_index_or (slice_index_or (levels_of h image) l []) i []
+level_block h image l i = slice_index_or (slice_index_or (tree_levels h image) l []) i []

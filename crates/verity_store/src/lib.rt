@@ -11,12 +11,28 @@
 //! calls leave of a store's facts), `specs/Texts.antt` (the texts).
 #![tactic(auto)]
 
+mod answer;
+mod block;
+mod fail;
 mod fault;
+mod file;
+mod mem_file;
 mod memory;
 mod moves;
+mod raw_file;
+mod script;
 mod store;
+#[cfg(test)]
+mod tests;
 
+pub use answer::Answer;
+pub use block::Block;
+pub use fail::FailStore;
 pub use fault::{StoreFault, Which};
+pub use file::FileStore;
+pub use mem_file::MemFile;
 pub use memory::MemStore;
 pub use moves::move_run;
+pub use raw_file::RawFile;
+pub use script::ScriptStore;
 pub use store::BlockStore;

@@ -1,0 +1,5 @@
+pub mod Geometry
+pub mod Faults
+pub mod Texts
+pub mod Kept
+pub mod Laws
