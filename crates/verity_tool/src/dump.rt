@@ -1,6 +1,6 @@
 //! The command `dump`: prints the superblock of a hash device.
 
-use crate::failure::Failure;
+use crate::failure::{Failure, Word};
 use crate::lines::print_superblock;
 use crate::values::number;
 use crate::words::DumpWords;
@@ -19,7 +19,7 @@ pub fn dump<R: Files<File = File> + AllocGlobal, W: Write>(
     words: &DumpWords<'_>,
     output: &mut W,
 ) -> Result<(), Failure> {
-    let offset = number("--hash-offset", words.hash_offset)?;
+    let offset = number(Word::HashOffset, words.hash_offset)?;
     let mut hash_store = FileStore::open(rt, words.hash_path, SUPERBLOCK_SIZE, false)?;
     let mut bytes = [0; SUPERBLOCK_SIZE];
     read_superblock(&mut hash_store, offset, &mut bytes)?;

@@ -45,11 +45,39 @@ impl fmt::Display for Fault {
     }
 }
 
+/// The arguments and options whose values are read here.
+#[derive(Clone, Copy, Debug, PartialEq, Eq)]
+pub enum Word {
+    Data,
+    Hash,
+    Salt,
+    Uuid,
+    DataBlockSize,
+    HashBlockSize,
+    Algorithm,
+    HashOffset,
+}
+
+impl fmt::Display for Word {
+    fn fmt<W: fmt::Write>(&self, f: &mut fmt::Formatter<W>) -> fmt::Result {
+        f.write_str(match self {
+            Word::Data => "DATA",
+            Word::Hash => "HASH",
+            Word::Salt => "--salt",
+            Word::Uuid => "--uuid",
+            Word::DataBlockSize => "--data-block-size",
+            Word::HashBlockSize => "--hash-block-size",
+            Word::Algorithm => "--algorithm",
+            Word::HashOffset => "--hash-offset",
+        })
+    }
+}
+
 /// Why a command stopped.
 #[derive(Clone, Copy, Debug, PartialEq, Eq)]
 pub enum Failure {
-    /// A word isn't a value of its kind; the option's or argument's name.
-    Word(&'static str),
+    /// A word isn't a value of its kind.
+    Word(Word),
     /// A layer below refused.
     Refused(Fault),
     /// Memory was refused.

@@ -1,6 +1,6 @@
 //! The command `format`: makes the hash device of a block image.
 
-use crate::failure::Failure;
+use crate::failure::{Failure, Word};
 use crate::lines::{Volume, table_line};
 use crate::values::{algorithm, block_size, check_paths, number, salt, salt_bytes, uuid};
 use crate::words::FormatWords;
@@ -22,9 +22,9 @@ pub fn format<R: Files<File = File> + AllocGlobal, W: Write>(
 ) -> Result<(), Failure> {
     let alloc = rt.alloc();
     check_paths(words.data_path, words.hash_path)?;
-    let data_block_size = block_size("--data-block-size", words.data_block_size)?;
-    let hash_block_size = block_size("--hash-block-size", words.hash_block_size)?;
-    let offset = number("--hash-offset", words.hash_offset)?;
+    let data_block_size = block_size(Word::DataBlockSize, words.data_block_size)?;
+    let hash_block_size = block_size(Word::HashBlockSize, words.hash_block_size)?;
+    let offset = number(Word::HashOffset, words.hash_offset)?;
     let algorithm = algorithm(words.algorithm)?;
     let uuid = uuid(words.uuid)?;
     let bytes = salt_bytes(alloc, words.salt)?;
@@ -38,7 +38,7 @@ pub fn format<R: Files<File = File> + AllocGlobal, W: Write>(
         data_block_size,
         hash_block_size,
         data_blocks: data_store.len(),
-        hash_start_block: tree_start(offset, hash_block_size)?,
+        hash_start_block: tree_start(offset, hash_store.block_size())?,
         salt: &bytes,
     };
     let line = table_line(alloc, &volume, root)?;

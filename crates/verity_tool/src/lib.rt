@@ -8,9 +8,9 @@ mod dump;
 mod failure;
 mod format;
 mod lines;
-mod run;
+mod program;
 mod scratch;
 mod values;
 mod words;
 
-pub use run::run;
+pub use program::run;

@@ -68,8 +68,8 @@ fn not_understood<W: Write>(error: &Error, output: &mut W) -> u8 {
 /// Prints why a command stopped.
 fn fail<W: Write>(failure: Failure, output: &mut W) -> u8 {
     let (written, status) = match failure {
-        Failure::Word(name) => (
-            writeln!(output, "error: the value of {name} is not understood"),
+        Failure::Word(word) => (
+            writeln!(output, "error: the value of {word} is not understood"),
             NOT_UNDERSTOOD,
         ),
         Failure::Refused(fault) => (writeln!(output, "refused {fault}"), REFUSED),
