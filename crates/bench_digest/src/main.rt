@@ -2,10 +2,8 @@
 #![tactic(auto)]
 
 use sha2::{Digest, Sha256};
-use std::env;
-use std::fs;
-use std::io;
 use std::time::Instant;
+use std::{env, fs, io};
 
 // The digests of all blocks, of which one byte each is kept so that none can be left out.
 fn digest_all(bytes: &[u8], block_size: usize, salt: &[u8]) -> u8 {

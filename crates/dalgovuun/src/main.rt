@@ -1,9 +1,8 @@
 //! Dalgovuun: makes, edits, verifies and serves dm-verity volumes.
 #![tactic(auto)]
 
-use std::io;
 use std::process::ExitCode;
-use std::env;
+use std::{env, io};
 
 fn main(rt: HostRuntime) -> io::Result<ExitCode> {
     let words: Vec<String> = env::args(&rt)?.collect(rt.alloc())?;

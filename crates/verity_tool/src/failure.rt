@@ -1,9 +1,8 @@
 //! How a command ends where it isn't done.
 
 use std::alloc::AllocError;
-use std::fmt;
-use std::io;
 use std::io::ErrorKind;
+use std::{fmt, io};
 use thiserror::Error;
 use verity_build::BuildFault;
 use verity_digest::SaltFault;

@@ -11,6 +11,7 @@ use verity_digest::Algorithm;
 use verity_store::MemStore;
 
 const DATA_BLOCK_SIZE: usize = 1024;
+
 const HASH_BLOCK_SIZE: usize = 512;
 
 /// Builds a volume of one zero block in memory and prints its table line.

@@ -112,10 +112,7 @@ fn asked<'a>(matches: &ArgMatches<'a>) -> Option<Request<'a>> {
 
 /// Reads the words, of which the first is the program's own name. `None` is for an argument that `clap` required and
 /// then did not have. The error is `clap`'s: its texts of usage, help and want of memory.
-pub fn read_words<'a>(
-    alloc: Global,
-    words: &'a [String],
-) -> Result<Option<Request<'a>>, Error> {
+pub fn read_words<'a>(alloc: Global, words: &'a [String]) -> Result<Option<Request<'a>>, Error> {
     let matches = tool(alloc)?.try_get_matches_from(words)?;
     Ok(asked(&matches))
 }
