@@ -22,7 +22,7 @@ use Rattle.verity_superblock.specs.LineLaws.{SpellsBack, DeterminesLine, Refuses
 use Rattle.verity_superblock.proofs.Readings.{parts-is_number, own, all_ascii_digits-list_all, numbers-taken, root-taken, ok_from}
 use Rattle.verity_superblock.proofs.Splits.{HasNoSpace, fields_of-joined, list_all-no_space, field-is_path}
 use Rattle.verity_superblock.proofs.LineReads.{same_line, at_place, no_refusal, line-said, root-read, salt-read, salt-is, line_refusal-taken}
-use Rattle.verity_superblock.proofs.Tests.{one-taken, two-taken, three-none}
+use Rattle.verity_superblock.proofs.InTurn.{one-taken, two-taken, three-none}
 use Rattle.verity_superblock.proofs.Refusals.{text_true}
 use Rattle.verity_superblock.specs.declared.faults.TableFault.TheVariants as fault
 use Rattle.verity_profile.specs.Profile.{is_block_size, is_block_count}

@@ -4,7 +4,7 @@ pub mod SuperblockLaws
 pub mod Blocks
 pub mod Readings
 pub mod Splits
-pub mod Tests
+pub mod InTurn
 pub mod LineReads
 pub mod Canonical
 pub mod Rows

@@ -18,7 +18,7 @@ use Rattle.verity_superblock.specs.declared.faults.TableFault.{TableFault}
 use Rattle.verity_superblock.specs.declared.faults.TableFault.TheVariants as fault
 use Rattle.verity_superblock.specs.Reading.{is_text}
 use Rattle.verity_superblock.specs.Line.{TableLine, IsTableLine, Line, IsNumber, IsSaltOf, fields_of, field, has_ten_fields, is_number, number, is_path, is_name, is_hex, digest_digits, is_salt, is_hex_salt, shape_refusal, numbers_refusal, digest_refusal, salt_refusal, line_refusal, algorithm_of}
-use Rattle.verity_superblock.proofs.Tests.{one-taken, one-refused, or-first, two-none, one-none, three-none, or-none_first, or-next}
+use Rattle.verity_superblock.proofs.InTurn.{one-taken, one-refused, or-first, two-none, one-none, three-none, or-none_first, or-next}
 use Rattle.verity_superblock.proofs.Readings.{FourNumbers, IsHexSalt, all_numbers-parts, is_hex_salt-parts, parts-is_hex_salt}
 use Rattle.verity_superblock.proofs.SuperblockLaws.{algorithm_named, same_algorithm}
 use Rattle.verity_superblock.proofs.Splits.{field-is_path}

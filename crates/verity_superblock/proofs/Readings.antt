@@ -15,7 +15,7 @@ use Rattle.verity_digest.specs.declared.algorithm.Algorithm.{Algorithm}
 use Rattle.verity_digest.specs.declared.algorithm.Algorithm.TheVariants.{Sha256, Sha512}
 use Rattle.verity_digest.specs.Hash.{name_of, size_of}
 use Rattle.verity_superblock.specs.declared.faults.TableFault.TheVariants.{Number, Size, Count, Digest}
-use Rattle.verity_superblock.proofs.Tests.{one-taken, one-refused, three-first, three-second, three-third, three-taken}
+use Rattle.verity_superblock.proofs.InTurn.{one-taken, one-refused, three-first, three-second, three-third, three-taken}
 use Rattle.verity_profile.specs.Profile.{is_block_size, is_block_count, IsBlockSize, IsBlockCount}
 use Rattle.verity_superblock.specs.Line.{is_hex, is_hex_salt, is_number, number, numbers_refusal, digest_refusal}
 

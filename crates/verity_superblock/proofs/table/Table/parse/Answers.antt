@@ -2,7 +2,7 @@ use Rattle.std.proofs.Common.{◌≡◌, ◌≢◌, refl, sym, ap, ◌∙◌, ru
 use Rattle.hex.specs.Hex.{decode_of}
 use Rattle.std.proofs.lemmas.Bool.{true_from_ne_false}
 use Rattle.verity_superblock.specs.Line.{number, IsSaltOf, is_salt, line_refusal, numbers_refusal, digest_refusal, salt_refusal}
-use Rattle.verity_superblock.proofs.Tests.{or-first, or-next, one-taken}
+use Rattle.verity_superblock.proofs.InTurn.{or-first, or-next, one-taken}
 use Rattle.verity_superblock.proofs.LineReads.{at_place, line_refusal-none, line_refusal-shape, line_refusal-cut, salt-exit, line-said}
 use Rattle.verity_superblock.proofs.table.Table.parse.Goals as goal
 

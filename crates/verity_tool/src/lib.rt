@@ -1,0 +1,16 @@
+//! The program, as a library: [`run`] takes the words, the input and the output, and answers the status.
+//!
+//! What it prints and refuses is shown by tests. The work is done by the layers below, whose contracts say what it is
+//! worth; here a command reads its words, opens its stores, makes one call or a few, and prints lines.
+#![tactic(auto)]
+
+mod dump;
+mod failure;
+mod format;
+mod lines;
+mod program;
+mod scratch;
+mod values;
+mod words;
+
+pub use program::run;

@@ -1,0 +1,101 @@
+//! The lines that commands print of a volume.
+
+use crate::failure::Failure;
+use crate::values::salt;
+use std::alloc::Global;
+use std::io::Write;
+use verity_digest::Digest;
+use verity_geometry::Geometry;
+use verity_superblock::{Superblock, Table, tree_start};
+
+/// What a table line names but for the root hash.
+#[derive(Clone, Copy)]
+pub struct Volume<'a> {
+    pub data_path: &'a str,
+    pub hash_path: &'a str,
+    pub data_block_size: usize,
+    pub hash_block_size: usize,
+    pub data_blocks: u64,
+    pub hash_start_block: u64,
+    pub salt: &'a [u8],
+}
+
+/// The table line of a volume with this root hash.
+pub fn table_line(alloc: Global, volume: &Volume<'_>, root: Digest) -> Result<String, Failure> {
+    let table = Table::new(
+        alloc,
+        volume.data_path,
+        volume.hash_path,
+        volume.data_block_size,
+        volume.hash_block_size,
+        volume.data_blocks,
+        volume.hash_start_block,
+        root,
+        salt(alloc, volume.salt)?,
+    )?;
+    Ok(table.text()?)
+}
+
+/// Prints a superblock that stands at a byte offset of the hash device, and where the levels of its tree stand.
+pub fn print_superblock<W: Write>(
+    alloc: Global,
+    superblock: &Superblock,
+    offset: u64,
+    output: &mut W,
+) -> Result<(), Failure> {
+    let start = tree_start(offset, superblock.hash_block_size())?;
+    print_fields(alloc, superblock, output)?;
+    let geometry = Geometry::with_digest(
+        superblock.data_block_size(),
+        superblock.hash_block_size(),
+        superblock.data_blocks(),
+        superblock.algorithm().size(),
+    );
+    match geometry {
+        Ok(geometry) => print_levels(&geometry, start, output),
+        Err(_) => Ok(()),
+    }
+}
+
+fn print_fields<W: Write>(
+    alloc: Global,
+    superblock: &Superblock,
+    output: &mut W,
+) -> Result<(), Failure> {
+    let uuid = superblock.uuid();
+    let algorithm = superblock.algorithm().name();
+    let data_block_size = superblock.data_block_size();
+    let hash_block_size = superblock.hash_block_size();
+    let data_blocks = superblock.data_blocks();
+    let salt = salt_text(alloc, superblock.salt().bytes())?;
+    writeln!(output, "version 1")?;
+    writeln!(output, "hash_type 1")?;
+    writeln!(output, "uuid {uuid}")?;
+    writeln!(output, "algorithm {algorithm}")?;
+    writeln!(output, "data_block_size {data_block_size}")?;
+    writeln!(output, "hash_block_size {hash_block_size}")?;
+    writeln!(output, "data_blocks {data_blocks}")?;
+    writeln!(output, "salt {salt}")?;
+    Ok(())
+}
+
+/// A salt as it is printed: `-` where it is empty, else its hexadecimal digits in lower case.
+fn salt_text(alloc: Global, bytes: &[u8]) -> Result<String, Failure> {
+    if bytes.is_empty() {
+        return Ok(String::from_str(alloc, "-")?);
+    }
+    Ok(hex::encode(alloc, bytes)?)
+}
+
+fn print_levels<W: Write>(geometry: &Geometry, start: u64, output: &mut W) -> Result<(), Failure> {
+    let levels = geometry.levels();
+    writeln!(output, "levels {levels}")?;
+    for level in (0..levels).rev() {
+        let first = start.saturating_add(geometry.level_start(level));
+        let blocks = geometry.level_len(level);
+        writeln!(output, "level {level} start {first} blocks {blocks}")?;
+    }
+    let blocks = start.saturating_add(geometry.total());
+    writeln!(output, "hash_blocks {blocks}")?;
+    Ok(())
+}
