@@ -1,5 +1,5 @@
 -- Stores that hold an image and its tree.
-use Rattle.std.proofs.Common.{ℕ, zero, suc, ◌+◌, ◌/◌, ◌*◌, ◌<◌, ◌≤◌, ◌≡◌, Bool, true, List, [], ◌∷◌, length, take, drop, get_or, inl, inr, refl, sym, ap, ◌∙◌, subst, arith, mul-le-mul_right}
+use Rattle.std.proofs.Common.{ℕ, zero, suc, ◌+◌, ◌/◌, ◌*◌, ◌<◌, ◌≤◌, ◌≡◌, ◌≢◌, ◌⊎◌, Bool, true, List, [], ◌∷◌, length, take, drop, get_or, inl, inr, refl, sym, ap, ◌∙◌, subst, arith, mul-le-mul_right}
 use Rattle.std.specs.List.{concat, All}
 use Rattle.std.proofs.lemmas.List.{get_or-take, get_or-drop, take_all}
 use Rattle.std.proofs.lemmas.List.Elements.{All-get_or}
@@ -22,7 +22,12 @@ use Rattle.verity_check.specs.Right.{Fits, own, bytes_of}
 use Rattle.verity_check.specs.Finding.{Held, Tells, held_by}
 use Rattle.verity_check.specs.Range.{Touches, ServesBytes, Served, Wrong}
 use Rattle.verity_check.specs.Stores.{given_in, held_in, IsDataStoreOf, IsHashStoreOf}
+use Rattle.verity_check.specs.Refusal.{Refuses}
 use Rattle.verity_check.specs.Holds.{Holds, IsLineOf}
+use Rattle.verity_store.specs.declared.fault.Which.TheVariants as stores
+use Rattle.verity_check.specs.declared.fault.Place.TheVariants as places
+use Rattle.verity_check.specs.declared.fault.CheckFault.{CheckFault}
+use Rattle.verity_check.specs.declared.fault.CheckFault.TheVariants as faults
 use Rattle.verity_check.proofs.TableLaws.{is_hashing, two_branches, some_branch, row_len-first, path_below}
 use Rattle.verity_check.proofs.FindingLaws.{no_wrong}
 
@@ -66,6 +71,17 @@ module _ {D H : Type 0} (data_facts : store.Ghosts D) (hash_facts : store.Ghosts
       no_wrong t image ok holds.fits (given_in data_facts hash_facts t d h) (held_in data_facts hash_facts t d h) holds_tells
       (holds_own t ok (data_facts.tells d) (data_facts.content d) (hash_facts.tells h) (hash_facts.content h) image holds)
       w.1 (path_index t w.0 w.1) (path_below t ok w.0 w.1 (touched_below t offset len w.0 inside w.2)) w.3
+
+  -- so a read of the volume is refused only where a store failed, or memory was refused
+  pub refusal_failed : (p q : Type 0) (offset len : ℕ) (fault : CheckFault) → offset + len ≤ t.data_blocks * t.data_block_size → Refuses t (given_in data_facts hash_facts t d h) p q offset len fault → fault ≢ faults.NoMemory → p ⊎ q
+  refusal_failed p q offset len (faults.Mismatch (places.Data m)) inside why memory = absurd (never_wrong offset len inside (why.0, 0, why.1, why.2.1))
+  refusal_failed p q offset len (faults.Mismatch (places.Hash level index)) inside why memory =
+      absurd (never_wrong offset len inside (why.0, suc level, why.1, subst (λ i. WrongAt t (given_in data_facts hash_facts t d h) (suc level) i) why.2.1 why.2.2))
+  refusal_failed p q offset len (faults.Store stores.Data) inside why memory = inl why.2
+  refusal_failed p q offset len (faults.Store stores.Hash) inside why memory = inr why.2
+  refusal_failed p q offset len faults.NoMemory inside why memory = absurd (memory refl)
+  refusal_failed p q offset len faults.Lengths inside why memory = absurd why.2
+  refusal_failed p q offset len faults.CacheSize inside why memory = absurd why.2
 
   -- a served block is the image's own
   served_own_block : (n : ℕ) (x : List ℕ) → n < t.data_blocks → EndsChain t (given_in data_facts hash_facts t d h) 0 n x → x ≡ get_or image n []

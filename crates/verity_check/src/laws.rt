@@ -1,6 +1,10 @@
 //! What follows for callers. Each function does nothing; its contract is a law, in the words of `specs/`. Proofs cite the
 //! lemmas of `proofs/`: `ChainLaw`, `RangeLaw`, `FindingLaws`, `HoldsLaws`.
 ghost use Rattle.std.specs.Prelude.{◌≡◌, ℕ, ◌+◌, ◌*◌, ◌<◌, ◌≤◌, ◌≢◌, Bool, true, List, length, OnOk, IfErr};
+ghost use Rattle.std.specs.List.{concat};
+ghost use Rattle.verity_profile.specs.Profile.{AllSized};
+ghost use Rattle.verity_superblock.specs.Superblock.{Params, IsProfile};
+ghost use Rattle.verity_superblock.specs.Image.{hash_image};
 ghost use Rattle.verity_check.specs.Table.{Table, IsTable};
 ghost use Rattle.verity_check.specs.Chain.{AreSized, EndsChain, WrongAt};
 ghost use Rattle.verity_check.specs.Right.{Fits, IsRight, AreRight, bytes_of};
@@ -43,6 +47,17 @@ pub fn holds_serves<D: BlockStore, H: BlockStore>()
         (t : Table) (d : _) (h : _) (image : List (List ℕ)) (offset len : ℕ) (bytes : List ℕ) → IsTable t
             → Holds t (D.tells d) (D.content d) (H.tells h) (H.content h) image
             → ServesBytes t (given_in D.BlockStore H.BlockStore t d h) offset len bytes → bytes ≡ bytes_of image offset len
+    }
+{
+}
+/// Stores that tell, of which the data store holds the image and the hash store is the image's hash device with some
+/// blocks in front, hold the image and its tree under each table line of the device.
+pub fn device_holds()
+    ensures {
+        (p : Params) (t : Table) (image front hash_content : List (List ℕ)) → IsProfile p (length image)
+            → AllSized p.data_block_size image → AllSized p.hash_block_size front → AllSized p.hash_block_size hash_content
+            → concat hash_content ≡ hash_image p image front → IsLineOf p image (length front) t
+            → Holds t true image true hash_content image
     }
 {
 }
