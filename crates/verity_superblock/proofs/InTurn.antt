@@ -1,4 +1,4 @@
--- Tests in a row, of which the first that fails is answered.
+-- Tests in turn, of which the first that fails is answered.
 use Rattle.std.proofs.Common.{◌≡◌, Bool, true, false, Option, Some, None, refl, sym, ap, ◌∙◌}
 use Rattle.std.specs.Prelude.{not, ◌&&◌, if◌then◌else◌}
 use Rattle.std.specs.Option.{option_or}
