@@ -1,0 +1,5 @@
+pub mod Lookup
+pub mod Snoc
+pub mod Steps
+pub mod Outcomes
+pub mod Runs
