@@ -3,3 +3,4 @@ pub mod Snoc
 pub mod Steps
 pub mod Outcomes
 pub mod Runs
+pub mod Turns

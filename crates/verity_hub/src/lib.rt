@@ -6,3 +6,4 @@ pub mod fault;
 pub mod numbered;
 pub mod run;
 pub mod sessions;
+pub mod stream;
