@@ -16,6 +16,7 @@ impl<E: Export, A: Allocator + Copy> Sessions<E, A> {
     fn answer<B: Allocator>(&mut self, event: &Event<B>) -> HubReply<A>
         ensures offer { self.new.0.offer ≡ self.old.0.offer }
         ensures keeps { Keeps (E.facts self.old.1) (E.facts self.new.1) }
+        ensures later { E.later self.old.1 self.new.1 }
         ensures replies { (history : List Step) → IsAfter (E.facts self.old.1) self.old.0 history
             → Replies self.old.0.offer history event.now result }
         ensures after { (history : List Step) → IsAfter (E.facts self.old.1) self.old.0 history
@@ -46,6 +47,7 @@ impl<E: Export, A: Allocator + Copy> Sessions<E, A> {
     ) -> Result<(), AllocError>
         ensures offer { self.new.0.offer ≡ self.old.0.offer }
         ensures keeps { Keeps (E.facts self.old.1) (E.facts self.new.1) }
+        ensures later { E.later self.old.1 self.new.1 }
         ensures all { OnOk result (length replies.new.items ≡ length replies.old.items + length events.now) }
 
         // Whatever was done since it was made: each event that has a reply was done, and no other.

@@ -60,6 +60,7 @@ fn exchange<E: Export, A: Allocator + Copy, W: Write>(
     requires { (session : State) × (lookup id hub.old.0.sessions ≡ Some session) }
     ensures offer { hub.new.0.offer ≡ hub.old.0.offer }
     ensures keeps { Keeps (E.facts hub.old.1) (E.facts hub.new.1) }
+    ensures later { E.later hub.old.1 hub.new.1 }
     ensures next { hub.new.0.next ≡ hub.old.0.next }
     ensures count { length hub.new.0.sessions ≡ length hub.old.0.sessions }
     ensures exchanged { (before after : State) × (lookup id hub.old.0.sessions ≡ Some before) × (before.offer ≡ hub.old.0.offer) × (after.offer ≡ hub.old.0.offer)
@@ -95,6 +96,7 @@ fn turns<E: Export, A: Allocator + Copy, R: Read, W: Write>(
     requires one { (session : State) × (lookup id hub.old.0.sessions ≡ Some session) × IsAt session [] × (session.starved ≡ false) × (session.offer ≡ hub.old.0.offer) }
     ensures offer { hub.new.0.offer ≡ hub.old.0.offer }
     ensures keeps { Keeps (E.facts hub.old.1) (E.facts hub.new.1) }
+    ensures later { E.later hub.old.1 hub.new.1 }
     ensures next { hub.new.0.next ≡ hub.old.0.next }
     ensures count { length hub.new.0.sessions ≡ length hub.old.0.sessions }
     ensures others { (session : State) × SetsOnly hub.old.0.sessions hub.new.0.sessions id (Some session) }
@@ -136,6 +138,7 @@ pub fn serve<E: Export, A: Allocator + Copy, R: Read, W: Write>(
 ) -> Result<(), ServeFault>
     ensures offer { hub.new.0.offer ≡ hub.old.0.offer }
     ensures keeps { Keeps (E.facts hub.old.1) (E.facts hub.new.1) }
+    ensures later { E.later hub.old.1 hub.new.1 }
     ensures served { Served (E.facts hub.old.1) (E.facts hub.new.1) hub.old.0.offer
         (record { reader = R.remaining reader.old; reader' = R.remaining reader.new; writer = W.contents writer.old; writer' = W.contents writer.new }) limit result }
     // No session came about.

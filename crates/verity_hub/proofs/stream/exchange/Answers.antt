@@ -18,6 +18,7 @@ returns-in-Ok-write_out g c =
     record {
       offer = o.offer;
       keeps = d.keeps;
+      later = c.in-Ok.ensures.later;
       next = o.next;
       count = o.count;
       exchanged = (o.before, o.after, o.found, o.offers, d.offer ∙ o.offers, o.sets, (out, subst P c.deref.ensures.value c.in-Ok-write_out.ensures.ok,
@@ -39,6 +40,7 @@ returns-in-Err-write_out g c =
     record {
       offer = o.offer;
       keeps = d.keeps;
+      later = c.in-Ok.ensures.later;
       next = o.next;
       count = o.count;
       exchanged = (o.before, o.after, o.found, o.offers, d.offer ∙ o.offers, o.sets, (q.0, q.1, q.3, (λ input at. (d.at n input at, d.talks n input at))));

@@ -28,6 +28,7 @@ loop-turn-init g c =
     record {
       offer = refl;
       keeps = Keeps-refl (f c.args.hub.now.1);
+      later = g.met.E.Export.later_same c.args.hub.now.1;
       next = refl;
       count = refl;
       after = λ history x. turned_first (f c.args.hub.now.1) c.args.hub.now.0 history c.args.id x;
@@ -125,6 +126,7 @@ loop-turn-preserved g c =
     record {
       offer = e.offer ∙ i.offer;
       keeps = Keeps-trans (f c.args.hub.now.1) (f c.loop-turn.hub.1) (f c.exchange.new.hub.1) i.keeps e.keeps;
+      later = g.met.E.Export.later_on c.args.hub.now.1 c.loop-turn.hub.1 c.exchange.new.hub.1 i.later e.later;
       next = e.next ∙ i.next;
       count = e.count ∙ i.count;
       after = λ history x. turned_on (f c.loop-turn.hub.1) (f c.exchange.new.hub.1) c.loop-turn.hub.0 c.exchange.new.hub.0 history c.args.id (i.after history x) e.after;
@@ -133,3 +135,12 @@ loop-turn-preserved g c =
         omega (arith, length-append n.0 piece, c.in-Ok.ensures.bound.1, n.9, c.if-taken-eq0.false),
         open_if c.in-Ok-exchange.over c.args.hub.now.0.offer x.1 (n.0 ++ piece) (x.4 ∙ i.offer) y.4 t.at y.3 c.if-over.false);
     }
+
+pub returns-then-is_err-clause-later : goal.returns-then-is_err-clause-later
+returns-then-is_err-clause-later g c = g.met.E.Export.later_same c.args.hub.now.1
+
+pub returns-then-over-clause-later : goal.returns-then-over-clause-later
+returns-then-over-clause-later g c = g.met.E.Export.later_on c.args.hub.now.1 c.loop-turn.hub.1 c.exchange.new.hub.1 c.loop-turn.invariant.later c.in-Ok-exchange.ensures.later
+
+pub returns-in-Err-exchange-clause-later : goal.returns-in-Err-exchange-clause-later
+returns-in-Err-exchange-clause-later g c = g.met.E.Export.later_on c.args.hub.now.1 c.loop-turn.hub.1 c.exchange.new.hub.1 c.loop-turn.invariant.later c.in-Err-exchange.ensures.later

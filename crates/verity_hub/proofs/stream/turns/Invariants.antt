@@ -13,6 +13,7 @@ invariant-loop-turn g l =
     record {
       offer : l.hub.0.offer ≡ l.fn.hub.0.offer;
       keeps : Keeps (facts l.fn.hub.1) (facts l.hub.1);
+      later : g.E.Export.later l.fn.hub.1 l.hub.1;
       next : l.hub.0.next ≡ l.fn.hub.0.next;
       count : length l.hub.0.sessions ≡ length l.fn.hub.0.sessions;
       after : (history : List Step) → IsAfter (facts l.fn.hub.1) l.fn.hub.0 history → TurnedAfter (facts l.hub.1) l.hub.0 history l.id;

@@ -13,6 +13,7 @@ loop-event-init g c =
     record {
       offer = refl;
       keeps = Keeps-refl (f c.args.self.now.1);
+      later = g.met.E.Export.later_same c.args.self.now.1;
       ran = ([], sym (append-nil c.args.replies.now.items), refl, λ history x.
         let I : List Step → Type 0 = λ z. IsAfter (f c.args.self.now.1) c.args.self.now.0 z in
         (tt, subst I (sym (append-nil history)) x));
@@ -33,6 +34,7 @@ loop-event-preserved g c =
     record {
       offer = a.ensures.offer ∙ i.offer;
       keeps = Keeps-trans (f c.args.self.now.1) (f c.loop-event.self.1) (f a.new.self.1) i.keeps a.ensures.keeps;
+      later = g.met.E.Export.later_on c.args.self.now.1 c.loop-event.self.1 a.new.self.1 i.later a.ensures.later;
       ran = (r.0 ++ one,
         c.in-Ok.ensures.items ∙ ap (λ x. x ++ one) (c.reserve.ensures.items ∙ r.1) ∙ append_assoc c.args.replies.now.items r.0 one,
         omega (arith, length-append r.0 one, n),
