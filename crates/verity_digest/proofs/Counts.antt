@@ -1,13 +1,14 @@
 -- How many blocks the rows and levels of a tree have, and their sums.
-use Rattle.std.proofs.Common.{◌≡◌, ℕ, zero, suc, ◌+◌, ◌-◌, ◌*◌, ◌/◌, ◌^◌, ◌<◌, ◌≤◌, refl, sym, ap, ◌∙◌, subst, arith}
+use Rattle.std.proofs.Common.{◌≡◌, ℕ, zero, suc, ◌+◌, ◌-◌, ◌*◌, ◌/◌, ◌^◌, ◌<◌, ◌≤◌, ⊎_elim, refl, sym, ap, ◌∙◌, subst, arith}
 use Rattle.std.specs.List.{sum_by, range_with_len}
 use Rattle.std.specs.Int.{div_ceil}
 use Rattle.std.proofs.Math.Nat.{one-le-pow, pow-zero, pow-suc, zero-add, mul-le-mul_left, add-mul}
 use Rattle.std.proofs.lemmas.Nat.{div_below}
+use Rattle.std.proofs.lemmas.Bool.{cases_lt}
 use Rattle.std.proofs.lemmas.List.{map-id}
 use Rattle.std.proofs.lemmas.List.FromFn.{sum_by-map-range_with_len_more}
 use Rattle.std.proofs.lemmas.List.Sums.{sum_by-cons}
-use Rattle.verity_digest.specs.Shape.{row_len, level_len, level_count, blocks_of_levels, level_start, total}
+use Rattle.verity_digest.specs.Shape.{row_len, level_len, level_count, blocks_of_levels, level_start, place, total}
 use Rattle.verity_digest.proofs.Ceil.{IsCeil, IsCeil-div_ceil, div_ceil-div_ceil, div_ceil-one, same_ceil}
 use Rattle.verity_digest.proofs.Numbers.{IsLevelCount-level_count, level_below}
 
@@ -30,6 +31,10 @@ level_len-zero k n some = row_len-suc k n 0 some ∙ ap (λ m. div_ceil m k) (ro
 pub IsCeil-row_len : (k n r : ℕ) → 0 < k → IsCeil n (k ^ r) (row_len k n r)
 unfolding row_len
 IsCeil-row_len k n r some = IsCeil-div_ceil n (k ^ r) (one-le-pow r k some)
+
+-- the block that holds a digest of a row is one of the next row
+pub row_len_above : (k n r i : ℕ) → 0 < k → i < row_len k n r → i / k < row_len k n (suc r)
+row_len_above k n r i some below = rw (row_len-suc k n r some) (quotient_below (row_len k n r) k i some below)
 
 -- one block is the end of the rows
 pub row_len_top : (k n : ℕ) → 2 ≤ k → 0 < n → row_len k n (level_count k n) ≡ 1
@@ -131,6 +136,36 @@ level_within k n (suc l) below =
     let before = starts_in_order k n 0 (suc l) (omega arith) below in
     let end = last_end k n (omega arith) in
     omega arith
+
+-- a block of a level that stands at p
+pub record Placed (k n p : ℕ) : Type 0 where
+  pub level : ℕ
+  pub index : ℕ
+  pub there : level < level_count k n
+  pub within : index < level_len k n level
+  pub at : place k n level index ≡ p
+
+placed_from : (k n p t l : ℕ) → l + suc t ≡ level_count k n → p < level_start k n l + level_len k n l → Placed k n p
+placed_from k n p zero l last below =
+    let first : level_start k n l ≡ 0 = top_start k n l (omega arith) in
+    record { level = l; index = p; there = omega arith; within = omega arith; at = omega arith }
+placed_from k n p (suc t) l last below =
+    ⊎_elim
+    (λ higher. let next = next_start k n l (omega arith) in placed_from k n p t (suc l) (omega arith) (omega arith))
+    (λ here. record { level = l; index = p - level_start k n l; there = omega arith; within = omega arith; at = omega arith })
+    (cases_lt p (level_start k n l))
+
+placed_in : (k n p L : ℕ) → L ≡ level_count k n → p < blocks_of_levels k n 0 L → Placed k n p
+placed_in k n p zero same below = absurd (omega (arith, blocks_of_levels-none k n 0))
+placed_in k n p (suc L) same below =
+    let end = last_end k n (omega arith) in
+    let P : ℕ → Type 0 = λ m. p < blocks_of_levels k n 0 m in
+    let all : p < total k n = subst P same below in
+    placed_from k n p L 0 (omega arith) (omega arith)
+
+-- each place of the tree is that of a block of a level
+pub placed : (k n p : ℕ) → p < total k n → Placed k n p
+placed k n p below = placed_in k n p (level_count k n) refl below
 
 -- a level has at most half as many blocks as the one below, if that one has two or more
 half : (k a c : ℕ) → 8 ≤ k → 2 ≤ a → IsCeil a k c → c * 2 ≤ a

@@ -1,12 +1,11 @@
 -- How levels change where the count grows, and what lies above a data block.
 use Rattle.std.proofs.Common.{◌≡◌, ℕ, zero, suc, ◌+◌, ◌-◌, ◌*◌, ◌/◌, ◌^◌, ◌<◌, ◌≤◌, ⊎_elim, sym, ap, ◌∙◌, arith}
 use Rattle.std.specs.List.{sum_by, range_with_len}
-use Rattle.std.specs.Int.{div_ceil}
 use Rattle.std.proofs.Math.Nat.{lt_of_mul-lt-mul_right, div-div-eq-div-mul, one-le-pow, pow-suc, pow-zero, one-mul}
 use Rattle.std.proofs.lemmas.Bool.{cases_lt}
 use Rattle.std.proofs.lemmas.List.Sums.{sum_by-cons}
 use Rattle.verity_digest.specs.Shape.{row_len, level_len, level_count, blocks_of_levels, level_start, total, above}
-use Rattle.verity_digest.proofs.Ceil.{IsCeil, IsCeil-div_ceil}
+use Rattle.verity_digest.proofs.Ceil.{IsCeil}
 use Rattle.verity_digest.proofs.Numbers.{IsLevelCount-level_count}
 use Rattle.verity_digest.proofs.Counts.{IsCeil-row_len, quotient_below}
 

@@ -1,14 +1,13 @@
 -- The rows of an image and its hash tree, and the levels of its rounds.
 -- For the layers above: `length-row`, `slot-row` (the digest that a block holds), `root-row`; `length-levels`, `level-row`
 -- and `level_block-row` (a level is a row), `length-level_of`, `length-tree`, `tree-place` (where the blocks of the tree
--- stand), `digests_at-row`, `block_at-run` (a hash block by the digests that it holds).
-use Rattle.std.proofs.Common.{◌≡◌, ℕ, zero, suc, ◌+◌, ◌-◌, ◌*◌, ◌/◌, ◌%◌, ◌^◌, ◌<◌, ◌≤◌, List, [], ◌∷◌, length, map, drop, get_or, ⊎_elim, refl, sym, ap, ◌∙◌, subst, arith}
+-- stand), `tree_by_places` (what is the tree), `digests_at-row`, `length-digests_at-row`, `block_at-run` (a hash block by the digests that it holds).
+use Rattle.std.proofs.Common.{◌≡◌, ℕ, zero, suc, ◌+◌, ◌-◌, ◌/◌, ◌%◌, ◌<◌, ◌≤◌, List, [], length, map, drop, get_or, ⊎_elim, refl, sym, ap, ◌∙◌, subst, arith}
 use Rattle.std.specs.Int.{div_ceil}
 use Rattle.std.specs.Fork.{slice_chunk}
-use Rattle.std.proofs.Math.Nat.{pow-zero}
 use Rattle.std.proofs.lemmas.Bool.{cases_lt}
-use Rattle.std.proofs.lemmas.List.{length-map, get_or-map}
-use Rattle.verity_digest.specs.Tree.{Hashing, per_block, pack, hash_block, rounds, digests_at, slot, root, tree, IsHashing, IsLevelCount}
+use Rattle.std.proofs.lemmas.List.{length-map, get_or-map, ext_get_or}
+use Rattle.verity_digest.specs.Tree.{Hashing, per_block, pack, hash_block, digests_at, slot, root, tree, IsHashing, IsLevelCount}
 use Rattle.verity_digest.specs.Shape.{level_count, row_len, level_len, blocks_of_levels, level_start, place, total}
 use Rattle.verity_digest.specs.Rows.{row, block_at, tree_levels, level_block}
 use Rattle.verity_digest.proofs.Packing.{length-pack, get_or-pack}
@@ -17,7 +16,7 @@ use Rattle.verity_digest.proofs.Levels.{digests_at-suc, get_or-rounds, length-ro
 use Rattle.verity_digest.proofs.Slots.{AreSized-digests, slot-pack}
 use Rattle.verity_digest.proofs.Places.{joined_from_last, get_or-joined_from_last, length-joined_from_last, sum_by-drop}
 use Rattle.verity_digest.proofs.Numbers.{level_count_is}
-use Rattle.verity_digest.proofs.Counts.{row_len-zero, row_len-suc, row_len_top}
+use Rattle.verity_digest.proofs.Counts.{row_len-zero, row_len-suc, row_len_top, placed}
 
 pub length-row : (h : Hashing) (image : List (List ℕ)) (r : ℕ) → 0 < per_block h → length (row h image r) ≡ row_len (per_block h) (length image) r
 length-row h image zero some = sym (row_len-zero (per_block h) (length image))
@@ -31,6 +30,10 @@ pub digests_at-row : (h : Hashing) (image : List (List ℕ)) (l : ℕ) → diges
 unfolding digests_at
 digests_at-row h image zero = refl
 digests_at-row h image (suc l) = digests_at-suc h l (map h.digest image) ∙ ap (λ ds. map h.digest (pack h ds)) (digests_at-row h image l)
+
+pub length-digests_at-row : (h : Hashing) (image : List (List ℕ)) (l : ℕ) → 0 < per_block h
+    → length (digests_at h l (map h.digest image)) ≡ row_len (per_block h) (length image) l
+length-digests_at-row h image l some = ap length (digests_at-row h image l) ∙ length-map (row h image l) h.digest ∙ length-row h image l some
 
 -- block i of the next row holds the digests from block i * k of this row on
 pub block_at-run : (h : Hashing) (image : List (List ℕ)) (r i : ℕ) → 0 < per_block h → i < row_len (per_block h) (length image) (suc r)
@@ -107,6 +110,20 @@ tree-place h image l i two below inside =
     sym (part_len h image (suc l) two below) ∙ ap (λ m. length (joined_from_last (drop m levels))) at in
     ap (λ s. get_or (tree h image) (s + i) []) start
     ∙ get_or-joined_from_last levels l i [] (omega arith) (omega arith)
+
+-- a list with each block of the tree in its place is the tree
+pub tree_by_places : (h : Hashing) (image blocks : List (List ℕ)) → 2 ≤ per_block h → length blocks ≡ total (per_block h) (length image)
+    → ((l i : ℕ) → l < level_count (per_block h) (length image) → i < level_len (per_block h) (length image) l
+    → get_or blocks (place (per_block h) (length image) l i) [] ≡ level_block h image l i)
+    → blocks ≡ tree h image
+tree_by_places h image blocks two long each =
+    ext_get_or [] blocks (tree h image) (long ∙ sym (length-tree h image two))
+    (λ p below.
+    let here = placed (per_block h) (length image) p (omega arith) in
+    ap (λ q. get_or blocks q []) (sym here.at)
+    ∙ each here.level here.index here.there here.within
+    ∙ sym (tree-place h image here.level here.index two here.there here.within)
+    ∙ ap (λ q. get_or (tree h image) q []) here.at)
 
 -- the root is the digest of the one block of the top row
 pub root-row : (h : Hashing) (image : List (List ℕ)) → 2 ≤ per_block h → 0 < length image

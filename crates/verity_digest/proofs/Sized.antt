@@ -1,13 +1,13 @@
 -- The size of hash blocks, and what they leave free.
 -- For the layers above: `AllSized-row`, `AllSized-tree`, `AllSized-tree_above`, `drop-held` (zeros).
-use Rattle.std.proofs.Common.{◌≡◌, ℕ, zero, suc, ◌+◌, ◌-◌, ◌*◌, ◌<◌, ◌≤◌, min, List, [], ◌∷◌, ◌++◌, length, map, drop, replicate, get_or, sym, ap, ◌∙◌, subst, arith}
+use Rattle.std.proofs.Common.{◌≡◌, ℕ, zero, suc, ◌-◌, ◌*◌, ◌<◌, min, List, [], ◌∷◌, ◌++◌, length, map, drop, replicate, get_or, sym, ap, ◌∙◌, subst, arith}
 use Rattle.std.specs.Prelude.{All}
 use Rattle.std.specs.Fork.{slice_chunk}
 use Rattle.std.proofs.lemmas.List.{length-map, length-take, length-drop}
 use Rattle.std.proofs.lemmas.List.Elements.{All-nil, All-head, All-tail, All-append, All-same, All-get_or, All-from_get_or}
-use Rattle.verity_digest.specs.Tree.{Hashing, per_block, pack, hash_block, rounds, digests_at, tree, tree_above, IsHashing}
+use Rattle.verity_digest.specs.Tree.{Hashing, per_block, pack, rounds, digests_at, tree, tree_above, IsHashing}
 use Rattle.verity_digest.specs.Shape.{row_len, level_len, held}
-use Rattle.verity_digest.specs.Rows.{row, block_at, tree_levels}
+use Rattle.verity_digest.specs.Rows.{row, block_at}
 use Rattle.verity_digest.proofs.Packing.{length-pack, get_or-pack}
 use Rattle.verity_digest.proofs.Levels.{digests_at-suc, get_or-rounds}
 use Rattle.verity_digest.proofs.Slots.{AreSized, AreSized-run, AreSized-digests, length-hash_block, drop-hash_block}
@@ -66,7 +66,7 @@ AllSized-tree h image ok = AllSized-tree_above h (map h.digest image) ok (AreSiz
 -- behind the digests that a block holds stand zeros
 pub drop-held : (h : Hashing) (image : List (List ℕ)) (l i : ℕ) → IsHashing h → i < level_len (per_block h) (length image) l
     → drop (held (per_block h) (length image) l i * h.digest_size) (block_at h image (suc l) i)
-        ≡ replicate (h.block_size - held (per_block h) (length image) l i * h.digest_size) 0
+    ≡ replicate (h.block_size - held (per_block h) (length image) l i * h.digest_size) 0
 drop-held h image l i ok below =
     let w : ℕ = per_block h in
     let some : 0 < w = omega (arith, ok.branching) in

@@ -1,18 +1,17 @@
 -- The laws of hash trees, put together.
-use Rattle.std.proofs.Common.{◌≡◌, ℕ, zero, suc, ◌+◌, ◌*◌, ◌/◌, ◌%◌, ◌^◌, ◌<◌, ◌≤◌, List, [], ◌∷◌, length, map, drop, get_or, sym, ap, ◌∙◌, subst, arith}
-use Rattle.std.proofs.Math.Nat.{pow-zero}
+use Rattle.std.proofs.Common.{◌≡◌, ℕ, suc, ◌*◌, ◌/◌, ◌%◌, ◌^◌, ◌<◌, ◌≤◌, List, [], ◌∷◌, length, map, drop, sym, ap, ◌∙◌, arith}
 use Rattle.verity_digest.specs.Laws.{UnfoldsRounds, HasNoLevel, CountsBlocks, PlacesBlocks, OrdersLevels, NamesDigests, FillsBlocks, GoesByRows, NamesByRows, HashesAll, GrowsWithCount, LiesAbove}
-use Rattle.verity_digest.specs.Tree.{Hashing, per_block, slot, last_digests, tree_above, IsHashing, IsLevelCount}
+use Rattle.verity_digest.specs.Tree.{Hashing, per_block, slot, IsHashing}
 use Rattle.verity_digest.specs.Shape.{level_count, row_len, held}
-use Rattle.verity_digest.specs.Rows.{tree_levels, level_block, block_at}
+use Rattle.verity_digest.specs.Rows.{tree_levels, block_at}
 use Rattle.verity_digest.proofs.Rounds.{rounds-few, rounds-more}
 use Rattle.verity_digest.proofs.Levels.{length-last_digests}
 use Rattle.verity_digest.proofs.Slots.{AreSized-digests}
 use Rattle.verity_digest.proofs.Places.{joined_from_last}
 use Rattle.verity_digest.proofs.Roots.{root_above-one}
 use Rattle.verity_digest.proofs.Sha.{length-digest_of, IsHashing-hashing}
-use Rattle.verity_digest.proofs.Numbers.{IsLevelCount-level_count, level_below}
-use Rattle.verity_digest.proofs.Counts.{row_len_top, top_start, next_start, last_end}
+use Rattle.verity_digest.proofs.Numbers.{level_below}
+use Rattle.verity_digest.proofs.Counts.{row_len_top, top_start, next_start, last_end, placed}
 use Rattle.verity_digest.proofs.Growth.{level_count-mono, row_len-mono, level_start-mono, total-mono, above_within, above-zero, above-suc}
 use Rattle.verity_digest.proofs.Rows.{IsLevelCount-levels, length-levels, length-level_of, length-tree, tree-place, level-row, level_block-row, length-row, digests_at-row, root-row, slot-row}
 use Rattle.verity_digest.proofs.Sized.{AllSized-rounds, AllSized-tree, drop-held}
@@ -46,6 +45,7 @@ orders_levels k n two some = record {
   first = λ l top. top_start k n l top;
   next = λ l below. next_start k n l below;
   last = λ levels. last_end k n levels;
+  each = λ p below. let here = placed k n p below in (here.level, here.index, here.there, here.within, here.at);
 }
 
 -- no data block has no level

@@ -34,12 +34,13 @@ abbrev pub PlacesBlocks : Hashing → List (List ℕ) → Type 0
 PlacesBlocks h image = (l i : ℕ) → l < level_count (per_block h) (length image) → i < level_len (per_block h) (length image) l
     → slice_index_or (tree h image) (place (per_block h) (length image) l i) [] ≡ level_block h image l i
 
--- the top level, of one block, comes first, and level 0 last, without gaps
+-- the top level, of one block, comes first, and level 0 last, without gaps, and there is nothing else
 pub record OrdersLevels (k n : ℕ) : Type 0 where
   pub single : (l : ℕ) → suc l ≡ level_count k n → level_len k n l ≡ 1
   pub first : (l : ℕ) → suc l ≡ level_count k n → level_start k n l ≡ 0
   pub next : (l : ℕ) → suc l < level_count k n → level_start k n (suc l) + level_len k n (suc l) ≡ level_start k n l
   pub last : 0 < level_count k n → level_start k n 0 + level_len k n 0 ≡ total k n
+  pub each : (p : ℕ) → p < total k n → (l : ℕ) × (i : ℕ) × (l < level_count k n) × (i < level_len k n l) × (place k n l i ≡ p)
 
 -- data block b's digest stands in level 0, block b / k, slot b % k; that of block i of level l in
 -- level l + 1, block i / k, slot i % k; and that of the one block of the top level is the root
@@ -56,7 +57,7 @@ pub record FillsBlocks (h : Hashing) (image : List (List ℕ)) : Type 0 where
   pub tree : All (λ block. length block ≡ h.block_size) (tree h image)
   pub zeros : (l i : ℕ) → l < level_count (per_block h) (length image) → i < level_len (per_block h) (length image) l
       → drop (held (per_block h) (length image) l i * h.digest_size) (level_block h image l i)
-          ≡ replicate (h.block_size - held (per_block h) (length image) l i * h.digest_size) 0
+      ≡ replicate (h.block_size - held (per_block h) (length image) l i * h.digest_size) 0
 
 -- row l + 1 is level l, which holds the digests of row l; the rows are as long as their numbers say,
 -- also above the root; and the digest of the one block at the top is the root

@@ -1,7 +1,6 @@
 -- The fields of a digest.
 use Rattle.std.specs.Prelude.{◌≡◌, ℕ, ◌-◌, List, ◌++◌, length, take, drop, replicate, ◌==◌, if◌then◌else◌}
 use Rattle.verity_digest.specs.declared.digest.Digest.TheInside.{Inside}
-use Rattle.verity_digest.specs.declared.algorithm.Algorithm.{Algorithm}
 use Rattle.verity_digest.specs.declared.algorithm.Algorithm.TheVariants.{Sha256, Sha512}
 use Rattle.verity_digest.specs.Hash.{size_of}
 

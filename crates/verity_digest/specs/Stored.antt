@@ -1,5 +1,5 @@
 -- The fields of a digest, from its bytes.
-use Rattle.std.proofs.Common.{◌≡◌, ℕ, ◌-◌, List, ◌++◌, length, take, drop, replicate, ◌==◌, if◌then◌else◌, refl, sym, ap, ◌∙◌, arith, subst}
+use Rattle.std.proofs.Common.{◌≡◌, ℕ, ◌-◌, List, ◌++◌, length, take, drop, replicate, ◌==◌, if◌then◌else◌, sym, ap, ◌∙◌, arith}
 use Rattle.std.proofs.lemmas.List.{length-take-le, take-append-drop, take_all, append-nil}
 use Rattle.verity_digest.specs.declared.digest.Digest.TheInside.{Inside}
 use Rattle.verity_digest.specs.declared.algorithm.Algorithm.{Algorithm}

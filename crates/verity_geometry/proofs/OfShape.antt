@@ -1,20 +1,20 @@
 -- The numbers of a shape are those of the tree of each image of this shape.
 -- For the layers above: `IsOfShape-hashing` (an image hashed with the shape's sizes), `length-shape_levels`,
 -- `length-shape_level`, `length-shape_row`, `length-shape_tree`, `tree-shape_place` (which block of the tree stands at a
--- place), `slot-shape_leaf`, `slot-shape_parent`, `root-shape_top`, `starts_rise`, `climbs_from`.
+-- place), `tree_by_shape_places` (what is the tree), `slot-shape_leaf`, `slot-shape_parent`, `root-shape_top`, `starts_rise`, `climbs_from`.
 use Rattle.std.proofs.Common.{◌≡◌, ℕ, suc, ◌+◌, ◌/◌, ◌%◌, ◌<◌, ◌≤◌, List, [], length, get_or, refl, sym, ap, ◌∙◌, subst, arith}
-use Rattle.verity_digest.specs.Tree.{Hashing, per_block, slot, root, tree, IsHashing}
+use Rattle.verity_digest.specs.Tree.{Hashing, per_block, slot, root, tree}
 use Rattle.verity_digest.specs.Hash.{Salted, hashing, size_of}
 use Rattle.verity_digest.specs.Shape.{level_count, row_len, level_len, level_start, place, total}
 use Rattle.verity_digest.specs.Rows.{row, tree_levels, level_block}
 use Rattle.verity_digest.proofs.Sha.{IsHashing-hashing}
 use Rattle.verity_digest.proofs.Growth.{above_within, above-zero, above-suc}
-use Rattle.verity_digest.proofs.Rows.{length-levels, length-level_of, length-row, length-tree, tree-place}
+use Rattle.verity_digest.proofs.Rows.{length-levels, length-level_of, length-row, length-tree, tree-place, tree_by_places}
 use Rattle.verity_digest.proofs.TreeLaws.{names_digests, grows_with_count}
 use Rattle.verity_profile.proofs.Bounds.{block_size_low}
 use Rattle.verity_geometry.specs.Geometry.{Shape, IsShape, IsOfShape, digests_per_block, levels_of, len_of, start_of, place_of, total_of, above_of}
-use Rattle.verity_geometry.specs.Laws.{CountsLevels, PlacesBlocks, NamesParents, Grows, StartsRise, ClimbsFrom}
-use Rattle.verity_geometry.proofs.Shapes.{branching, some}
+use Rattle.verity_geometry.specs.Laws.{ShapesImages, CountsLevels, PlacesBlocks, NamesParents, Grows, StartsRise, ClimbsFrom}
+use Rattle.verity_geometry.proofs.Shapes.{branching}
 
 pub IsOfShape-hashing : (s : Shape) (salted : Salted) (image : List (List ℕ)) → IsShape s → size_of salted.algorithm ≡ s.digest_size
     → length image ≡ s.blocks → IsOfShape s (hashing salted s.hash_size) image
@@ -24,6 +24,9 @@ IsOfShape-hashing s salted image ok digest blocks = record {
   digest_size = digest;
   blocks = blocks;
 }
+
+pub shapes_images : (s : Shape) → IsShape s → ShapesImages s
+shapes_images s ok salted image digest blocks = IsOfShape-hashing s salted image ok digest blocks
 
 pub same_per_block : (s : Shape) (h : Hashing) (image : List (List ℕ)) → IsOfShape s h image → per_block h ≡ digests_per_block s
 same_per_block s h image of = ap (λ b. b / h.digest_size) of.block_size ∙ ap (λ d. s.hash_size / d) of.digest_size
@@ -63,6 +66,16 @@ tree-shape_place s h image l i of below inside =
     let long = same_number (λ k n. level_len k n l) s h image of in
     ap (λ p. get_or (tree h image) p []) (sym (same_number (λ k n. place k n l i) s h image of))
     ∙ tree-place h image l i of.hashing.branching (there s h image l of below) (omega arith)
+
+-- a list with each block of the image's tree where the shape places it is the tree
+pub tree_by_shape_places : (s : Shape) (h : Hashing) (image blocks : List (List ℕ)) → IsOfShape s h image → length blocks ≡ total_of s
+    → ((l i : ℕ) → l < levels_of s → i < len_of s l → get_or blocks (place_of s l i) [] ≡ level_block h image l i) → blocks ≡ tree h image
+tree_by_shape_places s h image blocks of long each =
+    tree_by_places h image blocks of.hashing.branching (long ∙ sym (same_number total s h image of))
+    (λ l i below inside.
+    let count = same_number level_count s h image of in
+    let level = same_number (λ k n. level_len k n l) s h image of in
+    ap (λ p. get_or blocks p []) (same_number (λ k n. place k n l i) s h image of) ∙ each l i (omega arith) (omega arith))
 
 pub places_blocks : (s : Shape) (h : Hashing) (image : List (List ℕ)) → IsOfShape s h image → PlacesBlocks s h image
 places_blocks s h image of l i below inside = tree-shape_place s h image l i of below inside

@@ -1,7 +1,7 @@
 -- What the numbers of a shape are bounded by.
 -- For the layers above: `digest_size_cases`, `wide`, `wide_sha256`, `narrow`, `branching`, `some`, `few` (of a shape of the profile),
 -- `total_few`, `levels_few`, `levels_few_sha256`, `level_low`.
-use Rattle.std.proofs.Common.{◌≡◌, ℕ, ◌*◌, ◌/◌, ◌^◌, ◌<◌, ◌≤◌, Bool, true, false, ◌||◌, eqb, ◌⊎◌, inl, inr, ⊎_elim, sym, ap, ◌∙◌, subst, arith, lit≤}
+use Rattle.std.proofs.Common.{◌≡◌, ℕ, ◌^◌, ◌<◌, ◌≤◌, ◌⊎◌, inl, inr, ⊎_elim, arith, lit≤}
 use Rattle.std.specs.Prelude.{IsTrue}
 use Rattle.std.proofs.Math.Nat.{div-le_of_le-mul}
 use Rattle.std.proofs.lemmas.Nat.{le-div}

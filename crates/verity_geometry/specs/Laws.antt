@@ -1,8 +1,14 @@
 -- How a shape describes the hash tree of an image, and how shapes of one volume go together.
-use Rattle.std.specs.Prelude.{◌≡◌, ℕ, suc, ◌+◌, ◌/◌, ◌%◌, ◌<◌, ◌≤◌, List, [], length, slice_index_or}
+use Rattle.std.specs.Prelude.{◌≡◌, ℕ, ◌+◌, ◌/◌, ◌%◌, ◌<◌, ◌≤◌, List, [], length, slice_index_or}
 use Rattle.verity_digest.specs.Tree.{Hashing, slot, root, tree}
+use Rattle.verity_digest.specs.Hash.{Salted, hashing, size_of}
 use Rattle.verity_digest.specs.Rows.{tree_levels, level_block}
-use Rattle.verity_geometry.specs.Geometry.{Shape, digests_per_block, levels_of, len_of, start_of, place_of, total_of, above_of}
+use Rattle.verity_geometry.specs.Geometry.{Shape, IsOfShape, digests_per_block, levels_of, len_of, start_of, place_of, total_of, above_of}
+
+-- an image of the shape's count of blocks, hashed by either algorithm with the shape's sizes, is of this shape
+abbrev pub ShapesImages : Shape → Type 0
+ShapesImages s = (salted : Salted) (image : List (List ℕ)) → size_of salted.algorithm ≡ s.digest_size → length image ≡ s.blocks
+    → IsOfShape s (hashing salted s.hash_size) image
 
 -- the numbers of levels and of their blocks are those of the image's tree
 pub record CountsLevels (s : Shape) (h : Hashing) (image : List (List ℕ)) : Type 0 where

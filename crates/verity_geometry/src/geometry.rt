@@ -1,5 +1,5 @@
 //! The levels of a hash tree, and where their blocks stand.
-ghost use Rattle.std.specs.Prelude.{◌≡◌, ◌+◌, ◌-◌, ◌/◌, ◌%◌, ◌^◌, ◌<◌, ◌≤◌, IsTrue};
+ghost use Rattle.std.specs.Prelude.{◌≡◌, ◌+◌, ◌-◌, ◌/◌, ◌%◌, ◌^◌, ◌<◌, ◌≤◌, IsTrue, IfOk};
 ghost use Rattle.verity_digest.specs.Shape.{level_count, blocks_of_levels};
 ghost use Rattle.verity_profile.specs.Profile.{IsBlockSize, IsBlockCount};
 ghost use Rattle.verity_geometry.specs.Geometry.{IsShape, is_digest_size, digests_per_block, levels_of, len_of, start_of, place_of, total_of, above_of};
@@ -59,11 +59,12 @@ fn blocks_below(per_block: u64, level: usize) -> u64
 }
 
 impl Geometry {
-    ghost use Rattle.verity_geometry.specs.Faults.{shape_or_fault};
+    ghost use Rattle.verity_geometry.specs.Faults.{shape_of, shape_or_fault};
 
     /// The geometry of a volume with SHA-256, whose digests have 32 bytes. M1 and M2 as in `with_digest`.
     pub fn new(data_size: usize, hash_size: usize, blocks: u64) -> Result<Self, GeometryFault>
-        ensures { result ≡ shape_or_fault data_size hash_size blocks 32 }
+        ensures answer { result ≡ shape_or_fault data_size hash_size blocks 32 }
+        ensures ok { IfOk result (λ geometry. geometry ≡ shape_of data_size hash_size blocks 32) }
     {
         Geometry::with_digest(data_size, hash_size, blocks, 32)
     }
@@ -77,7 +78,8 @@ impl Geometry {
         blocks: u64,
         digest_size: usize,
     ) -> Result<Self, GeometryFault>
-        ensures { result ≡ shape_or_fault data_size hash_size blocks digest_size }
+        ensures answer { result ≡ shape_or_fault data_size hash_size blocks digest_size }
+        ensures ok { IfOk result (λ geometry. geometry ≡ shape_of data_size hash_size blocks digest_size) }
     {
         if !(is_block_size(data_size) && is_block_size(hash_size)) {
             return Err(GeometryFault::BadSize);
@@ -234,8 +236,8 @@ impl Geometry {
         ensures value { result ≡ above_of self.now level n }
         ensures within { result < len_of self.now level }
     {
-        let _ = &self.blocks;
-        n / blocks_below(self.per_block() as u64, level)
+        let span = blocks_below(self.per_block() as u64, level);
+        n / span
     }
 
     /// How many hash blocks all levels have, without the superblock's.

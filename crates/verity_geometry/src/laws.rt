@@ -3,9 +3,16 @@
 ghost use Rattle.std.specs.Prelude.{ℕ, List};
 ghost use Rattle.verity_digest.specs.Tree.{Hashing};
 ghost use Rattle.verity_geometry.specs.Geometry.{IsOfShape};
-ghost use Rattle.verity_geometry.specs.Laws.{CountsLevels, PlacesBlocks, NamesParents, Grows, StartsRise, ClimbsFrom};
+ghost use Rattle.verity_geometry.specs.Laws.{ShapesImages, CountsLevels, PlacesBlocks, NamesParents, Grows, StartsRise, ClimbsFrom};
 
 use crate::Geometry;
+
+/// Every image of the geometry's count of blocks, hashed with its sizes, is one of its shape.
+pub fn shapes_images(geometry: &Geometry)
+    ensures { ShapesImages geometry.now }
+{
+    let _ = geometry.levels();
+}
 
 /// The numbers of levels and of their blocks are those of an image's tree.
 pub fn counts_levels(geometry: &Geometry)

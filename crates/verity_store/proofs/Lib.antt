@@ -1,3 +1,5 @@
 pub mod BlockLemmas
+pub mod FileLemmas
 pub mod MoveLemmas
+pub mod ScriptLemmas
 pub mod StoreLemmas

@@ -1,5 +1,5 @@
 -- Runs of calls: what each call leaves, all of them leave.
-use Rattle.std.proofs.Common.{◌≡◌, refl, ◌∙◌, arith}
+use Rattle.std.proofs.Common.{refl, ◌∙◌, arith}
 use Rattle.verity_store.specs.Stores.{IsLater, IsOnlyRead}
 use Rattle.verity_store.specs.declared.store.BlockStore as store
 

@@ -7,16 +7,37 @@
 //!
 //! Its faults are S1 to S4 (`StoreFault`). A call answers S1 only where `failures` rose in it.
 //!
+//! Four stores: `MemStore` in memory and `FileStore` in a file, which are honest; `ScriptStore`, which gives what it was told to
+//! give, and `FailStore`, some of whose calls fail, which are for whoever wants to see what a layer above makes of them.
+//! `move_run` moves a run of blocks within any store.
+//!
 //! Definitions: `specs/Blocks.antt` (lists of blocks), `specs/Moves.antt` (runs that are moved), `specs/Stores.antt` (what
-//! calls leave of a store's facts), `specs/Texts.antt` (the texts).
+//! calls leave of a store's facts), `specs/Script.antt` and `specs/Failing.antt` (those two stores), `specs/RawFile.antt` (the
+//! bytes of a file), `specs/Texts.antt` (the texts).
 #![tactic(auto)]
 
+mod answer;
+mod block;
+mod fail;
 mod fault;
+mod file;
+mod mem_file;
 mod memory;
 mod moves;
+mod raw_file;
+mod script;
 mod store;
+#[cfg(test)]
+mod tests;
 
+pub use answer::Answer;
+pub use block::Block;
+pub use fail::FailStore;
 pub use fault::{StoreFault, Which};
+pub use file::FileStore;
+pub use mem_file::MemFile;
 pub use memory::MemStore;
 pub use moves::move_run;
+pub use raw_file::RawFile;
+pub use script::ScriptStore;
 pub use store::BlockStore;

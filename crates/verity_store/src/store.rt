@@ -7,7 +7,8 @@ use crate::StoreFault;
 
 /// A list of blocks of one size, which may fail and need not be honest.
 ///
-/// The size is one of the profile and never changes. Each call is at most one access to the device.
+/// The size is one of the profile and never changes. A caller owes blocks that are there, buffers of one block, and lengths
+/// of at most 2^41 blocks.
 pub trait BlockStore {
     /// The bytes of a block.
     ghost size: { Self → ℕ };

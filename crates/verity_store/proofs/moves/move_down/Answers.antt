@@ -1,4 +1,4 @@
-use Rattle.std.proofs.Common.{◌≡◌, ℕ, ◌+◌, arith, ◌∙◌}
+use Rattle.std.proofs.Common.{◌+◌, arith, ◌∙◌}
 use Rattle.verity_store.proofs.MoveLemmas.{ChangesWithin-part, ChangesWithin-then, moved_down_more}
 use Rattle.verity_store.proofs.moves.move_down.Goals as goal
 

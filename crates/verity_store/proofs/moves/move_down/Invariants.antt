@@ -1,4 +1,4 @@
-use Rattle.std.proofs.Common.{◌≡◌, ℕ, ◌+◌, ◌-◌, ◌<◌, ◌≤◌, true, List, [], length, slice_index_or}
+use Rattle.std.proofs.Common.{◌≡◌, ℕ, ◌+◌, true, List}
 use Rattle.verity_store.specs.Moves.{IsMoved, ChangesWithin}
 use Rattle.verity_store.proofs.moves.move_down.Given as goal
 

@@ -1,4 +1,4 @@
-use Rattle.std.proofs.Common.{◌≡◌, ℕ, length, replicate, ◌∙◌, arith}
+use Rattle.std.proofs.Common.{◌≡◌, length, replicate, ◌∙◌, arith}
 use Rattle.std.proofs.lemmas.List.{take_at, drop_at, length-append}
 use Rattle.verity_digest.proofs.digest.Digest.from_bytes.Goals as goal
 

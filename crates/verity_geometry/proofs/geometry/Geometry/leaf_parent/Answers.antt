@@ -1,5 +1,5 @@
 use Rattle.std.proofs.Common.{◌<◌, arith}
-use Rattle.verity_digest.proofs.Counts.{quotient_below, level_len-zero}
+use Rattle.verity_digest.proofs.Counts.{row_len_above, row_len-zero}
 use Rattle.verity_geometry.specs.Geometry.{digests_per_block}
 use Rattle.verity_geometry.proofs.geometry.Geometry.leaf_parent.Goals as goal
 
@@ -8,4 +8,5 @@ returns-clause-index_within c =
     let s = c.args.self.now in
     let k = c.per_block-per_block.ensures in
     let some : 0 < digests_per_block s = omega (arith, k.value, k.least) in
-    rw (k.value, level_len-zero (digests_per_block s) s.blocks some) (quotient_below s.blocks (digests_per_block s) c.args.n some c.requires.within)
+    let all = row_len-zero (digests_per_block s) s.blocks in
+    rw k.value (row_len_above (digests_per_block s) s.blocks 0 c.args.n some (omega (arith, c.requires.within)))

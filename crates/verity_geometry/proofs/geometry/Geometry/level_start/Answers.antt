@@ -1,7 +1,7 @@
 use Rattle.std.proofs.Common.{◌≡◌, suc, ◌-◌, ◌+◌, ap, ◌∙◌, arith}
 use Rattle.verity_digest.specs.Shape.{blocks_of_levels}
 use Rattle.verity_digest.proofs.Counts.{level_within}
-use Rattle.verity_geometry.specs.Geometry.{digests_per_block, levels_of, start_of}
+use Rattle.verity_geometry.specs.Geometry.{digests_per_block, levels_of}
 use Rattle.verity_geometry.proofs.Shapes.{total_few, few}
 use Rattle.verity_geometry.proofs.geometry.Geometry.level_start.Goals as goal
 

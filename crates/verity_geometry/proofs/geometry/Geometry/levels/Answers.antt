@@ -1,4 +1,4 @@
-use Rattle.std.proofs.Common.{◌≡◌, ap, ◌∙◌, arith}
+use Rattle.std.proofs.Common.{ap, ◌∙◌, arith}
 use Rattle.verity_digest.specs.Shape.{level_count}
 use Rattle.verity_geometry.specs.Geometry.{digests_per_block}
 use Rattle.verity_geometry.proofs.Shapes.{levels_few, levels_few_sha256}

@@ -1,6 +1,5 @@
-use Rattle.std.proofs.Common.{ℕ, suc, ◌≡◌, ◌+◌, ◌/◌, ◌<◌, sym, ap, ◌∙◌, subst, arith}
-use Rattle.verity_digest.specs.Shape.{row_len}
-use Rattle.verity_digest.proofs.Counts.{quotient_below, row_len-suc}
+use Rattle.std.proofs.Common.{ℕ, suc, ◌≡◌, ◌+◌, ◌/◌, ◌<◌, subst, arith}
+use Rattle.verity_digest.proofs.Counts.{row_len_above}
 use Rattle.verity_geometry.specs.Geometry.{digests_per_block, len_of}
 use Rattle.verity_geometry.proofs.geometry.Geometry.parent.Goals as goal
 
@@ -11,6 +10,5 @@ returns-clause-index_within c =
     let is = c.per_block-per_block.ensures in
     let some : 0 < k = omega (arith, is.value, is.least) in
     let at : suc c.args.level ≡ c.args.level + 1 = omega arith in
-    let next = sym (row_len-suc k s.blocks (suc c.args.level) some) ∙ ap (λ l. len_of s l) at in
-    let P : ℕ → Type 0 = λ n. c.args.index / k < n in
-    rw is.value (subst P next (quotient_below (len_of s c.args.level) k c.args.index some c.requires.index))
+    let P : ℕ → Type 0 = λ l. c.args.index / k < len_of s l in
+    rw is.value (subst P at (row_len_above k s.blocks (suc c.args.level) c.args.index some c.requires.index))

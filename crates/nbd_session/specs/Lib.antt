@@ -1,0 +1,16 @@
+pub mod Protocol
+pub mod Messages
+pub mod Handshake
+pub mod Options
+pub mod Transmission
+pub mod Answers
+pub mod Talk
+pub mod Export
+pub mod Session
+pub mod Texts
+pub mod Inbox
+pub mod Conversation
+pub mod Requests
+pub mod Vectors
+pub mod Rows
+pub mod Borders

@@ -1,0 +1,51 @@
+//! What a session reads from.
+
+ghost use Rattle.std.specs.Prelude.{◌≡◌, ◌≤◌, ◌+◌, ◌++◌, ℕ, List, OnOk, OnErr, IsErrOf};
+ghost use Rattle.nbd_session.specs.Export.{Facts, Failed, Keeps, Lacked, Served};
+
+use std::alloc::Allocator;
+
+/// Why a read gave no bytes.
+#[derive(Clone, Copy, Debug, Drop, PartialEq, Eq)]
+pub enum ExportFault {
+    /// The device failed, or what it gave was refused. A client is told EIO.
+    Io,
+    /// Memory was refused. A client is told ENOMEM.
+    NoMemory,
+}
+
+/// A read-only device of a fixed size.
+///
+/// Contracts see its `facts` at a moment: `size` and `block`; `may_serve`, which holds of each answer that was given;
+/// `may_refuse` and `may_lack`, which hold of each range that was refused; `steady content`, which says that the whole
+/// content is known; and a count of `failures`. No read takes any of them back.
+pub trait Export {
+    ghost facts: { Self → Facts };
+
+    /// The size in bytes.
+    fn size(&self) -> u64
+        ensures { result ≡ (facts self.now).size };
+
+    /// The preferred block size in bytes, as a client is told it ("Block size constraints").
+    fn block(&self) -> u32
+        ensures { result ≡ (facts self.now).block };
+
+    /// Appends the `len` bytes from `offset` on. The caller owes a range that doesn't go past the end.
+    ///
+    /// Where the content is steady, they are its slice. `Io` comes with leave to refuse this range, and where the
+    /// content is steady only if the count of failures rose; `NoMemory` comes with leave to lack memory for it. On
+    /// both `out` is as before.
+    fn read_at<A: Allocator>(
+        &mut self,
+        offset: u64,
+        len: usize,
+        out: &mut Vec<u8, A>,
+    ) -> Result<(), ExportFault>
+        requires { offset + len ≤ (facts self.old).size }
+        ensures keeps { Keeps (facts self.old) (facts self.new) }
+        ensures ok { OnOk result ((bytes : List ℕ) × (out.new.items ≡ out.old.items ++ bytes)
+            × Served (facts self.old) (facts self.new) offset len bytes) }
+        ensures io { IsErrOf result ExportFault.Io → Failed (facts self.old) (facts self.new) offset len }
+        ensures lack { IsErrOf result ExportFault.NoMemory → Lacked (facts self.old) (facts self.new) offset len }
+        ensures unchanged { OnErr result (out.new.items ≡ out.old.items) };
+}

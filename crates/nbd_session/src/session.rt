@@ -1,0 +1,110 @@
+//! A session.
+
+ghost use Rattle.std.specs.Prelude.{◌≡◌, ◌≤◌, ◌+◌, ◌++◌, [], false, IfOk, OnOk, OnErr, IsOk, Err, vec_len, vec_capacity};
+ghost use Rattle.nbd_session.specs.Handshake.{greeting};
+ghost use Rattle.nbd_session.specs.Session.{Feeds, IsAt};
+
+use crate::conversation::turns;
+use crate::export::Export;
+use crate::fault::SessionFault;
+use crate::handshake::greeting;
+use crate::inbox::Inbox;
+use crate::offer::{ExportName, Offer};
+use crate::phase::Phase;
+use crate::status::Status;
+use std::alloc::{Allocator, Global};
+use std::marker::Model;
+
+/// One client's session with a server of one export.
+///
+/// Contracts see its `offer`, its `phase`, what is kept of an unfinished message (`held` and `missing`) and whether it
+/// is `starved`. It holds at most one unfinished message, on its own allocator, and none of its export's bytes.
+#[derive(Drop)]
+pub struct Session<A: Allocator = Global> {
+    offer: Offer,
+    inbox: Inbox<A>,
+    starved: bool,
+}
+
+impl<A: Allocator> Model for Session<A> {
+    ghost use Rattle.nbd_session.specs.Session.{State};
+    ghost use Rattle.nbd_session.specs.Inbox.{IsInForm};
+
+    ghost Value = { State };
+
+    ghost view = { λ s. record { offer = s.offer; phase = s.inbox.phase; held = s.inbox.held.items; missing = s.inbox.missing; starved = s.starved } };
+
+    ghost invariant = { λ s. IsInForm s.inbox };
+}
+
+impl<A: Allocator> Session<A> {
+    /// Opens a session over an export of this name, size and block size in bytes, and appends the greeting to `out`.
+    /// It is at the empty input. The session's own memory comes from `alloc`, and none is taken yet.
+    ///
+    /// # Errors
+    ///
+    /// P2 [`SessionFault::NoMemory`], only where `out` hadn't the room for 18 bytes; `out` is then as before.
+    pub fn open<O: Allocator>(
+        alloc: A,
+        name: ExportName,
+        size: u64,
+        block: u32,
+        out: &mut Vec<u8, O>,
+    ) -> Result<Session<A>, SessionFault>
+        ensures offer { IfOk result (λ session. session.offer ≡ record { name = name; size = size; block = block }) }
+        ensures at { IfOk result (λ session. IsAt session []) }
+        ensures begins { IfOk result (λ session. (session.phase ≡ Phase.Flags) × (session.starved ≡ false)) }
+        ensures greets { OnOk result (out.new.items ≡ out.old.items ++ greeting) }
+        ensures room { vec_len out.old + 18 ≤ vec_capacity out.old → IsOk result }
+        ensures err { OnErr result ((result ≡ Err SessionFault.NoMemory) × (out.new.items ≡ out.old.items)) }
+    {
+        match out.extend_from_slice(&greeting()) {
+            Ok(()) => Ok(Session {
+                offer: Offer { name, size, block },
+                inbox: Inbox {
+                    phase: Phase::Flags,
+                    held: Vec::new(alloc),
+                    missing: 0,
+                },
+                starved: false,
+            }),
+            Err(_) => Err(SessionFault::NoMemory),
+        }
+    }
+
+    /// Takes in a piece of what the client sends, of any length, and appends to `out` the replies to each message that
+    /// it makes whole. The caller owes an export of the size that the session was opened with, and of its block size.
+    ///
+    /// For every input that the session was at, it is then at that input and the piece, and what it appended is what
+    /// the longer talk adds. A READ that is allowed and not empty asks the export once; its bytes go straight into
+    /// `out`. Want of memory of the export is answered ENOMEM.
+    ///
+    /// [`Status::Ended`] exactly where the talk has ended. [`Status::Starved`] where memory was refused for the input
+    /// or for a reply's framing: `out` is then as before the feed. Both answers last, and append nothing further.
+    pub fn feed<E: Export, O: Allocator>(
+        &mut self,
+        piece: &[u8],
+        export: &mut E,
+        out: &mut Vec<u8, O>,
+    ) -> Status
+        requires { self.old.offer.size ≡ (E.facts export.old).size }
+        ensures { Feeds (E.facts export.old) (E.facts export.new) self.old self.new piece.now out.old.items out.new.items result }
+    {
+        if self.starved {
+            return Status::Starved;
+        }
+        if let Phase::Ended = self.inbox.phase {
+            return Status::Ended;
+        }
+        let start = out.len();
+        match turns(&self.offer, &mut self.inbox, piece, export, out) {
+            Ok(()) => Status::of(self.inbox.phase),
+            Err(_) => {
+                out.truncate(start);
+                self.inbox.begin(Phase::Ended);
+                self.starved = true;
+                Status::Starved
+            }
+        }
+    }
+}

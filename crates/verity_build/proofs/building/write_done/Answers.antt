@@ -1,0 +1,75 @@
+use Rattle.std.proofs.Common.{◌≡◌, ◌≢◌, ℕ, suc, ◌+◌, ◌*◌, ◌/◌, ◌<◌, ◌≤◌, List, [], true, length, get_or, set, sym, ap, ◌∙◌, subst, arith}
+use Rattle.std.proofs.Math.Numerals.{add-one}
+use Rattle.std.proofs.lemmas.Bool.{eqb-true}
+use Rattle.verity_digest.specs.Hash.{Salted, hashing}
+use Rattle.verity_digest.specs.Tree.{Hashing, hash_block, tree}
+use Rattle.verity_geometry.specs.Geometry.{Shape, digests_per_block, levels_of, len_of, place_of, total_of}
+use Rattle.verity_geometry.proofs.Shapes.{wide}
+use Rattle.verity_store.specs.Stores.{IsLater}
+use Rattle.verity_build.specs.Open.{Open}
+use Rattle.verity_build.specs.Climb.{open_at, Closes}
+use Rattle.verity_build.specs.Progress.{Settling}
+use Rattle.verity_build.specs.Device.{AreStored}
+use Rattle.verity_build.proofs.Settles.{index_below, settling_next}
+use Rattle.verity_build.proofs.Turns.{turn_tree, turn_right}
+use Rattle.verity_build.proofs.Writes.{writes_then, writes_one, stored_next}
+use Rattle.verity_build.proofs.building.write_done.Goals as goal
+use Rattle.verity_build.proofs.building.write_done.Goals.{else-not-last-via-then-not-last+else-not-is_full, else-not-last-via-else-not-last}
+
+pub place-place-requires-clause-index : goal.place-place-requires-clause-index
+place-place-requires-clause-index g c =
+    let s = c.args.tree.now.geometry in
+    let tree = c.loop-level.tree in
+    let same = c.loop-level.invariant.geometry in
+    let w = wide s c.levels-level-end.ensures.shaped in
+    let there : c.loop-level.level < length tree.blocks.items = omega (arith, tree.levels, ap levels_of same, c.levels-level-end.ensures.value, c.loop-level-test.true) in
+    let below = index_below (digests_per_block s) c.args.blocks s.blocks c.loop-level.level tree.blocks.items tree.root (omega arith) c.requires.few c.loop-level.invariant.settling there in
+    omega (arith, c.index-index.ensures, ap (λ t. len_of t c.loop-level.level) same, below)
+
+pub loop-level-preserved : goal.loop-level-preserved
+loop-level-preserved g c =
+    let H = g.H.BlockStore in
+    let s : Shape = c.args.tree.now.geometry in
+    let salted : Salted = c.args.tree.now.hasher.salted in
+    let now = c.loop-level.tree in
+    let new = c.close.new.self in
+    let n : ℕ = c.args.blocks in
+    let j : ℕ = c.loop-level.level in
+    let kept = c.loop-level.invariant in
+    let w = wide s c.levels-level-end.ensures.shaped in
+    let full : n < s.blocks → length (open_at now.blocks.items j).digests ≡ digests_per_block s = λ less.
+    elim c.else-not-last.branch [
+      | else-not-last-via-then-not-last+else-not-is_full b ↦ b.is_full.ensures.0 b.if-not-is_full.false ∙ ap digests_per_block kept.geometry
+      | else-not-last-via-else-not-last b ↦ absurd (omega (arith, c.blocks-2.ensures.value, b.if-not-last.false))
+    ] in
+    let levels : length now.blocks.items ≡ levels_of s = now.levels ∙ ap levels_of kept.geometry in
+    let there : j < length now.blocks.items = omega (arith, c.levels-level-end.ensures.value, c.loop-level-test.true) in
+    let sized = c.args.tree.now.sized in
+    let h : Hashing = hashing salted s.hash_size in
+    let P : Hashing → Type 0 = λ x. Closes x j now.blocks.items new.blocks.items now.root new.root in
+    let closes = subst P (λ i. hashing (kept.salted i) (kept.geometry i).hash_size) c.close.ensures.closes in
+    let at : c.args.start + c.place-place.result ≡ c.args.start + place_of s j (open_at now.blocks.items j).index =
+    ap (λ p. c.args.start + p) (c.place-place.ensures.value ∙ ap (λ t. place_of t j c.index-index.result) kept.geometry ∙ ap (λ x. place_of s j x) c.index-index.ensures) in
+    let wrote = c.in_ok-write.ensures in
+    let within : c.args.start + place_of s j (open_at now.blocks.items j).index < length (H.content c.loop-level.hash_store) =
+    omega (arith, at, c.place-place.ensures.within, ap total_of kept.geometry, c.requires.room, kept.from.len) in
+    let block : c.block.result.now ≡ hash_block h (open_at now.blocks.items j).digests =
+    c.block.ensures.value ∙ (λ i. hash_block (hashing (kept.salted i) (kept.geometry i).hash_size) (open_at now.blocks.items j).digests) in
+    record {
+      settling =
+          let next = settling_next (digests_per_block s) n s.blocks j h now.blocks.items new.blocks.items now.root new.root kept.settling there full closes in
+          subst (λ m. Settling (digests_per_block s) n s.blocks m new.blocks.items new.root) (sym (add-one j)) next;
+      salted = c.close.ensures.salted ∙ kept.salted;
+      geometry = c.close.ensures.geometry ∙ kept.geometry;
+      right = λ image count right.
+          turn_right salted s n j now.blocks.items now.root c.levels-level-end.ensures.shaped sized levels c.requires.few kept.settling there full image count (kept.right image count right) new.blocks.items new.root closes;
+      stored = λ tells image count right stored.
+          let is = wrote.written (kept.from.later.tells ∙ tells) ∙ ap (λ a. set (H.content c.loop-level.hash_store) a c.block.result.now) at in
+          let tree_block = block ∙ turn_tree salted s n j now.blocks.items now.root c.levels-level-end.ensures.shaped sized levels c.requires.few kept.settling there full image count (kept.right image count right) in
+          let next = stored_next h s c.args.start j (tree h image) now.blocks.items new.blocks.items now.root new.root (H.content c.loop-level.hash_store) c.block.result.now closes within tree_block (kept.stored tells image count right stored) in
+          subst (λ content. AreStored s c.args.start (tree h image) new.blocks.items content) (sym is) next;
+      from =
+          let later : IsLater H c.loop-level.hash_store c.write.new.self = record { tells = wrote.tells; size = wrote.size; gave = wrote.gave; failures = wrote.failures; reads = omega (arith, wrote.reads); room = omega (arith, wrote.room) } in
+          writes_then H c.args.start c.args.hash_store.now c.loop-level.hash_store c.write.new.self kept.from
+          (writes_one H c.args.start (c.args.start + c.place-place.result) c.loop-level.hash_store c.write.new.self (omega arith) wrote.others wrote.reads wrote.room later);
+    }

@@ -1,0 +1,100 @@
+use Rattle.std.proofs.Common.{◌≡◌, ◌≢◌, ℕ, suc, ◌+◌, ◌*◌, ◌/◌, ◌<◌, ◌≤◌, List, [], true, length, get_or, set, sym, ap, ◌∙◌, subst, arith}
+use Rattle.std.proofs.Math.Numerals.{add-one}
+use Rattle.std.proofs.lemmas.Bool.{eqb-true}
+use Rattle.verity_digest.specs.Hash.{Salted, hashing}
+use Rattle.verity_digest.specs.Tree.{Hashing, hash_block, tree}
+use Rattle.verity_geometry.specs.Geometry.{Shape, digests_per_block, levels_of, len_of, place_of, total_of}
+use Rattle.verity_geometry.proofs.Shapes.{wide}
+use Rattle.verity_store.specs.Stores.{IsLater}
+use Rattle.verity_build.specs.Open.{Open}
+use Rattle.verity_build.specs.Climb.{open_at, Closes}
+use Rattle.verity_build.specs.Progress.{Settling}
+use Rattle.verity_build.specs.Device.{AreStored}
+use Rattle.verity_build.proofs.Settles.{index_below, settling_next, came_most, settling_reaches}
+use Rattle.verity_build.proofs.Turns.{turn_below, turn_tree, turn_right}
+use Rattle.verity_store.proofs.StoreLemmas.{only_read_then}
+use Rattle.std.specs.Prelude.{Option}
+use Rattle.verity_profile.proofs.Bounds.{block_size_low}
+use Rattle.verity_build.specs.declared.comparing.Place.{Place}
+use Rattle.verity_build.specs.Differences.{AreCompared, earlier}
+use Rattle.verity_build.proofs.Compares.{compared_same, compared_other}
+use Rattle.verity_build.proofs.comparing.compare_done.Goals as goal
+use Rattle.verity_build.proofs.comparing.compare_done.Goals.{else-not-last-via-then-not-last+else-not-is_full, else-not-last-via-else-not-last, then-not-branch, else-not-branch}
+
+pub place-requires-clause-index : goal.place-requires-clause-index
+place-requires-clause-index g c =
+    let s = c.args.tree.now.geometry in
+    let tree = c.loop-level.tree in
+    let same = c.loop-level.invariant.geometry in
+    let w = wide s c.levels-level-end.ensures.shaped in
+    let there : c.loop-level.level < length tree.blocks.items = omega (arith, tree.levels, ap levels_of same, c.levels-level-end.ensures.value, c.loop-level-test.true) in
+    let below = index_below (digests_per_block s) c.args.blocks s.blocks c.loop-level.level tree.blocks.items tree.root (omega arith) c.requires.few c.loop-level.invariant.settling there in
+    omega (arith, c.index-index.ensures, ap (λ t. len_of t c.loop-level.level) same, below)
+
+pub holds-requires-clause-some : goal.holds-requires-clause-some
+holds-requires-clause-some g c =
+    let low = block_size_low c.loop-level.tree.geometry.hash_size c.loop-level.tree.shaped.hash_size in
+    omega (arith, c.block.ensures.len)
+
+pub loop-level-preserved : goal.loop-level-preserved
+loop-level-preserved g c =
+    let H = g.H.BlockStore in
+    let s : Shape = c.args.tree.now.geometry in
+    let salted : Salted = c.args.tree.now.hasher.salted in
+    let now = c.loop-level.tree in
+    let new = c.close.new.self in
+    let n : ℕ = c.args.blocks in
+    let j : ℕ = c.loop-level.level in
+    let kept = c.loop-level.invariant in
+    let w = wide s c.levels-level-end.ensures.shaped in
+    let full : n < s.blocks → length (open_at now.blocks.items j).digests ≡ digests_per_block s = λ less.
+    elim c.else-not-last.branch [
+      | else-not-last-via-then-not-last+else-not-is_full b ↦ b.is_full.ensures.0 b.if-not-is_full.false ∙ ap digests_per_block kept.geometry
+      | else-not-last-via-else-not-last b ↦ absurd (omega (arith, c.blocks-2.ensures.value, b.if-not-last.false))
+    ] in
+    let levels : length now.blocks.items ≡ levels_of s = now.levels ∙ ap levels_of kept.geometry in
+    let there : j < length now.blocks.items = omega (arith, c.levels-level-end.ensures.value, c.loop-level-test.true) in
+    let sized = c.args.tree.now.sized in
+    let shaped = c.levels-level-end.ensures.shaped in
+    let h : Hashing = hashing salted s.hash_size in
+    let opens : List Open = now.blocks.items in
+    let index : ℕ = (open_at opens j).index in
+    let P : Hashing → Type 0 = λ x. Closes x j opens new.blocks.items now.root new.root in
+    let closes = subst P (λ i. hashing (kept.salted i) (kept.geometry i).hash_size) c.close.ensures.closes in
+    let at : c.args.start + c.place.result ≡ c.args.start + place_of s j index =
+    ap (λ p. c.args.start + p) (c.place.ensures.value ∙ ap (λ t. place_of t j c.index-index.result) kept.geometry ∙ ap (λ x. place_of s j x) c.index-index.ensures) in
+    let read = c.in_ok-holds.ensures.read in
+    let block : c.block.result.now ≡ hash_block h (open_at opens j).digests =
+    c.block.ensures.value ∙ (λ i. hash_block (hashing (kept.salted i) (kept.geometry i).hash_size) (open_at opens j).digests) in
+    let below = turn_below salted s n j opens now.root shaped sized levels c.requires.few kept.settling there full in
+    let most = λ (l : ℕ) (inside : l < length opens).
+    came_most (digests_per_block s) n s.blocks opens (omega arith) c.requires.few (settling_reaches (digests_per_block s) n s.blocks j opens now.root (omega arith) kept.settling) (suc l) inside in
+    record {
+      settling =
+          let next = settling_next (digests_per_block s) n s.blocks j h opens new.blocks.items now.root new.root kept.settling there full closes in
+          subst (λ m. Settling (digests_per_block s) n s.blocks m new.blocks.items new.root) (sym (add-one j)) next;
+      salted = c.close.ensures.salted ∙ kept.salted;
+      geometry = c.close.ensures.geometry ∙ kept.geometry;
+      right = λ image count right.
+          turn_right salted s n j opens now.root shaped sized levels c.requires.few kept.settling there full image count (kept.right image count right) new.blocks.items new.root closes;
+      compared = λ tells image count right compared.
+          let blocks : List (List ℕ) = tree h image in
+          let content : List (List ℕ) = H.content c.args.hash_store.now in
+          let before = kept.compared tells image count right compared in
+          let tree_block = block ∙ turn_tree salted s n j opens now.root shaped sized levels c.requires.few kept.settling there full image count (kept.right image count right) in
+          let here : get_or (H.content c.loop-level.hash_store) (c.args.start + c.place.result) [] ≡ get_or content (c.args.start + place_of s j index) [] =
+          (λ i. get_or (kept.read.content i) (at i) []) in
+          let same = c.in_ok-holds.ensures.same (kept.read.later.tells ∙ tells) in
+          let Q : Option Place → Type 0 = λ found. AreCompared s c.args.start blocks new.blocks.items content found in
+          elim c.if-not-branch.branch [
+            | then-not-branch b ↦
+                let differs : get_or content (c.args.start + place_of s j index) [] ≢ get_or blocks (place_of s j index) [] = λ e.
+                let yes = same.1 (here ∙ e ∙ sym tree_block) in let no = b.if-not-branch.true in absurd (cc) in
+                let found = b.found-is ∙ b.earlier-found.ensures ∙ ap (λ i. earlier c.loop-level.found (record { level = j; index = i })) c.index-index.ensures in
+                subst Q (sym found) (compared_other h s c.args.start j blocks content opens new.blocks.items now.root new.root closes there levels below most differs c.loop-level.found before)
+            | else-not-branch b ↦
+                subst Q (sym b.found-is) (compared_same h s c.args.start j blocks content opens new.blocks.items now.root new.root closes there c.loop-level.found
+                (sym here ∙ same.0 b.if-not-branch.false ∙ tree_block) before)
+          ];
+      read = only_read_then H c.args.hash_store.now c.loop-level.hash_store c.holds.new.hash_store kept.read read;
+    }

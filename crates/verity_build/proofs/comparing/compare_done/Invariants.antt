@@ -1,0 +1,22 @@
+use Rattle.std.proofs.Common.{◌≡◌, true}
+use Rattle.verity_digest.specs.Hash.{hashing}
+use Rattle.verity_geometry.specs.Geometry.{digests_per_block}
+use Rattle.verity_store.specs.Stores.{IsOnlyRead}
+use Rattle.verity_build.specs.Progress.{Settling}
+use Rattle.verity_build.specs.Device.{StaysRight}
+use Rattle.verity_build.specs.Differences.{StaysCompared}
+use Rattle.verity_build.proofs.comparing.compare_done.Given as goal
+
+abbrev pub invariant-loop-level : goal.invariant-loop-level
+invariant-loop-level g l =
+    let H = g.H.BlockStore in
+    let s = l.fn.tree.geometry in
+    let h = hashing l.fn.tree.hasher.salted s.hash_size in
+    record {
+      settling : Settling (digests_per_block s) l.blocks s.blocks l.level l.tree.blocks.items l.tree.root;
+      salted : l.tree.hasher.salted ≡ l.fn.tree.hasher.salted;
+      geometry : l.tree.geometry ≡ s;
+      right : StaysRight h s.blocks l.fn.tree.blocks.items l.fn.tree.root l.tree.blocks.items l.tree.root;
+      compared : H.tells l.fn.hash_store ≡ true → StaysCompared h s l.start (H.content l.fn.hash_store) l.fn.tree.blocks.items l.fn.tree.root l.fn.found_before l.tree.blocks.items l.found;
+      read : IsOnlyRead H l.fn.hash_store l.hash_store;
+    }

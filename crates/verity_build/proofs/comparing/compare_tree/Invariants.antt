@@ -1,0 +1,27 @@
+use Rattle.std.proofs.Common.{◌≡◌, ◌+◌, ◌<◌, true}
+use Rattle.verity_digest.specs.Hash.{hashing}
+use Rattle.verity_digest.specs.Tree.{tree}
+use Rattle.verity_geometry.specs.Geometry.{digests_per_block}
+use Rattle.verity_store.specs.Stores.{IsOnlyRead}
+use Rattle.verity_build.specs.Progress.{Growing, Grown, IsRight}
+use Rattle.verity_build.specs.Differences.{AreCompared}
+use Rattle.verity_build.proofs.comparing.compare_tree.Given as goal
+
+abbrev pub invariant-loop-n : goal.invariant-loop-n
+invariant-loop-n g l =
+    let D = g.D.BlockStore in
+    let H = g.H.BlockStore in
+    let s = l.fn.tree.geometry in
+    let h = hashing l.fn.tree.hasher.salted s.hash_size in
+    let image = D.content l.fn.data_store in
+    record {
+      growing : l.n < s.blocks → Growing (digests_per_block s) l.n l.tree.blocks.items l.tree.root;
+      grown : l.n ≡ s.blocks → Grown (digests_per_block s) l.n l.tree.blocks.items l.tree.root;
+      salted : l.tree.hasher.salted ≡ l.fn.tree.hasher.salted;
+      geometry : l.tree.geometry ≡ s;
+      right : D.tells l.fn.data_store ≡ true → IsRight h image l.tree.blocks.items l.tree.root;
+      compared : D.tells l.fn.data_store ≡ true → H.tells l.fn.hash_store ≡ true → AreCompared s l.start (tree h image) l.tree.blocks.items (H.content l.fn.hash_store) l.found;
+      data_store : IsOnlyRead D l.fn.data_store l.data_store;
+      data_reads : D.reads l.data_store ≡ D.reads l.fn.data_store + l.n;
+      hash_store : IsOnlyRead H l.fn.hash_store l.hash_store;
+    }

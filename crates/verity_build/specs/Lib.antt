@@ -1,0 +1,9 @@
+pub mod Open
+pub mod Filled
+pub mod Climb
+pub mod Progress
+pub mod Device
+pub mod Parameters
+pub mod Faults
+pub mod Texts
+pub mod Differences

@@ -1,0 +1,44 @@
+use Rattle.std.proofs.Common.{refl, rules, ◌∙◌, sym, arith}
+use Rattle.std.proofs.lemmas.Bool.{false≢true}
+use Rattle.verity_store.specs.Script.{next_block}
+use Rattle.verity_store.proofs.BlockLemmas.{resized_not}
+use Rattle.verity_store.proofs.ScriptLemmas.{read_tells, on_ok_always}
+use Rattle.verity_store.proofs.script.ScriptStoreBlockStore.TheImpl.Goals as goal
+
+pub read-tells : goal.read-tells
+read-tells g c =
+    let old = c.args.self.now in
+    let new = c.new.self.now in
+    let t = read_tells c.args.n (next_block old.answers) old new c.new.out.now c.result c.ensures.whole c.ensures.after c.ensures.gives c.ensures.fails in
+    record {
+      given = t.given;
+      right = on_ok_always c.result _ (λ told. absurd (false≢true told));
+      error = t.error;
+      failed = t.failed;
+      unfailed = t.unfailed;
+      failures = t.failures;
+      counted = t.counted;
+      content = rw (t.blocks, t.size) refl;
+      gave = λ k b held. (held.0 ∙ sym t.size, t.gave k b held.1);
+      tells = refl;
+      size = t.size;
+      room = refl;
+    }
+
+pub set_len-tells : goal.set_len-tells
+set_len-tells g c =
+    rw (c.ensures.after, c.ensures.refused) (record {
+      done = tt;
+      partly = resized_not _ _ _;
+      blocks = λ whole. whole;
+      error = search rules;
+      failed = λ _. omega arith;
+      refused = search rules;
+      unfailed = tt;
+      failures = omega arith;
+      reads = refl;
+      gave = λ k b held. held;
+      tells = refl;
+      size = refl;
+      room = omega arith;
+    })

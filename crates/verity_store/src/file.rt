@@ -1,0 +1,230 @@
+//! A store in a file.
+ghost use Rattle.std.specs.Prelude.{◌≡◌, ◌≢◌, ◌*◌, ◌^◌, ◌<◌, ◌≤◌, ◌%◌, ◌↔◌, length, IfOk, IfErr, IfSome, OnOk, OnErr, IsOk, IsTrue, true};
+ghost use Rattle.std.specs.List.{concat};
+ghost use Rattle.verity_profile.specs.Profile.{IsBlockSize};
+ghost use Rattle.verity_store.specs.RawFile.{HasLength, is_known, file_blocks};
+
+use crate::{BlockStore, RawFile, StoreFault};
+use std::fs::{File, OpenOptions};
+use std::io;
+use std::io::ErrorKind;
+use std::rt::Files;
+use verity_count::Count;
+use verity_profile::is_block_size;
+
+/// A store whose blocks lie in a file, one after the other, from byte 0 on.
+///
+/// It tells where the bytes of its file are known. Each read and each write is one access to the file, at its offset.
+#[derive(Drop)]
+pub struct FileStore<F: RawFile> {
+    file: F,
+    size: usize,
+    blocks: u64,
+    read_count: Count,
+    failed: Count,
+    ghost profile: { IsBlockSize size },
+    ghost fits: { blocks * size < 2 ^ 64 },
+    ghost whole: { HasLength (F.bytes file) (blocks * size) },
+}
+
+// Whether the file has this length; where it can't be asked, no.
+fn has_len<F: RawFile>(file: &F, len: u64) -> bool
+    ensures told { IsTrue result → HasLength (F.bytes file.now) len }
+    ensures known { is_known (F.bytes file.now) ≡ true → HasLength (F.bytes file.now) len → IsTrue result }
+{
+    match file.byte_len() {
+        Ok(now) => now == len,
+        Err(_) => false,
+    }
+}
+
+impl<F: RawFile> FileStore<F> {
+    /// A store over a file, whose bytes stay as they are.
+    ///
+    /// S4 where `size` is not one of the profile; else S1 where the file can't be asked for its length; else S2 where the
+    /// length is not a multiple of `size`. The file is then closed.
+    pub fn over(file: F, size: usize) -> Result<FileStore<F>, StoreFault>
+    where
+        F: Drop,
+        ensures content { IfOk result (λ s. IfSome (F.bytes file) (λ bytes. concat (⟦<FileStore<F> as BlockStore>⟧.content s) ≡ bytes)) }
+        ensures len { IfOk result (λ s. HasLength (F.bytes file) (length (⟦<FileStore<F> as BlockStore>⟧.content s) * size)) }
+        ensures size { IfOk result (λ s. ⟦<FileStore<F> as BlockStore>⟧.size s ≡ size) }
+        ensures tells { IfOk result (λ s. ⟦<FileStore<F> as BlockStore>⟧.tells s ≡ is_known (F.bytes file)) }
+        ensures wrong_size { (result ≡ Err StoreFault.BlockSize) ↔ ¬ IsBlockSize size }
+        ensures ragged { IfSome (F.bytes file) (λ bytes. (result ≡ Err StoreFault.Ragged) ↔ (IsBlockSize size × (length bytes % size ≢ 0))) }
+        ensures succeeds { IfSome (F.bytes file) (λ bytes. IsBlockSize size → length bytes % size ≡ 0 → IsOk result) }
+        ensures memory { result ≢ Err StoreFault.NoMemory }
+    {
+        if !is_block_size(size) {
+            return Err(StoreFault::BlockSize);
+        }
+        let Ok(len) = file.byte_len() else {
+            return Err(StoreFault::Device);
+        };
+        let size64 = size as u64;
+        if len % size64 != 0 {
+            return Err(StoreFault::Ragged);
+        }
+        Ok(FileStore {
+            file,
+            size,
+            blocks: len / size64,
+            read_count: Count::new(),
+            failed: Count::new(),
+        })
+    }
+}
+
+// S3 for want of memory, S1 for all else.
+fn fault_of(error: io::Error) -> StoreFault
+    ensures size { result ≢ StoreFault.BlockSize }
+    ensures length { result ≢ StoreFault.Ragged }
+{
+    match error.kind() {
+        ErrorKind::OutOfMemory => StoreFault::NoMemory,
+        _ => StoreFault::Device,
+    }
+}
+
+impl FileStore<File> {
+    /// A store over the file at a path, which is opened to be read, and where `writable` to be written too.
+    ///
+    /// S4 where `size` is not one of the profile, and then nothing is opened; else S1 where the file can't be opened or asked
+    /// for its length, or S3 where memory for its path was refused; else S2 where its length is not a multiple of `size`.
+    pub fn open<R: Files<File = File>>(
+        rt: &R,
+        path: &str,
+        size: usize,
+        writable: bool,
+    ) -> Result<FileStore<File>, StoreFault>
+        ensures size { IfOk result (λ s. ⟦<FileStore<File> as BlockStore>⟧.size s ≡ size) }
+        ensures wrong_size { (result ≡ Err StoreFault.BlockSize) ↔ ¬ IsBlockSize size }
+    {
+        if !is_block_size(size) {
+            return Err(StoreFault::BlockSize);
+        }
+        let opened = OpenOptions::new().read(true).write(writable).open(rt, path);
+        match opened {
+            Ok(file) => FileStore::over(file, size),
+            Err(error) => Err(fault_of(error)),
+        }
+    }
+
+    /// A store over the file at a path, which is made, or emptied where it is there, and can be read and written.
+    ///
+    /// S4 where `size` is not one of the profile, and then no file is made or emptied; else S1 where it can't be made, emptied
+    /// or asked for its length, or S3 where memory for its path was refused.
+    pub fn create<R: Files<File = File>>(
+        rt: &R,
+        path: &str,
+        size: usize,
+    ) -> Result<FileStore<File>, StoreFault>
+        ensures size { IfOk result (λ s. ⟦<FileStore<File> as BlockStore>⟧.size s ≡ size) }
+        ensures wrong_size { (result ≡ Err StoreFault.BlockSize) ↔ ¬ IsBlockSize size }
+    {
+        if !is_block_size(size) {
+            return Err(StoreFault::BlockSize);
+        }
+        let opened = OpenOptions::new()
+            .read(true)
+            .write(true)
+            .create(true)
+            .truncate(true)
+            .open(rt, path);
+        match opened {
+            Ok(file) => FileStore::over(file, size),
+            Err(error) => Err(fault_of(error)),
+        }
+    }
+}
+
+impl<F: RawFile> BlockStore for FileStore<F> {
+    ghost size = { λ s. s.size };
+
+    ghost content = { λ s. file_blocks s.size s.blocks (F.bytes s.file) };
+
+    ghost tells = { λ s. is_known (F.bytes s.file) };
+
+    ghost gave = { λ s _ b. length b ≡ s.size };
+
+    ghost failures = { λ s. s.failed.steps };
+
+    ghost reads = { λ s. s.read_count.steps };
+
+    ghost room = { λ _. 2 ^ 41 };
+
+    ghost gave_sized = { λ _ _ _ sized. sized };
+
+    fn block_size(&self) -> usize {
+        self.size
+    }
+
+    fn len(&self) -> u64 {
+        self.blocks
+    }
+
+    fn read(&mut self, n: u64, out: &mut [u8]) -> Result<(), StoreFault> {
+        self.read_count.step();
+        let at = n * self.size as u64;
+        match self.file.read_exact_at(at, out) {
+            Ok(()) => Ok(()),
+            Err(_) => {
+                self.failed.step();
+                Err(StoreFault::Device)
+            }
+        }
+    }
+
+    fn write(&mut self, n: u64, block: &[u8]) -> Result<(), StoreFault> {
+        let at = n * self.size as u64;
+        match self.file.write_all_at(at, block) {
+            Ok(()) => Ok(()),
+            Err(_) => {
+                self.failed.step();
+                Err(StoreFault::Device)
+            }
+        }
+    }
+
+    fn reserve(&mut self, _blocks: u64) -> Result<(), StoreFault> {
+        Ok(())
+    }
+
+    fn set_len(&mut self, blocks: u64) -> Result<(), StoreFault> {
+        let len = blocks * self.size as u64;
+        match self.file.set_byte_len(len) {
+            Ok(()) => {
+                self.blocks = blocks;
+                Ok(())
+            }
+            Err(_) => {
+                self.failed.step();
+                // The file may have been cut or grown all the same.
+                if has_len(&self.file, len) {
+                    self.blocks = blocks;
+                }
+                Err(StoreFault::Device)
+            }
+        }
+    }
+
+    fn sync(&mut self) -> Result<(), StoreFault>
+        ensures synced { OnOk result (F.synced self.new.file ≡ true) }
+        ensures error { IfErr result (λ e. e ≡ StoreFault.Device) }
+        ensures failed { OnErr result (self.old.failed.steps < self.new.failed.steps) }
+        ensures unfailed { OnOk result (self.new.failed.steps ≡ self.old.failed.steps) }
+        ensures failures { self.old.failed.steps ≤ self.new.failed.steps }
+        ensures reads { self.new.read_count.steps ≡ self.old.read_count.steps }
+        ensures content { file_blocks self.new.size self.new.blocks (F.bytes self.new.file) ≡ file_blocks self.old.size self.old.blocks (F.bytes self.old.file) }
+        ensures tells { is_known (F.bytes self.new.file) ≡ is_known (F.bytes self.old.file) }
+        ensures size { self.new.size ≡ self.old.size }
+    {
+        match self.file.sync() {
+            Ok(()) => Ok(()),
+            Err(_) => {
+                self.failed.step();
+                Err(StoreFault::Device)
+            }
+        }
+    }
+}

@@ -1,0 +1,10 @@
+pub mod Refusals
+pub mod Fields
+pub mod SuperblockLaws
+pub mod Blocks
+pub mod Readings
+pub mod Splits
+pub mod Tests
+pub mod LineReads
+pub mod Canonical
+pub mod Rows
