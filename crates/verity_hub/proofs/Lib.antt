@@ -4,3 +4,4 @@ pub mod Steps
 pub mod Outcomes
 pub mod Runs
 pub mod Turns
+pub mod VolumeLaws

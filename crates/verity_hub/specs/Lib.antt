@@ -3,3 +3,5 @@ pub mod Sessions
 pub mod History
 pub mod After
 pub mod Stream
+pub mod Volume
+pub mod Reading

@@ -61,6 +61,13 @@ impl<E: Export, A: Allocator + Copy> Sessions<E, A> {
         *self.open.allocator()
     }
 
+    /// What the sessions read from.
+    pub fn export(&self) -> &E
+        ensures { result.now ≡ self.now.1 }
+    {
+        &self.export
+    }
+
     /// Opens a session, and greets.
     pub fn open<O: Allocator>(&mut self, out: &mut Vec<u8, O>) -> Result<u64, HubFault>
         ensures opens { IfOk result (λ id. OpensOne self.old.0 self.new.0 id) }

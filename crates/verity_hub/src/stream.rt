@@ -9,12 +9,16 @@ ghost use Rattle.verity_hub.specs.History.{Step};
 ghost use Rattle.verity_hub.specs.Sessions.{SetsOnly, lookup, max_open, max_opened};
 ghost use Rattle.verity_hub.specs.After.{IsAfter};
 ghost use Rattle.verity_hub.specs.Stream.{Exchanged, Served, ServedAfter, TurnedAfter};
+ghost use Rattle.verity_hub.specs.Volume.{facts_of};
+ghost use Rattle.verity_check.specs.Verifier.{IsOnlyReading};
 
 use crate::fault::{HubFault, ServeFault};
+use crate::hub::Hub;
 use crate::sessions::Sessions;
 use nbd_session::{Export, Status};
 use std::alloc::Allocator;
 use std::io::{Read, Write};
+use verity_store::BlockStore;
 
 /// The most bytes that one turn reads: those of a request's header, so that at most one READ's bytes are held.
 const TURN_BYTES: usize = 28;
@@ -164,4 +168,41 @@ pub fn serve<E: Export, A: Allocator + Copy, R: Read, W: Write>(
         }
         Err(fault) => Err(ServeFault::Hub(fault)),
     }
+}
+
+/// Serves one client over a stream: opens a session, writes the greeting, then reads at most 28 bytes a turn, feeds them
+/// and writes the replies before the next turn. So at most one READ's bytes are held, in one buffer that is kept. At each
+/// exit the session is ended.
+///
+/// It answers Ok at the end of input, and once the session has ended; at most 27 bytes after the ending message are then
+/// read and dropped.
+///
+/// # Errors
+///
+/// N1 where the reader failed; N2 where the writer failed or took no byte, and what went out is a beginning of the output;
+/// N3 where `limit` turns gave bytes and the session hasn't ended; N4 where the session starved; N5 where no session could
+/// be opened, with the hub's own fault, and nothing was read or written.
+pub fn serve_stream<D: BlockStore, H: BlockStore, A: Allocator + Copy + Drop, R: Read, W: Write>(
+    hub: &mut Hub<D, H, A>,
+    reader: &mut R,
+    writer: &mut W,
+    limit: u64,
+) -> Result<(), ServeFault>
+    ensures offer { hub.new.0.offer ≡ hub.old.0.offer }
+    ensures verifier { IsOnlyReading D.BlockStore H.BlockStore hub.old.1 hub.new.1 }
+    ensures served { Served (facts_of D.BlockStore H.BlockStore hub.old.1) (facts_of D.BlockStore H.BlockStore hub.new.1) hub.old.0.offer
+        (record { reader = R.remaining reader.old; reader' = R.remaining reader.new; writer = W.contents writer.old; writer' = W.contents writer.new }) limit result }
+    // No session came about.
+    ensures full { (result ≡ Err (ServeFault.Hub HubFault.Full)) ↔ (max_open ≤ length hub.old.0.sessions) }
+    ensures spent { (result ≡ Err (ServeFault.Hub HubFault.Spent)) ↔ ((length hub.old.0.sessions < max_open) × (max_opened ≤ hub.old.0.next)) }
+    ensures known { result ≢ Err (ServeFault.Hub HubFault.Unknown) }
+    ensures refused { (fault : HubFault) → IsErrOf result (ServeFault.Hub fault) → hub.new ≡ hub.old }
+    // One came about, and it is ended.
+    ensures ended { ((fault : HubFault) → IsErrOf result (ServeFault.Hub fault) → ⊥) → SetsOnly hub.old.0.sessions hub.new.0.sessions hub.old.0.next None }
+    ensures opened { ((fault : HubFault) → IsErrOf result (ServeFault.Hub fault) → ⊥) → hub.new.0.next ≡ hub.old.0.next + 1 }
+    ensures count { length hub.new.0.sessions ≡ length hub.old.0.sessions }
+    ensures after { ((fault : HubFault) → IsErrOf result (ServeFault.Hub fault) → ⊥) → (history : List Step) → IsAfter (facts_of D.BlockStore H.BlockStore hub.old.1) hub.old.0 history
+        → ServedAfter (facts_of D.BlockStore H.BlockStore hub.new.1) hub.new.0 history hub.old.0.next }
+{
+    serve(&mut hub.sessions, reader, writer, limit)
 }
