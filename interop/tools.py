@@ -1,0 +1,35 @@
+"""What the scripts of interop/ and bench/ share: the programs that are built here, and tools of Debian's packages."""
+import os
+import shutil
+import subprocess
+import sys
+
+TOP = os.path.dirname(os.path.dirname(os.path.abspath(__file__)))
+UUID = "01234567-89ab-cdef-0123-456789abcdef"
+QUIET = {"stdout": subprocess.DEVNULL, "stderr": subprocess.DEVNULL}
+
+os.environ["PATH"] += ":/usr/sbin:/sbin"
+
+
+def built(name="dalgovuun"):
+    """The path of a program of this repository, proved and built where it isn't yet."""
+    folder = os.path.join(TOP, "crates", name)
+    subprocess.run(["rt", "run"], cwd=folder, stdin=subprocess.DEVNULL, **QUIET)
+    path = os.path.join(folder, "out", name)
+    if not os.path.exists(path):
+        sys.exit(f"{name} was not built: run rt run in crates/{name}")
+    return path
+
+
+def program():
+    """The program under test: the one that the first word names, or the one that is built here."""
+    return os.path.abspath(sys.argv[1]) if len(sys.argv) > 1 else built()
+
+
+def install(packages):
+    """Installs from Debian's packages, by tool, what is missing."""
+    missing = sorted({package for tool, package in packages.items() if not shutil.which(tool)})
+    if missing:
+        subprocess.run(["apt-get", "update"], check=True, **QUIET)
+        subprocess.run(["apt-get", "install", "-y", "--no-install-recommends", *missing], check=True,
+                       env={**os.environ, "DEBIAN_FRONTEND": "noninteractive"}, **QUIET)
