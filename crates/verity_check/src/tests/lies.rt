@@ -1,0 +1,68 @@
+//! Stores that answer otherwise the second time. No contract can see whether a mismatch is read again.
+use super::volumes::*;
+use crate::{CheckFault, Place};
+use std::alloc::Global;
+use std::process::Abort;
+use std::test::Fail;
+use verity_digest::Algorithm;
+use verity_store::{Answer, Block, ScriptStore};
+
+// A store that gives blocks filled with these bytes, in turn.
+fn fills(alloc: Global, bytes: [u8; 3]) -> Result<ScriptStore, Fail> {
+    let mut answers = Vec::new(alloc);
+    for byte in bytes {
+        answers.push(Answer::Block(Block::new(vec![in alloc; byte; 512]?)))?;
+    }
+    Ok(ScriptStore::new(alloc, 512, 17, answers)?)
+}
+
+#[test]
+fn a_second_read_is_checked_again(rt: HostRuntime) -> Result<(), Fail> {
+    let alloc = rt.alloc();
+    let (_, hash) = volume(alloc, Algorithm::Sha256)?;
+    let mut verifier = over(
+        alloc,
+        Algorithm::Sha256,
+        fills(alloc, [3, 4, 3])?,
+        store(hash)?,
+        1,
+    )?;
+    assert!(rt; serves(alloc, &mut verifier, 1536, 512, [3, 3]));
+    assert!(rt;
+        refuses(
+            alloc,
+            &mut verifier,
+            1536,
+            512,
+            CheckFault::Mismatch(Place::Data(3))
+        )
+    );
+    assert!(rt; serves(alloc, &mut verifier, 1536, 512, [3, 3]));
+    Ok(())
+}
+
+// A store that gives these blocks of the bytes, in turn.
+fn picks(alloc: Global, bytes: &[u8], numbers: [usize; 3]) -> Result<ScriptStore, Fail> {
+    let mut answers = Vec::new(alloc);
+    for n in numbers {
+        let block = bytes.chunks(512).nth(n).unwrap_or(&[]);
+        answers.push(Answer::Block(Block::new(block.to_vec(alloc)?)))?;
+    }
+    Ok(ScriptStore::new(alloc, 512, 3, answers)?)
+}
+
+#[test]
+fn a_refused_hash_block_is_not_read_again(rt: HostRuntime) -> Result<(), Fail> {
+    let alloc = rt.alloc();
+    let (data, hash) = volume(alloc, Algorithm::Sha256)?;
+    let mut verifier = over(
+        alloc,
+        Algorithm::Sha256,
+        store(data)?,
+        picks(alloc, &hash, [0, 2, 1])?,
+        1,
+    )?;
+    assert!(rt; refuses_block(alloc, &mut verifier, 0, CheckFault::Mismatch(FIRST)));
+    assert!(rt; serves_block(alloc, &mut verifier, 0));
+    Ok(())
+}
