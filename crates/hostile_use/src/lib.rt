@@ -7,6 +7,10 @@
 #[cfg(test)]
 mod building;
 #[cfg(test)]
+mod checking;
+#[cfg(test)]
+mod failures;
+#[cfg(test)]
 mod volumes;
 
 /// The bytes by which a heap grows from run to run: what one request is rounded up to.
