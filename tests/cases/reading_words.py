@@ -9,6 +9,9 @@ Usage: dalgovuun [COMMAND]
 Commands:
   format  Makes the hash device of a block image, and prints the table line
   dump    Prints the superblock of a hash device
+  verify  Reports what is wrong in a volume
+  serve   Serves a volume over NBD, one connection after the other
+  talk    Serves a volume to one NBD client, over standard input and output
   help    Print this message or the help of the given subcommand(s)
 
 Options:

@@ -88,9 +88,9 @@ pub no_wrong : (t : Table) (image : List (List ℕ)) → IsTable t → Fits t im
     → ((r i : ℕ) → r ≤ height t → i < row_len t r → held r i ≡ own t image r i) → (r i : ℕ) → i < row_len t r → WrongAt t given r i → ⊥
 no_wrong t image ok fits given held tells holds r i l w =
     w.digest (ap (hashing_of t).digest (tells r i w.y w.gave ∙ holds r i (Above-le t held given r i w.above w.above_it) l) ∙ sym (names w.above w.above_it)) where
-      names : (above : List (List ℕ)) → Above t given r i above → named t i above ≡ (hashing_of t).digest (own t image r i)
-      names [] a = own_root t image ok fits r i a l
-      names (p ∷ above) a =
-          let same : p ≡ own t image (suc r) (i / branching t) =
-          tells (suc r) (i / branching t) p a.0.gave ∙ holds (suc r) (i / branching t) (Above-le t held given (suc r) (i / branching t) above a.1) (parent_below t ok r i l) in
-          ap (λ b. slot (hashing_of t) b (i % branching t)) same ∙ own_named t image ok fits r i l
+  names : (above : List (List ℕ)) → Above t given r i above → named t i above ≡ (hashing_of t).digest (own t image r i)
+  names [] a = own_root t image ok fits r i a l
+  names (p ∷ above) a =
+      let same : p ≡ own t image (suc r) (i / branching t) =
+      tells (suc r) (i / branching t) p a.0.gave ∙ holds (suc r) (i / branching t) (Above-le t held given (suc r) (i / branching t) above a.1) (parent_below t ok r i l) in
+      ap (λ b. slot (hashing_of t) b (i % branching t)) same ∙ own_named t image ok fits r i l

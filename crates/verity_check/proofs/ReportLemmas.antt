@@ -132,7 +132,6 @@ module _ (t : Table) (held : Held) (failed_old : List Spot) (r : ℕ) where
       faults = ap (λ fs. fs ++ entry f (place_of r i)) n.faults ∙ append_assoc faults_old (row_entries t held all r i) (entry f (place_of r i)) ∙ ap (λ g. faults_old ++ (row_entries t held all r i ++ entry g (place_of r i))) (sym e);
       unchecked = ap (λ u. u + unchecked_one f) n.unchecked ∙ add_assoc unchecked_old (row_unchecked t held all r i) (unchecked_one f) ∙ ap (λ g. unchecked_old + (row_unchecked t held all r i + unchecked_one g)) (sym e);
     }
-
     by_failure : (b : Bool) → f ≡ judged t named b (held r i) → (b ≡ true → failures < failures_new) → AreDone t held failed_old r (suc i) More faults_old (faults ++ entry f (place_of r i)) unchecked_old (unchecked + unchecked_one f) failures_old failures_new
     by_failure false outcome' rises' =
         let spot : (rest : List Spot) → AreLater r (suc i) rest → finding t held (rest ++ (d.more ++ failed_old)) r i ≡ f = λ rest l.
@@ -216,10 +215,10 @@ so_far_none t held r parents failures top = record {
   count = omega arith;
   earlier = tt;
   all = λ rest l. record {
-    faults_are = ap (λ m. entries_from t held (rest ++ []) m) (sym top);
-    unchecked_are = ap (λ m. unchecked_from t held (rest ++ []) m) (sym top) ∙ omega arith;
-    kept = λ below. absurd (omega (arith, top, below));
-  };
+      faults_are = ap (λ m. entries_from t held (rest ++ []) m) (sym top);
+      unchecked_are = ap (λ m. unchecked_from t held (rest ++ []) m) (sym top) ∙ omega arith;
+      kept = λ below. absurd (omega (arith, top, below));
+    };
 }
 
 -- one row more
@@ -234,7 +233,7 @@ so_far_more t held r l parents kept faults faults' unchecked unchecked' failures
   all = λ rest later.
       let more : AreLater (suc l) 0 (rest ++ d.more) = later_append (suc l) 0 rest d.more (later_next l 0 rest later) d.later in
       let here = subst (λ F. IsUpTo t held F (suc l) parents faults unchecked) (append_assoc rest d.more s.failed)
-      (subst (λ m. IsUpTo t held ((rest ++ d.more) ++ s.failed) m parents faults unchecked) row (s.all (rest ++ d.more) (subst (λ m. AreLater m 0 (rest ++ d.more)) (sym row) more))) in
+          (subst (λ m. IsUpTo t held ((rest ++ d.more) ++ s.failed) m parents faults unchecked) row (s.all (rest ++ d.more) (subst (λ m. AreLater m 0 (rest ++ d.more)) (sym row) more))) in
       let noted = d.noted rest (later_next l (row_len t (suc l)) rest later) in
       let F : List Spot = rest ++ (d.more ++ s.failed) in
       record {
@@ -274,6 +273,6 @@ above_few t ok r row =
     let most = total_most (branching t) t.data_blocks wide in
     let few = block_count_high t.data_blocks ok.blocks in
     by_row r row (omega (arith, most, few)) where
-      by_row : (m : ℕ) → m ≤ height t → tree_len t ≤ 2 ^ 40 → places_above t m ≤ 2 ^ 40
-      by_row zero row' all = all
-      by_row (suc l) row' all = omega (arith, level_within (branching t) t.data_blocks l (omega (arith, row')), all)
+  by_row : (m : ℕ) → m ≤ height t → tree_len t ≤ 2 ^ 40 → places_above t m ≤ 2 ^ 40
+  by_row zero row' all = all
+  by_row (suc l) row' all = omega (arith, level_within (branching t) t.data_blocks l (omega (arith, row')), all)

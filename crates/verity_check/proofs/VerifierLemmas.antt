@@ -9,11 +9,10 @@ use Rattle.verity_check.specs.declared.fault.CheckFault.{CheckFault}
 use Rattle.verity_check.specs.declared.fault.CheckFault.TheVariants as faults
 use Rattle.verity_check.specs.Table.{Table, IsTable, tree_len, path_index}
 use Rattle.verity_check.specs.Chain.{AreSized, EndsChain, WrongAt}
-use Rattle.verity_check.specs.declared.finding.Finding.TheVariants.{Good}
-use Rattle.verity_check.specs.Finding.{Tells, finding}
+use Rattle.verity_check.specs.Finding.{Tells}
 use Rattle.verity_check.specs.Range.{Touches, ServesBytes, IsPathGood}
 use Rattle.verity_check.specs.Refusal.{Explains, Refuses, RefusesAfter, IsBadOn, IsFirstBad, OnMismatch}
-use Rattle.verity_check.specs.Stores.{given_in, held_in, BothTell}
+use Rattle.verity_check.specs.Stores.{given_in}
 use Rattle.verity_check.specs.Verifier.{Verifying, given_to, held_for, StoresTell, IsOnlyReading, DataFailed, HashFailed, MayRefuse, IsVerifier}
 use Rattle.verity_check.proofs.FindingLaws.{chain_is_good, path_good}
 use Rattle.verity_check.proofs.RangeLaw.{wrong_place_bad, refused_first, served_range_good, refuses}
@@ -66,14 +65,6 @@ module _ {D H : Type 0} (data_facts : store.Ghosts D) (hash_facts : store.Ghosts
   pub tells_all : (v : Verifying D H) → StoresTell data_facts hash_facts v → Tells (given_to data_facts hash_facts v) (held_for data_facts hash_facts v)
   tells_all v told zero i y gave = sym (gave.1 told.0)
   tells_all v told (suc l) i y gave = sym (gave.1 told.1)
-
-  -- where they tell, a chain ends at a good place, in the block that is held there
-  pub chained_good : (t : Table) (d : D) (h : H) (r i : ℕ) (block : List ℕ) → BothTell data_facts hash_facts d h → EndsChain t (given_in data_facts hash_facts t d h) r i block
-      → (finding t (held_in data_facts hash_facts t d h) [] r i ≡ Good) × (block ≡ held_in data_facts hash_facts t d h r i)
-  chained_good t d h r i block told chain = chain_is_good t (held_in data_facts hash_facts t d h) (given_in data_facts hash_facts t d h) tells r i block chain where
-    tells : Tells (given_in data_facts hash_facts t d h) (held_in data_facts hash_facts t d h)
-    tells zero n y gave = sym (gave.1 told.0)
-    tells (suc l) n y gave = sym (gave.1 told.1)
 
   module _ (v : Verifying D H) (told : StoresTell data_facts hash_facts v) where
     pub block_good : (n : ℕ) (block : List ℕ) → EndsChain v.table (given_to data_facts hash_facts v) 0 n block → IsPathGood v.table (held_for data_facts hash_facts v) n

@@ -1,5 +1,4 @@
 use Rattle.std.proofs.Common.{arith, ◌≡◌, ◌<◌, ◌≤◌, ◌+◌, ◌*◌, ◌-◌, ◌/◌, ◌%◌, ◌++◌, ℕ, List, [], length, take, drop, sym, refl, ap, ◌∙◌, subst, append-nil, append_assoc}
-use Rattle.std.proofs.lemmas.List.{length-take}
 use Rattle.std.proofs.lemmas.Nat.{mod_below, div-add-mod'}
 use Rattle.verity_profile.proofs.Bounds.{block_size_some, block_count_high}
 use Rattle.verity_store.specs.Stores.{IsOnlyRead}
@@ -8,8 +7,8 @@ use Rattle.verity_check.specs.Chain.{EndsChain}
 use Rattle.verity_check.specs.Stores.{given_in, hash_given}
 use Rattle.verity_check.specs.Cache.{IsChained}
 use Rattle.verity_check.specs.Refusal.{Explains}
-use Rattle.verity_check.proofs.WalkLemmas.{given_in-grows, ok_here}
-use Rattle.verity_check.proofs.RangeLemmas.{IsDone, Served-grows, done_none, done_more, done_all, below_blocks, touches_next, Explains-more, refuses_next}
+use Rattle.verity_check.proofs.WalkLemmas.{given_in-grows}
+use Rattle.verity_check.proofs.RangeLemmas.{IsDone, Served-grows, done_none, done_more, done_all, below_blocks, touches_next, Explains-more, refuses_next, extended}
 use Rattle.verity_check.proofs.range.read_range.Goals as goal
 
 pub loop-left-init : goal.loop-left-init
@@ -30,7 +29,6 @@ loop-left-init g c =
       chained = c.requires.chained;
       data_keeps = only_read_same D c.args.data_store.now;
       hash_keeps = only_read_same H c.args.hash_store.now;
-      spare = ok_here c.reserve.result _ c.reserve.ensures.ok c.if-is_err.ensures.value;
       room = (c.requires.data_whole, c.requires.hash_whole);
       same = refl;
     }
@@ -44,6 +42,17 @@ pub returns-in-Err-clause-chained : goal.returns-in-Err-clause-chained
 returns-in-Err-clause-chained g c =
     let H = g.H.BlockStore in
     subst (λ tr. IsChained tr (hash_given H tr c.read_checked.new.hash_store) c.read_checked.new.cache) c.loop-left.invariant.same c.in-Err.ensures.chained
+
+pub returns-then-is_err-2-clause-chained : goal.returns-then-is_err-2-clause-chained
+returns-then-is_err-2-clause-chained g c =
+    let H = g.H.BlockStore in
+    subst (λ tr. IsChained tr (hash_given H tr c.read_checked.new.hash_store) c.read_checked.new.cache) c.loop-left.invariant.same c.in_default.ensures.chained
+
+pub returns-then-is_err-2-clause-data_keeps : goal.returns-then-is_err-2-clause-data_keeps
+returns-then-is_err-2-clause-data_keeps g c = only_read_then g.D.BlockStore c.args.data_store.now c.loop-left.data_store c.read_checked.new.data_store c.loop-left.invariant.data_keeps c.in_default.ensures.data_keeps
+
+pub returns-then-is_err-2-clause-hash_keeps : goal.returns-then-is_err-2-clause-hash_keeps
+returns-then-is_err-2-clause-hash_keeps g c = only_read_then g.H.BlockStore c.args.hash_store.now c.loop-left.hash_store c.read_checked.new.hash_store c.loop-left.invariant.hash_keeps c.in_default.ensures.hash_keeps
 
 pub returns-in-Err-clause-err : goal.returns-in-Err-clause-err
 returns-in-Err-clause-err g c =
@@ -76,7 +85,7 @@ loop-left-preserved g c =
     let grows = given_in-grows D H t c.loop-left.data_store c.read_checked.new.data_store c.loop-left.hash_store c.read_checked.new.hash_store e.data_keeps e.hash_keeps in
     let whole : length c.read_checked.new.data_block ≡ t.data_block_size = c.read_checked.auto.data_block ∙ inv.room.0 in
     let cut : c.loop-left.skip + c.min-piece.result - c.loop-left.skip ≡ c.min-piece.result = omega arith in
-    let pushed = c.in-Ok.ensures.items in
+    let pushed = extended c.extend_from_slice.result c.loop-left.out.items c.extend_from_slice.new.self.items _ c.extend_from_slice.ensures.items c.if-is_err-2.ensures.value in
     let out : c.extend_from_slice.new.self.items ≡ c.args.out.now.items ++ (inv.done.0 ++ take c.min-piece.result (drop c.loop-left.skip c.read_checked.new.data_block)) =
     pushed ∙ ap (λ m. c.loop-left.out.items ++ take m (drop c.loop-left.skip c.read_checked.new.data_block)) cut
     ∙ ap (λ o. o ++ take c.min-piece.result (drop c.loop-left.skip c.read_checked.new.data_block)) inv.done.1
@@ -98,7 +107,6 @@ loop-left-preserved g c =
       chained = subst (λ tr. IsChained tr (hash_given H tr c.read_checked.new.hash_store) c.read_checked.new.cache) inv.same e.chained;
       data_keeps = only_read_then D _ _ _ inv.data_keeps e.data_keeps;
       hash_keeps = only_read_then H _ _ _ inv.hash_keeps e.hash_keeps;
-      spare = omega (arith, inv.spare, c.in-Ok.ensures.len, c.in-Ok.ensures.capacity, length-take (c.loop-left.skip + c.min-piece.result - c.loop-left.skip) (drop c.loop-left.skip c.read_checked.new.data_block), cut, size);
       room = (whole, c.read_checked.auto.hash_block ∙ inv.room.1);
       same = e.same ∙ inv.same;
     }

@@ -89,4 +89,4 @@ returns-clause-told g c = λ both.
     let done = c.in_ok-check_data.ensures.told both.0 held (λ i. refl) s.failed (subst (λ m. AreEarlier m 0 s.failed) bottom s.earlier) parents in
     subst (λ fs. IsReportOf t held fs c.check_data.new.unchecked (D.failures c.args.data_store.now + H.failures c.args.hash_store.now) (D.failures c.check_data.new.data_store + H.failures c.loop-row.hash_store)) (sym c.new.ensures)
     (report_whole t held c.loop-row.row c.loop-row.parents.items c.loop-row.faults.items c.check_data.new.faults.items c.loop-row.unchecked c.check_data.new.unchecked (H.failures c.args.hash_store.now) (H.failures c.loop-row.hash_store) (D.failures c.args.data_store.now) (D.failures c.check_data.new.data_store) bottom s
-    (subst (λ x. AreDone x held s.failed 0 (row_len x 0) (λ all. Unit {0}) c.loop-row.faults.items c.check_data.new.faults.items c.loop-row.unchecked c.check_data.new.unchecked (D.failures c.args.data_store.now) (D.failures c.check_data.new.data_store)) inv.same done))
+        (subst (λ x. AreDone x held s.failed 0 (row_len x 0) (λ all. Unit {0}) c.loop-row.faults.items c.check_data.new.faults.items c.loop-row.unchecked c.check_data.new.unchecked (D.failures c.args.data_store.now) (D.failures c.check_data.new.data_store)) inv.same done))

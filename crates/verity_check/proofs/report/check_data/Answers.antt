@@ -51,9 +51,9 @@ loop-n-preserved g c =
           done_renamed t held failed 0 (suc n) (n + 1) (λ all'. ParentsAreKept t held all' 0 c.args.parents.now) c.args.faults.now.items _ c.note.new.faults.items c.args.unchecked.now _ c.note.new.unchecked (D.failures c.args.data_store.now) (D.failures c.look-finding.new.store)
           (omega arith) c.in_ok-note.ensures.listed c.in_ok-note.ensures.counted
           (done_more t held failed 0 n (λ all'. ParentsAreKept t held all' 0 c.args.parents.now) (λ all'. ParentsAreKept t held all' 0 c.args.parents.now) c.args.faults.now.items c.loop-n.faults.items c.args.unchecked.now c.loop-n.unchecked (D.failures c.args.data_store.now) (D.failures c.loop-n.data_store) (D.failures c.look-finding.new.store) named f look.0
-          (inv.told tells held at failed earlier all)
-          (λ all' kept. finding_named t c.requires.allowed held all' 0 n c.args.parents.now named (omega arith) index (subst (λ x. IsNamed x 0 n c.args.parents.now named) inv.same c.name_of-named.ensures) kept)
-          outcome e.keeps.later.failures look.2 (λ all' kept is. kept));
+              (inv.told tells held at failed earlier all)
+              (λ all' kept. finding_named t c.requires.allowed held all' 0 n c.args.parents.now named (omega arith) index (subst (λ x. IsNamed x 0 n c.args.parents.now named) inv.same c.name_of-named.ensures) kept)
+              outcome e.keeps.later.failures look.2 (λ all' kept is. kept));
       counted = omega (arith, inv.counted, e.counted, c.in_ok-note.ensures.counted);
       keeps = only_read_then D c.args.data_store.now c.loop-n.data_store c.look-finding.new.store inv.keeps e.keeps;
       same = e.same ∙ inv.same;
@@ -67,4 +67,4 @@ returns-clause-told g c = λ tells held at failed earlier all.
     let end : c.loop-n.n ≡ row_len t 0 = omega (arith, c.loop-n-test.false, c.loop-n.auto.n-end, c.data_blocks-count.ensures.value, ap (λ (x : Table). x.data_blocks) c.table.ensures.value, row_len-first t) in
     done_renamed t held failed 0 c.loop-n.n (row_len t 0) (λ all'. Unit {0}) c.args.faults.now.items c.loop-n.faults.items c.loop-n.faults.items c.args.unchecked.now c.loop-n.unchecked c.loop-n.unchecked (D.failures c.args.data_store.now) (D.failures c.loop-n.data_store) end refl refl
     (done_weaker t held failed 0 c.loop-n.n (λ all'. ParentsAreKept t held all' 0 c.args.parents.now) (λ all'. Unit {0}) c.args.faults.now.items c.loop-n.faults.items c.args.unchecked.now c.loop-n.unchecked (D.failures c.args.data_store.now) (D.failures c.loop-n.data_store)
-    (c.loop-n.invariant.told tells held at failed earlier all) (λ all' kept. tt))
+        (c.loop-n.invariant.told tells held at failed earlier all) (λ all' kept. tt))

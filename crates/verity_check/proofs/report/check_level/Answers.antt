@@ -74,17 +74,17 @@ loop-index-preserved g c =
           done_renamed t held failed r (suc i) (i + 1) (λ all'. ParentsAreKept t held all' r c.args.parents.now × AreKept t held all' r (i + 1) c.push.new.self.items) c.args.faults.now.items _ c.note.new.faults.items c.args.unchecked.now _ c.note.new.unchecked (H.failures c.args.hash_store.now) (H.failures c.look-finding.new.store)
           (omega arith) c.in_ok-note.ensures.listed c.in_ok-note.ensures.counted
           (done_more t held failed r i (λ all'. ParentsAreKept t held all' r c.args.parents.now × AreKept t held all' r i c.loop-index.kept.items) (λ all'. ParentsAreKept t held all' r c.args.parents.now × AreKept t held all' r (i + 1) c.push.new.self.items)
-          c.args.faults.now.items c.loop-index.faults.items c.args.unchecked.now c.loop-index.unchecked (H.failures c.args.hash_store.now) (H.failures c.loop-index.hash_store) (H.failures c.look-finding.new.store) named c.look-finding.result look.0
-          (inv.told tells held at failed earlier all)
-          (λ all' kept. finding_named t c.requires.allowed held all' r i c.args.parents.now named c.requires.level index name kept.0)
-          outcome e.keeps.later.failures look.2
-          (λ all' kept is. (
-            kept.0,
-            (let more : suc i ≡ i + 1 = omega arith in
+              c.args.faults.now.items c.loop-index.faults.items c.args.unchecked.now c.loop-index.unchecked (H.failures c.args.hash_store.now) (H.failures c.loop-index.hash_store) (H.failures c.look-finding.new.store) named c.look-finding.result look.0
+              (inv.told tells held at failed earlier all)
+              (λ all' kept. finding_named t c.requires.allowed held all' r i c.args.parents.now named c.requires.level index name kept.0)
+              outcome e.keeps.later.failures look.2
+              (λ all' kept is. (
+                kept.0,
+                (let more : suc i ≡ i + 1 = omega arith in
                 subst (λ m. AreKept t held all' r m c.push.new.self.items) more
                 (subst (λ items. AreKept t held all' r (suc i) items) (sym c.in_ok-push.ensures.items)
-                (kept_push t held all' r i c.loop-index.kept.items new inv.len kept.1 (kept_here t held all' r i c.look-finding.result block new is (λ good. e.good told_now good ∙ place) c.in_ok-keep.ensures)))),
-          )));
+                    (kept_push t held all' r i c.loop-index.kept.items new inv.len kept.1 (kept_here t held all' r i c.look-finding.result block new is (λ good. e.good told_now good ∙ place) c.in_ok-keep.ensures)))),
+              )));
       len = ap length c.in_ok-push.ensures.items ∙ length-append c.loop-index.kept.items (new ∷ []) ∙ omega (arith, inv.len);
       kept_whole = subst (λ items. AreWhole t items) (sym c.in_ok-push.ensures.items) (whole_push t c.loop-index.kept.items new inv.kept_whole (whole_here t c.look-finding.result block new long c.in_ok-keep.ensures));
       counted = omega (arith, inv.counted, e.counted, c.in_ok-note.ensures.counted);
@@ -101,4 +101,4 @@ returns-clause-told g c = λ tells held at failed earlier all.
     let end : c.loop-index.index ≡ row_len t (suc c.args.level) = omega (arith, c.loop-index-test.false, c.loop-index.auto.index-end, c.level_len-count.ensures.value) in
     done_renamed t held failed r c.loop-index.index (row_len t r) (λ all'. AreKept t held all' r (row_len t r) c.loop-index.kept.items) c.args.faults.now.items c.loop-index.faults.items c.loop-index.faults.items c.args.unchecked.now c.loop-index.unchecked c.loop-index.unchecked (H.failures c.args.hash_store.now) (H.failures c.loop-index.hash_store) end refl refl
     (done_weaker t held failed r c.loop-index.index (λ all'. ParentsAreKept t held all' r c.args.parents.now × AreKept t held all' r c.loop-index.index c.loop-index.kept.items) (λ all'. AreKept t held all' r (row_len t r) c.loop-index.kept.items) c.args.faults.now.items c.loop-index.faults.items c.args.unchecked.now c.loop-index.unchecked (H.failures c.args.hash_store.now) (H.failures c.loop-index.hash_store)
-    (c.loop-index.invariant.told tells held at failed earlier all) (λ all' kept. subst (λ m. AreKept t held all' r m c.loop-index.kept.items) end kept.1))
+        (c.loop-index.invariant.told tells held at failed earlier all) (λ all' kept. subst (λ m. AreKept t held all' r m c.loop-index.kept.items) end kept.1))

@@ -58,7 +58,7 @@ returns-then-not-matches-clause-err g c =
     let place : c.hash_place.result ≡ hash_place t (c.loop-row.row - 1) c.above-index.result = c.hash_place.ensures.value ∙ ap (λ tr. hash_place tr (c.loop-row.row - 1) c.above-index.result) c.loop-row.invariant.same in
     let gave : Gave H c.read.new.self c.hash_place.result c.read.new.out = gave_here H c.loop-row.hash_store c.read.new.self c.hash_place.result c.read.new.out (ok_here c.read.result _ e.given c.if-is_err.ensures.value) e.content e.tells (ok_here c.read.result _ e.right c.if-is_err.ensures.value) in
     let names = Names-grows t (hash_given H t c.loop-row.hash_store) (hash_given H t c.read.new.self) (hash_given-grows H t c.loop-row.hash_store c.read.new.self read) (suc (c.loop-row.row - 1)) (path_index t n (suc (c.loop-row.row - 1))) c.loop-row.named
-    (subst (λ r. Names t (hash_given H t c.loop-row.hash_store) r (path_index t n r) c.loop-row.named) row c.loop-row.invariant.names) in
+        (subst (λ r. Names t (hash_given H t c.loop-row.hash_store) r (path_index t n r) c.loop-row.named) row c.loop-row.invariant.names) in
     let P : ℕ → Type 0 = λ i. Names t (hash_given H t c.read.new.self) (suc (c.loop-row.row - 1)) i c.loop-row.named in
     let differs : (hashing_of t).digest c.read.new.out ≢ c.loop-row.named = λ same. differs_here c.matches.result _ c.matches.ensures.value c.if-not-matches.true (ap (λ tr. (hashing_of tr).digest c.read.new.out) c.loop-row.invariant.same ∙ same) in
     (below, index, wrong_here t (hash_given H t c.read.new.self) (suc (c.loop-row.row - 1)) c.above-index.result c.loop-row.named c.read.new.out (subst P (sym index) names) (subst (λ p. Gave H c.read.new.self p c.read.new.out) place gave) differs)
@@ -76,7 +76,7 @@ loop-row-preserved g c =
     let place : c.hash_place.result ≡ hash_place t (c.loop-row.row - 1) (path_index t n (suc (c.loop-row.row - 1))) = c.hash_place.ensures.value ∙ ap (λ tr. hash_place tr (c.loop-row.row - 1) c.above-index.result) c.loop-row.invariant.same ∙ ap (λ i. hash_place t (c.loop-row.row - 1) i) index in
     let gave : Gave H c.read.new.self c.hash_place.result c.read.new.out = gave_here H c.loop-row.hash_store c.read.new.self c.hash_place.result c.read.new.out (ok_here c.read.result _ e.given c.if-is_err.ensures.value) e.content e.tells (ok_here c.read.result _ e.right c.if-is_err.ensures.value) in
     let names = Names-grows t (hash_given H t c.loop-row.hash_store) (hash_given H t c.read.new.self) (hash_given-grows H t c.loop-row.hash_store c.read.new.self read) (suc (c.loop-row.row - 1)) (path_index t n (suc (c.loop-row.row - 1))) c.loop-row.named
-    (subst (λ r. Names t (hash_given H t c.loop-row.hash_store) r (path_index t n r) c.loop-row.named) row c.loop-row.invariant.names) in
+        (subst (λ r. Names t (hash_given H t c.loop-row.hash_store) r (path_index t n r) c.loop-row.named) row c.loop-row.invariant.names) in
     let same : (hashing_of t).digest c.read.new.out ≡ c.loop-row.named = ap (λ tr. (hashing_of tr).digest c.read.new.out) (sym c.loop-row.invariant.same) ∙ same_here c.matches.result _ c.matches.ensures.value c.if-not-matches.false in
     let chain = chain_here t (hash_given H t c.read.new.self) (suc (c.loop-row.row - 1)) (path_index t n (suc (c.loop-row.row - 1))) c.loop-row.named c.read.new.out names (subst (λ p. Gave H c.read.new.self p c.read.new.out) place gave) same in
     let P : ℕ → Type 0 = λ i. EndsChain t (hash_given H t c.read.new.self) (suc (c.loop-row.row - 1)) i c.read.new.out in

@@ -31,5 +31,5 @@ returns-clause-told g c =
     let D = g.D.BlockStore in
     let H = g.H.BlockStore in
     let P : Verifying g.row.D.Denot g.row.H.Denot → Type 0 = λ v. StoresTell D H v
-    → IfOk c.check_all.result (λ report. IsReportOf v.table (held_for D H v) report.faults report.unchecked (D.failures v.data_store + H.failures v.hash_store) (D.failures c.check_all.new.data_store + H.failures c.check_all.new.hash_store)) in
+        → IfOk c.check_all.result (λ report. IsReportOf v.table (held_for D H v) report.faults report.unchecked (D.failures v.data_store + H.failures v.hash_store) (D.failures c.check_all.new.data_store + H.failures c.check_all.new.hash_store)) in
     subst P c.self.view_is c.check_all.ensures.told
