@@ -1,48 +1,19 @@
-//! How a command ends where it isn't done.
+//! Why a command stops, and what is printed then.
+ghost use Rattle.std.specs.Prelude.{◌≡◌};
+ghost use Rattle.verity_tool.specs.Faults.{failure_of};
+ghost use Rattle.verity_tool.specs.declared.fault.Fault.TheVariants as fault;
 
+use crate::fault::Fault;
+use crate::status::{NO_MEMORY, NOT_UNDERSTOOD, REFUSED};
+use nbd_session::SessionFault;
 use std::alloc::AllocError;
-use std::io::ErrorKind;
+use std::io::{ErrorKind, Write};
 use std::{fmt, io};
-use thiserror::Error;
 use verity_build::BuildFault;
+use verity_check::CheckFault;
 use verity_digest::SaltFault;
 use verity_store::StoreFault;
 use verity_superblock::{SuperFault, TableFault};
-
-/// A numbered fault of a layer below.
-#[derive(Clone, Copy, Debug, PartialEq, Eq, Error)]
-pub enum Fault {
-    Store(StoreFault),
-    Salt(SaltFault),
-    Superblock(SuperFault),
-    Table(TableFault),
-    Build(BuildFault),
-}
-
-impl Fault {
-    /// Whether it is want of memory, alone or nested.
-    pub fn is_no_memory(self) -> bool {
-        match self {
-            Fault::Store(fault) => fault == StoreFault::NoMemory,
-            Fault::Salt(fault) => fault == SaltFault::NoMemory,
-            Fault::Superblock(fault) => fault == SuperFault::NoMemory,
-            Fault::Table(fault) => fault == TableFault::NoMemory,
-            Fault::Build(fault) => fault == BuildFault::NoMemory,
-        }
-    }
-}
-
-impl fmt::Display for Fault {
-    fn fmt<W: fmt::Write>(&self, f: &mut fmt::Formatter<W>) -> fmt::Result {
-        match self {
-            Fault::Store(fault) => write!(f, "{fault}"),
-            Fault::Salt(fault) => write!(f, "{fault}"),
-            Fault::Superblock(fault) => write!(f, "{fault}"),
-            Fault::Table(fault) => write!(f, "{fault}"),
-            Fault::Build(fault) => write!(f, "{fault}"),
-        }
-    }
-}
 
 /// The arguments and options whose values are read here.
 #[derive(Clone, Copy, Debug, PartialEq, Eq)]
@@ -55,6 +26,8 @@ pub enum Word {
     HashBlockSize,
     Algorithm,
     HashOffset,
+    Cache,
+    Sessions,
 }
 
 impl fmt::Display for Word {
@@ -68,6 +41,8 @@ impl fmt::Display for Word {
             Word::HashBlockSize => "--hash-block-size",
             Word::Algorithm => "--algorithm",
             Word::HashOffset => "--hash-offset",
+            Word::Cache => "--cache",
+            Word::Sessions => "--sessions",
         })
     }
 }
@@ -85,7 +60,26 @@ pub enum Failure {
     Output,
 }
 
+/// Prints why a command stopped, and answers the status for it.
+pub fn fail<W: Write>(failure: Failure, output: &mut W) -> u8 {
+    let (written, status) = match failure {
+        Failure::Word(word) => (
+            writeln!(output, "error: the value of {word} is not understood"),
+            NOT_UNDERSTOOD,
+        ),
+        Failure::Refused(fault) => (writeln!(output, "refused {fault}"), REFUSED),
+        Failure::NoMemory => (writeln!(output, "no memory"), NO_MEMORY),
+        Failure::Output => (Ok(()), REFUSED),
+    };
+    match written {
+        Ok(()) => status,
+        Err(_) => REFUSED,
+    }
+}
+
 impl From<Fault> for Failure {
+    ghost from_gives = { λ f failure. failure ≡ failure_of f };
+
     fn from(fault: Fault) -> Failure {
         if fault.is_no_memory() {
             Failure::NoMemory
@@ -96,32 +90,58 @@ impl From<Fault> for Failure {
 }
 
 impl From<StoreFault> for Failure {
+    ghost from_gives = { λ f failure. failure ≡ failure_of (fault.Store f) };
+
     fn from(fault: StoreFault) -> Failure {
         Fault::Store(fault).into()
     }
 }
 
 impl From<SaltFault> for Failure {
+    ghost from_gives = { λ f failure. failure ≡ failure_of (fault.Salt f) };
+
     fn from(fault: SaltFault) -> Failure {
         Fault::Salt(fault).into()
     }
 }
 
 impl From<SuperFault> for Failure {
+    ghost from_gives = { λ f failure. failure ≡ failure_of (fault.Superblock f) };
+
     fn from(fault: SuperFault) -> Failure {
         Fault::Superblock(fault).into()
     }
 }
 
 impl From<TableFault> for Failure {
+    ghost from_gives = { λ f failure. failure ≡ failure_of (fault.Table f) };
+
     fn from(fault: TableFault) -> Failure {
         Fault::Table(fault).into()
     }
 }
 
 impl From<BuildFault> for Failure {
+    ghost from_gives = { λ f failure. failure ≡ failure_of (fault.Build f) };
+
     fn from(fault: BuildFault) -> Failure {
         Fault::Build(fault).into()
+    }
+}
+
+impl From<CheckFault> for Failure {
+    ghost from_gives = { λ f failure. failure ≡ failure_of (fault.Check f) };
+
+    fn from(fault: CheckFault) -> Failure {
+        Fault::Check(fault).into()
+    }
+}
+
+impl From<SessionFault> for Failure {
+    ghost from_gives = { λ f failure. failure ≡ failure_of (fault.Session f) };
+
+    fn from(fault: SessionFault) -> Failure {
+        Fault::Session(fault).into()
     }
 }
 

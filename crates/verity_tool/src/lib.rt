@@ -6,11 +6,18 @@
 
 mod dump;
 mod failure;
+mod fault;
 mod format;
 mod lines;
+mod opened;
 mod program;
 mod scratch;
+mod serve;
+mod status;
+mod talk;
 mod values;
+mod verify;
 mod words;
 
 pub use program::run;
+pub use serve::serve_on;

@@ -6,6 +6,9 @@ use std::alloc::Global;
 use uuid::Uuid;
 use verity_digest::{Algorithm, Salt};
 
+/// The most connections that `serve` may be asked to serve.
+const MOST_SESSIONS: u64 = 4294967295;
+
 /// The number that a word is: decimal digits alone, whose value fits 64 bits.
 pub fn number(word: Word, text: &str) -> Result<u64, Failure> {
     if !text.bytes().all(|byte| byte.is_ascii_digit()) {
@@ -17,6 +20,15 @@ pub fn number(word: Word, text: &str) -> Result<u64, Failure> {
 /// The number of bytes in a block that a word is. Which sizes are taken is for the stores to say.
 pub fn block_size(word: Word, text: &str) -> Result<usize, Failure> {
     Ok(number(word, text)? as usize)
+}
+
+/// The number of connections that a word is: at most 4,294,967,295.
+pub fn sessions(text: &str) -> Result<u64, Failure> {
+    let count = number(Word::Sessions, text)?;
+    if count > MOST_SESSIONS {
+        return Err(Failure::Word(Word::Sessions));
+    }
+    Ok(count)
 }
 
 /// The bytes that a salt's word names: `none` is the empty salt, all else is an even number, at least 2, of

@@ -1,0 +1,2 @@
+pub mod VolumeLaws
+pub mod Saying

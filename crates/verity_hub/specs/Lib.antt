@@ -1,0 +1,2 @@
+pub mod Volume
+pub mod Reading

@@ -1,0 +1,45 @@
+-- The texts of the numbered faults, and what the program makes of them.
+use Rattle.std.specs.Prelude.{ℕ, Bool, true, false, if◌then◌else◌, List, codes}
+use Rattle.nbd_session.specs.declared.fault.SessionFault.TheVariants as session
+use Rattle.nbd_session.specs.Texts.{session_text}
+use Rattle.verity_build.specs.declared.fault.BuildFault.TheVariants as build
+use Rattle.verity_build.specs.Texts.{build_text}
+use Rattle.verity_check.specs.declared.fault.CheckFault.TheVariants as check
+use Rattle.verity_check.specs.Texts.{check_text}
+use Rattle.verity_digest.specs.declared.salt.SaltFault.TheVariants as salt
+use Rattle.verity_digest.specs.Texts.{salt_text}
+use Rattle.verity_store.specs.declared.fault.StoreFault.TheVariants as store
+use Rattle.verity_store.specs.Texts as store_texts
+use Rattle.verity_superblock.specs.declared.faults.SuperFault.TheVariants as super
+use Rattle.verity_superblock.specs.declared.faults.TableFault.TheVariants as table
+use Rattle.verity_superblock.specs.Texts.{super_text, table_text}
+use Rattle.verity_tool.specs.declared.fault.Fault.{Fault}
+use Rattle.verity_tool.specs.declared.fault.Fault.TheVariants.{Store, Salt, Superblock, Table, Build, Check, Session, Socket}
+use Rattle.verity_tool.specs.declared.failure.Failure.{Failure}
+use Rattle.verity_tool.specs.declared.failure.Failure.TheVariants.{Refused, NoMemory}
+
+-- the text is that of what it carries
+abbrev pub fault_text : Fault → List ℕ
+fault_text (Store fault) = store_texts.fault_text fault
+fault_text (Salt fault) = salt_text fault
+fault_text (Superblock fault) = super_text fault
+fault_text (Table fault) = table_text fault
+fault_text (Build fault) = build_text fault
+fault_text (Check fault) = check_text fault
+fault_text (Session fault) = session_text fault
+fault_text Socket = codes "N6"
+
+-- the faults that are want of memory
+abbrev pub is_want : Fault → Bool
+is_want (Store store.NoMemory) = true
+is_want (Salt salt.NoMemory) = true
+is_want (Superblock super.NoMemory) = true
+is_want (Table table.NoMemory) = true
+is_want (Build build.NoMemory) = true
+is_want (Check check.NoMemory) = true
+is_want (Session session.NoMemory) = true
+is_want _ = false
+
+-- want of memory is printed as such, every other fault by its text
+abbrev pub failure_of : Fault → Failure
+failure_of fault = if is_want fault then NoMemory else Refused fault

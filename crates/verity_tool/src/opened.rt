@@ -1,0 +1,42 @@
+//! The volume that a table line names, opened to be read.
+
+use crate::failure::Failure;
+use nbd_session::ExportName;
+use std::fs::File;
+use std::rt::Files;
+use verity_check::Verifier;
+use verity_hub::Hub;
+use verity_store::FileStore;
+use verity_superblock::Table;
+
+/// A verifier over two files.
+pub type FileVerifier = Verifier<FileStore<File>, FileStore<File>>;
+
+/// A hub over two files.
+pub type FileHub = Hub<FileStore<File>, FileStore<File>>;
+
+/// Opens the two files that a table line names, the data device first, and makes their verifier.
+pub fn open_verifier<R: Files<File = File> + AllocGlobal>(
+    rt: &R,
+    table: Table,
+    cache: usize,
+) -> Result<FileVerifier, Failure> {
+    let data_store = FileStore::open(rt, table.dev(), table.data_block_size(), false)?;
+    let hash_store = FileStore::open(rt, table.hash_dev(), table.hash_block_size(), false)?;
+    let verifier = Verifier::new(rt.alloc(), table, data_store, hash_store, cache)?;
+    Ok(verifier)
+}
+
+/// A hub of no session over the volume that a table line names, under an export's name. The line is read first, then the
+/// name.
+pub fn open_hub<R: Files<File = File> + AllocGlobal>(
+    rt: &R,
+    line: &str,
+    name: &str,
+    cache: usize,
+) -> Result<FileHub, Failure> {
+    let table = Table::parse(rt.alloc(), line)?;
+    let name = ExportName::new(name.as_bytes())?;
+    let verifier = open_verifier(rt, table, cache)?;
+    Ok(Hub::new(rt.alloc(), verifier, name))
+}

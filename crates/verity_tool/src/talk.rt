@@ -1,0 +1,33 @@
+//! The command `talk`: serves a volume to one NBD client, over standard input and output.
+
+use crate::failure::{Failure, Word};
+use crate::opened::open_hub;
+use crate::serve::TURNS;
+use crate::status::{DONE, NO_MEMORY, REFUSED};
+use crate::values::number;
+use crate::words::TalkWords;
+use std::fs::File;
+use std::io::{Read, Write};
+use std::rt::Files;
+use verity_hub::{HubFault, ServeFault, serve_stream};
+
+/// Serves the volume that a table line names to the client at the other end of `input` and `output`, for servers that
+/// are started for one connection. Nothing but the session's bytes is written once the greeting has begun.
+///
+/// Faults are found in this order: the words, the line, the name, the two files (data first), the verifier.
+pub fn talk<R: Files<File = File> + AllocGlobal, I: Read, W: Write>(
+    rt: &R,
+    words: &TalkWords<'_>,
+    input: &mut I,
+    output: &mut W,
+) -> Result<u8, Failure> {
+    let cache = number(Word::Cache, words.cache)? as usize;
+    let mut hub = open_hub(rt, words.table, words.name, cache)?;
+    match serve_stream(&mut hub, input, output, TURNS) {
+        Ok(()) => Ok(DONE),
+        Err(ServeFault::Starved) => Ok(NO_MEMORY),
+        // The greeting hasn't begun.
+        Err(ServeFault::Hub(HubFault::NoMemory)) => Err(Failure::NoMemory),
+        Err(_) => Ok(REFUSED),
+    }
+}

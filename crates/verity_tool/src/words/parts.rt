@@ -1,0 +1,39 @@
+//! The arguments and options of which commands are made.
+
+use clap::Arg;
+use std::alloc::Global;
+
+/// A required argument.
+pub fn path<'a>(alloc: Global, name: &'a str, help: &'a str) -> Arg<'a> {
+    Arg::new(alloc, name).required(true).help(help)
+}
+
+/// An option with a value.
+pub fn option<'a>(alloc: Global, name: &'a str, help: &'a str) -> Arg<'a> {
+    Arg::new(alloc, name).long(name).help(help)
+}
+
+/// `--hash-offset`, of the commands that read or write a superblock.
+pub fn hash_offset<'a>(alloc: Global) -> Arg<'a> {
+    option(
+        alloc,
+        "hash-offset",
+        "The superblock's place in HASH, in bytes",
+    )
+    .default_value("0")
+}
+
+/// `--table`, of the commands that trust a table line.
+pub fn table<'a>(alloc: Global) -> Arg<'a> {
+    option(alloc, "table", "The table line of the volume").required(true)
+}
+
+/// `--name`, of the commands that serve.
+pub fn name<'a>(alloc: Global) -> Arg<'a> {
+    option(alloc, "name", "The export's name").required(true)
+}
+
+/// `--cache`, of the commands that serve.
+pub fn cache<'a>(alloc: Global) -> Arg<'a> {
+    option(alloc, "cache", "How many checked hash blocks are kept").default_value("1024")
+}

@@ -1,0 +1,37 @@
+//! The words of `serve`.
+
+use super::parts::{cache, name, option, table};
+use clap::{ArgMatches, Command};
+use std::alloc::{AllocError, Global};
+
+/// The words of `serve`.
+#[derive(Clone, Copy, Debug)]
+pub struct ServeWords<'a> {
+    pub table: &'a str,
+    pub listen: &'a str,
+    pub name: &'a str,
+    pub cache: &'a str,
+    pub sessions: &'a str,
+}
+
+pub fn serve_command<'a>(alloc: Global) -> Result<Command<'a>, AllocError> {
+    let listen = option(alloc, "listen", "The address to listen on, as HOST:PORT");
+    let sessions = option(alloc, "sessions", "How many connections are served");
+    Command::new(alloc, "serve")
+        .about("Serves a volume over NBD, one connection after the other")
+        .arg(table(alloc))?
+        .arg(listen.required(true))?
+        .arg(name(alloc))?
+        .arg(cache(alloc))?
+        .arg(sessions.default_value("4294967295"))
+}
+
+pub fn serve_words<'a>(matches: &ArgMatches<'a>) -> Option<ServeWords<'a>> {
+    Some(ServeWords {
+        table: matches.get_str("table")?,
+        listen: matches.get_str("listen")?,
+        name: matches.get_str("name")?,
+        cache: matches.get_str("cache")?,
+        sessions: matches.get_str("sessions")?,
+    })
+}

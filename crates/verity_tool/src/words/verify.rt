@@ -1,0 +1,23 @@
+//! The words of `verify`.
+
+use super::parts::table;
+use clap::{ArgMatches, Command};
+use std::alloc::{AllocError, Global};
+
+/// The words of `verify`.
+#[derive(Clone, Copy, Debug)]
+pub struct VerifyWords<'a> {
+    pub table: &'a str,
+}
+
+pub fn verify_command<'a>(alloc: Global) -> Result<Command<'a>, AllocError> {
+    Command::new(alloc, "verify")
+        .about("Reports what is wrong in a volume")
+        .arg(table(alloc))
+}
+
+pub fn verify_words<'a>(matches: &ArgMatches<'a>) -> Option<VerifyWords<'a>> {
+    Some(VerifyWords {
+        table: matches.get_str("table")?,
+    })
+}

@@ -1,0 +1,54 @@
+"""What a case is: words and files, and what is expected of them."""
+import os
+import random
+import subprocess
+import tempfile
+
+UUID = "01234567-89ab-cdef-0123-456789abcdef"
+
+
+class Case:
+    """Words that the program is run with among these files, and what it must print, answer and leave.
+
+    `output` is the whole output, or a list of texts that stand in it. A file that `leaves` doesn't name must be left
+    as it was; None is for a file that must not be there. `sink` is a path that the output goes to instead.
+    """
+
+    def __init__(self, name, words, output, status=0, files=None, leaves=None, input=b"", sink=None):
+        self.name = name
+        self.words = words
+        self.output, self.status = output, status
+        self.files, self.leaves = files or {}, leaves or {}
+        self.input = input
+        self.sink = sink
+
+    def differences(self, tool, folder):
+        """What is not as the case says, in a folder with its files."""
+        status, output, errors = self.run(tool, folder)
+        if status != self.status:
+            yield f"the status is {status}, not {self.status}; printed {output!r}"
+        if not self.prints(output):
+            yield f"printed {output!r}, not {self.output!r}"
+        if errors:
+            yield f"wrote {errors!r} to standard error"
+
+    def run(self, tool, folder):
+        """The status, and what went to standard output and to standard error."""
+        with tempfile.TemporaryFile() as kept, open(self.sink or os.devnull, "wb") as sink:
+            seen = subprocess.run(["dalgovuun", *self.words], executable=tool, cwd=folder, input=self.input, timeout=60,
+                                  stdout=sink if self.sink else kept, stderr=subprocess.PIPE)
+            kept.seek(0)
+            return seen.returncode, kept.read(), seen.stderr
+
+    def prints(self, output):
+        """Whether this is what the case expects to be printed."""
+        if isinstance(self.output, bytes):
+            return output == self.output
+        if isinstance(self.output, list):
+            return all(part.encode() in output for part in self.output)
+        return output == self.output.encode()
+
+
+def image(blocks, size=512):
+    """Some bytes that differ from block to block."""
+    return random.Random(blocks * 1_000_003 + size).randbytes(blocks * size)

@@ -1,0 +1,124 @@
+"""`format`: the hash device, the table line, and what is refused."""
+from cases.case import UUID, Case, image
+from verity import Volume
+
+SMALL = ["--data-block-size", "512", "--hash-block-size", "512"]
+SALTED = ["--salt", "00ff", "--uuid", UUID]
+LARGEST = "18446744073709551615"
+TOO_LARGE = "18446744073709551616"
+
+
+def words(*more, salted=SALTED, sizes=SMALL, paths=("data", "hash")):
+    return ["format", *paths, *salted, *sizes, *more]
+
+
+def made(name, volume, given, files=None, spelled=None):
+    """A device that is made: its line, and its bytes from the first to the last."""
+    data = image(volume.blocks, volume.data_size)
+    return Case(f"format: {name}", given, volume.line(data) + "\n", files={"data": data, **(files or {})},
+                leaves={"hash": volume.device(data)})
+
+
+def refused(name, fault, given, files=None, leaves=None):
+    """A refusal that leaves no hash device, or the one that stood there, but where `leaves` says otherwise."""
+    return Case(f"format: {name}", given, f"refused {fault}\n", 1, {"data": image(2)} if files is None else files,
+                leaves={"hash": (files or {}).get("hash"), **(leaves or {})})
+
+
+def not_understood(name, value, given):
+    """A word that isn't a value of its kind; nothing is opened or made."""
+    return Case(f"format: {name}", given, f"error: the value of {value} is not understood\n", 2,
+                {"data": image(2)}, {"hash": None})
+
+
+def volumes():
+    """Sizes, counts, salts and algorithms, each device byte for byte."""
+    plain = dict(salt=b"\x00\xff", uuid=UUID)
+    for blocks in (1, 2, 16, 17, 256, 257):
+        yield made(f"{blocks} blocks", Volume(blocks, **plain), words())
+    yield made("blocks of 4096 bytes by default", Volume(3, data_size=4096, hash_size=4096, **plain), words(sizes=[]))
+    yield made("larger data blocks", Volume(17, data_size=4096, **plain),
+               words(sizes=["--data-block-size", "4096", "--hash-block-size", "512"]))
+    yield made("larger hash blocks", Volume(17, hash_size=4096, **plain),
+               words(sizes=["--data-block-size", "512", "--hash-block-size", "4096"]))
+    yield made("the largest blocks", Volume(2, data_size=524288, hash_size=524288, **plain),
+               words(sizes=["--data-block-size", "524288", "--hash-block-size", "524288"]))
+    for blocks in (8, 9):
+        yield made(f"sha512, {blocks} blocks", Volume(blocks, algorithm="sha512", **plain),
+                   words("--algorithm", "sha512"))
+    yield made("sha256 by name", Volume(17, **plain), words("--algorithm", "sha256"))
+    yield made("no salt", Volume(17, uuid=UUID), words(salted=["--salt", "none", "--uuid", UUID]))
+    yield made("a salt in capitals", Volume(2, salt=b"\xab\xcd", uuid=UUID),
+               words(salted=["--salt", "ABcd", "--uuid", UUID]))
+    yield made("a salt of 256 bytes", Volume(2, salt=b"\x5a" * 256, uuid=UUID),
+               words(salted=["--salt", "5a" * 256, "--uuid", UUID]))
+    yield made("a UUID in capitals", Volume(2, **plain), words(salted=["--salt", "00ff", "--uuid", UUID.upper()]))
+    yield made("leading zeros", Volume(2, **plain),
+               words(sizes=["--data-block-size", "0512", "--hash-block-size", "000512"]))
+    yield made("rubbish in the hash device's place", Volume(2, **plain), words(), files={"hash": b"\x77" * 5000})
+
+
+def offsets():
+    """The superblock at a byte offset."""
+    front = b"\x11" * 1024
+    plain = dict(salt=b"\x00\xff", uuid=UUID)
+    yield made("offset 1024", Volume(17, front=front, **plain), words("--hash-offset", "1024"), {"hash": front})
+    yield made("offset 1024 of an empty device", Volume(17, front=bytes(1024), **plain),
+               words("--hash-offset", "1024"), {"hash": b""})
+    yield made("offset 1024 and rubbish behind", Volume(17, front=front, **plain),
+               words("--hash-offset", "1024"), {"hash": front + b"\x77" * 8192})
+    yield refused("offset of no device", "S1", words("--hash-offset", "1024"))
+    hashes = {"data": image(2), "hash": b"\x11" * 2048}
+    larger = ["--data-block-size", "512", "--hash-block-size", "1024"]
+    yield refused("offset between blocks", "U4", words("--hash-offset", "512", sizes=larger), hashes)
+    yield refused("offset past the format", "U4", words("--hash-offset", "562949953421312"), hashes)
+    yield refused("the largest number as offset", "U4", words("--hash-offset", LARGEST), hashes)
+    yield refused("no blocks before a wrong offset", "U1 M2", words("--hash-offset", "100"),
+                  {"data": b"", "hash": b"\x11" * 512})
+
+
+def refusals():
+    long_salt = ["--salt", "5a" * 257, "--uuid", UUID]
+    yield refused("a salt of 257 bytes", "G1", words(salted=long_salt))
+    yield refused("a salt of 257 bytes before a missing DATA", "G1", words(salted=long_salt), {})
+    for size in ("0", "1", "256", "513", "768", "1048576", LARGEST):
+        yield refused(f"data blocks of {size} bytes", "S4",
+                      words(sizes=["--data-block-size", size, "--hash-block-size", "512"]))
+        yield refused(f"hash blocks of {size} bytes", "S4",
+                      words(sizes=["--data-block-size", "512", "--hash-block-size", size]))
+    yield refused("a missing DATA", "S1", words(), {})
+    yield refused("a missing DATA leaves HASH", "S1", words(), {"hash": b"\x11" * 700})
+    yield refused("a missing DATA before the hash blocks' size", "S1",
+                  words(sizes=["--data-block-size", "512", "--hash-block-size", "513"]), {})
+    yield refused("a ragged DATA", "S2", words(), {"data": bytes(513)})
+    yield refused("HASH in no folder", "S1", words(paths=("data", "none/hash")))
+    yield refused("an empty DATA", "U1 M2", words(), {"data": b""}, {"hash": b""})
+
+
+def values():
+    for salt in ("", "0", "000", "0g", "None", "00 ff", "0x00"):
+        yield not_understood(f"salt {salt!r}", "--salt", words(salted=["--salt", salt, "--uuid", UUID]))
+    for uuid in ("", "x", UUID[:-1], UUID + "0", UUID.replace("a", "g")):
+        yield not_understood(f"UUID {uuid!r}", "--uuid", words(salted=["--salt", "00ff", "--uuid", uuid]))
+    for number in ("", "x", "+512", "-512", "0x200", "512 ", "5e2", TOO_LARGE):
+        yield not_understood(f"data block size {number!r}", "--data-block-size",
+                             words(sizes=[f"--data-block-size={number}"]))
+        yield not_understood(f"hash block size {number!r}", "--hash-block-size",
+                             words(sizes=[f"--hash-block-size={number}"]))
+        yield not_understood(f"offset {number!r}", "--hash-offset", words(f"--hash-offset={number}"))
+    for name in ("", "md5", "sha1", "SHA256", "sha256x"):
+        yield not_understood(f"algorithm {name!r}", "--algorithm", words("--algorithm", name))
+    for path in ("", "da ta", " "):
+        yield not_understood(f"DATA {path!r}", "DATA", words(paths=(path, "hash")))
+        yield not_understood(f"HASH {path!r}", "HASH", words(paths=("data", path)))
+    yield not_understood("HASH is DATA", "HASH", words(paths=("data", "data")))
+    long_salt = ["--salt", "5a" * 257, "--uuid", "x"]
+    yield not_understood("the words before the salt", "--uuid", words(salted=long_salt))
+
+
+def cases():
+    for table in (volumes, offsets, refusals, values):
+        yield from table()
+    data = image(1)
+    yield Case("format: an output that can't be written", words(), "", 1, {"data": data},
+               {"hash": Volume(1, salt=b"\x00\xff", uuid=UUID).device(data)}, sink="/dev/full")

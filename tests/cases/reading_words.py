@@ -1,0 +1,67 @@
+"""Words that are not a command's: help, and what `clap` refuses. Its texts are those of clap 4."""
+from cases.case import UUID, Case
+from verity import Volume
+
+HELP = """Makes, edits, verifies and serves dm-verity volumes
+
+Usage: dalgovuun [COMMAND]
+
+Commands:
+  format  Makes the hash device of a block image, and prints the table line
+  dump    Prints the superblock of a hash device
+  verify  Reports what is wrong in a volume
+  serve   Serves a volume over NBD, one connection after the other
+  talk    Serves a volume to one NBD client, over standard input and output
+  help    Print this message or the help of the given subcommand(s)
+
+Options:
+  -h, --help  Print help
+"""
+
+DUMP_HELP = """Prints the superblock of a hash device
+
+Usage: dalgovuun dump [OPTIONS] <HASH>
+
+Arguments:
+  <HASH>  The hash device
+
+Options:
+      --hash-offset <hash-offset>  The superblock's place in HASH, in bytes [default: 0]
+  -h, --help                       Print help
+"""
+
+MISSING = """error: the following required arguments were not provided:
+  --uuid <uuid>
+
+Usage: dalgovuun format --salt <salt> --uuid <uuid> <DATA> <HASH>
+
+For more information, try '--help'.
+"""
+
+UNKNOWN = """error: unrecognized subcommand 'qqq'
+
+Usage: dalgovuun [COMMAND]
+
+For more information, try '--help'.
+"""
+
+
+def cases():
+    zeros = Volume(1, data_size=1024)
+    line = zeros.line(bytes(1024), "scratch-data", "scratch-hash")
+    assert line.endswith(" 5f70bf18a086007016e948b04aed3b82103a36bea41755b6cddfaf10ace3c6ef -")
+    yield Case("no words", [], line + "\n")
+    yield Case("no words, and input", [], line + "\n", input=b"commit\n")
+    for words in (["--help"], ["-h"], ["help"]):
+        yield Case(f"{words}", words, HELP)
+    for words in (["dump", "--help"], ["dump", "-h"], ["help", "dump"]):
+        yield Case(f"{words}", words, DUMP_HELP)
+    yield Case("help of format", ["format", "--help"], ["Usage: dalgovuun format", "--salt <salt>", "[default: 4096]"])
+    yield Case("a command that isn't there", ["qqq"], UNKNOWN, 2)
+    yield Case("an option that isn't given", ["format", "data", "hash", "--salt", "none"], MISSING, 2,
+               {"data": bytes(512)}, {"hash": None})
+    for words in (["dump"], ["format", "data"], ["dump", "hash", "more"], ["dump", "hash", "--other", "1"],
+                  ["dump", "hash", "--hash-offset"], ["--hash-offset", "0", "dump", "hash"],
+                  ["format", "data", "hash", "--salt", "none", "--uuid", UUID, "--uuid", UUID]):
+        yield Case(f"not understood: {words}", words, ["error: ", "\nFor more information, try '--help'.\n"], 2,
+                   {"data": bytes(512)})
