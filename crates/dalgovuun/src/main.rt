@@ -1,12 +1,31 @@
 //! Dalgovuun: makes, edits, verifies and serves dm-verity volumes.
 #![tactic(auto)]
 
+use std::io::{ErrorKind, Write};
 use std::process::ExitCode;
 use std::{env, io};
 
-fn main(rt: HostRuntime) -> io::Result<ExitCode> {
-    let words: Vec<String> = env::args(&rt)?.collect(rt.alloc())?;
+fn main(rt: HostRuntime) -> ExitCode {
     let mut input = rt.stdin();
     let mut output = io::writer(&rt);
-    Ok(ExitCode::from(verity_tool::run(&rt, words.as_slice(), &mut input, &mut output)))
+    ExitCode::from(match words(&rt) {
+        Ok(words) => verity_tool::run(&rt, words.as_slice(), &mut input, &mut output),
+        Err(error) => unread(error.kind(), &mut output),
+    })
+}
+
+fn words(rt: &HostRuntime) -> io::Result<Vec<String>> {
+    Ok(env::args(rt)?.collect(rt.alloc())?)
+}
+
+// The status where the words could not be read: want of memory, or a word that is not UTF-8.
+fn unread<W: Write>(kind: ErrorKind, output: &mut W) -> u8 {
+    let (line, status) = match kind {
+        ErrorKind::OutOfMemory => ("no memory", 3),
+        _ => ("error: a word is not UTF-8", 2),
+    };
+    match writeln!(output, "{line}") {
+        Ok(()) => status,
+        Err(_) => 1,
+    }
 }
