@@ -134,12 +134,14 @@ edits_shrink image d count es ok less kept =
     (λ j. is_some (none j) || (leb (min d.least count) m && f j)) ∙ and_right (leb (min d.least count) m) false refl ∙ sym (and_right (is_changed d m) (ltb m count) f))
     (cases_lt m count))
 
-pub IsDraft-shrink : (d : Draft) (count : ℕ) (es : List (ℕ × List ℕ)) → IsDraft d → count ≤ d.working → es ≡ filter (λ e. ltb e.0 count) d.written
+pub IsDraft-shrink : (d : Draft) (count : ℕ) (es : List (ℕ × List ℕ)) → IsDraft d → 1 ≤ count → count ≤ d.working → es ≡ filter (λ e. ltb e.0 count) d.written
     → IsDraft (record d { least = min d.least count; working = count; written = es })
-IsDraft-shrink d count es ok less kept =
+IsDraft-shrink d count es ok some less kept =
     let new : Draft = record d { least = min d.least count; working = count; written = es } in
     let found : (q : ℕ) → written_at new q ≡ cond (ltb q count) (written_at d q) None = λ q. ap (lookup (is_at (nat_cmp q))) kept ∙ lookup_below count q d.written in
     record {
+      some = some;
+      committed_some = ok.committed_some;
       least = omega arith;
       kept = omega (arith, ok.kept);
       few = omega (arith, ok.few);

@@ -16,3 +16,5 @@ mod Trees
 mod LeafLemmas
 mod MakingLemmas
 mod CarriedLemmas
+mod LastLemmas
+mod PlanLemmas

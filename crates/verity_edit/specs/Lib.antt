@@ -18,3 +18,7 @@ pub mod Standing
 pub mod Leaves
 pub mod Making
 pub mod Carried
+pub mod Last
+pub mod Planning
+pub mod Editing
+-- pub mod Committing

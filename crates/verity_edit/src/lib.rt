@@ -3,13 +3,16 @@
 
 mod change;
 mod command;
+// mod committing;
 mod fault;
+mod last;
 mod leaves;
 mod level;
 mod levels;
 mod made;
 mod pending;
 mod plan;
+mod planning;
 mod tree;
 mod writes;
 

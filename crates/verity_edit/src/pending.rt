@@ -1,9 +1,9 @@
 //! The edits since the last commit.
 ghost use Rattle.std.specs.Prelude.{◌≡◌, ℕ, ◌+◌, ◌<◌, ◌≤◌, ◌^◌, true, List, [], length, slice_index_or, Some, None, OnOk, OnErr, IfOk, IfErr, ◌⊎◌};
-ghost use Rattle.verity_profile.specs.Profile.{zero_block};
+ghost use Rattle.verity_profile.specs.Profile.{IsBlockCount, zero_block};
 ghost use Rattle.verity_edit.specs.Edits.{with_write, with_growth, with_shrink, write_rule, grow_rule, shrink_rule};
 ghost use Rattle.verity_digest.specs.Hash.{salted_digest, size_of};
-ghost use Rattle.verity_edit.specs.Draft.{Draft, edits_of};
+ghost use Rattle.verity_edit.specs.Draft.{Draft, IsDraft, edits_of, keeps_last};
 ghost use Rattle.verity_edit.specs.Touched.{changed_blocks};
 ghost use Rattle.verity_edit.specs.Slots.{AreNamed, AreSized, AreWithin};
 ghost use Rattle.verity_edit.specs.Plan.{numbers_of};
@@ -44,7 +44,8 @@ impl<A: Allocator + Copy> Model for Pending<A> {
 impl<A: Allocator + Copy> Pending<A> {
     /// No edits of an image of this many blocks.
     pub fn new(alloc: A, size: usize, blocks: u64) -> Self
-        requires { blocks ≤ 2 ^ 40 }
+        requires some { 1 ≤ blocks }
+        requires few { blocks ≤ 2 ^ 40 }
         ensures { result ≡ record { size = size; committed = blocks; least = blocks; working = blocks; written = [] } }
     {
         Pending {
@@ -57,12 +58,32 @@ impl<A: Allocator + Copy> Pending<A> {
         }
     }
 
+    /// What every draft meets.
+    pub fn facts(&self)
+        ensures { IsDraft self.now }
+    {
+        let _ = &self.least;
+    }
+
     /// How many blocks there are.
     pub fn blocks(&self) -> u64
         ensures value { result ≡ self.now.working }
+        ensures some { 1 ≤ result }
         ensures few { result ≤ 2 ^ 40 }
+        ensures count { IsBlockCount result }
     {
         self.working
+    }
+
+    /// Whether the count didn't fall, or the last block was changed.
+    pub fn keeps_last(&self) -> bool
+        ensures { result ≡ keeps_last self.now }
+    {
+        if self.working >= self.committed {
+            return true;
+        }
+        let last = self.working - 1;
+        self.least <= last || self.written.contains_key(&last)
     }
 
     /// Writes block `n`.
@@ -72,6 +93,8 @@ impl<A: Allocator + Copy> Pending<A> {
         ensures refused { IfErr result (λ fault. (write_rule self.old.size self.old.working n block.now ≡ Some fault)
             ⊎ ((write_rule self.old.size self.old.working n block.now ≡ None) × (fault ≡ EditFault.NoMemory))) }
         ensures unchanged { OnErr result (self.new ≡ self.old) }
+        ensures size { self.new.size ≡ self.old.size }
+        ensures committed { self.new.committed ≡ self.old.committed }
     {
         if n >= self.working {
             return Err(EditFault::OutOfRange);
@@ -94,6 +117,8 @@ impl<A: Allocator + Copy> Pending<A> {
         ensures passed { OnOk result (grow_rule self.old.working count ≡ None) }
         ensures refused { IfErr result (λ fault. grow_rule self.old.working count ≡ Some fault) }
         ensures unchanged { OnErr result (self.new ≡ self.old) }
+        ensures size { self.new.size ≡ self.old.size }
+        ensures committed { self.new.committed ≡ self.old.committed }
     {
         if count <= self.working || count > 1 << 40 {
             return Err(EditFault::TooLarge);
@@ -108,6 +133,8 @@ impl<A: Allocator + Copy> Pending<A> {
         ensures passed { OnOk result (shrink_rule self.old.working count ≡ None) }
         ensures refused { IfErr result (λ fault. shrink_rule self.old.working count ≡ Some fault) }
         ensures unchanged { OnErr result (self.new ≡ self.old) }
+        ensures size { self.new.size ≡ self.old.size }
+        ensures committed { self.new.committed ≡ self.old.committed }
     {
         if count == 0 || count >= self.working {
             return Err(EditFault::TooSmall);
@@ -116,6 +143,15 @@ impl<A: Allocator + Copy> Pending<A> {
         self.least = self.least.min(count);
         self.working = count;
         Ok(())
+    }
+
+    /// The edits were committed: what was the working image is the committed one.
+    pub fn settle(&mut self)
+        ensures { self.new ≡ record { size = self.old.size; committed = self.old.working; least = self.old.working; working = self.old.working; written = [] } }
+    {
+        self.written.clear();
+        self.committed = self.working;
+        self.least = self.working;
     }
 
     /// Drops the edits.
