@@ -1,9 +1,9 @@
 -- The last data block, where the count fell.
-use Rattle.std.proofs.Common.{◌≡◌, ℕ, zero, suc, ◌+◌, ◌-◌, ◌*◌, ◌/◌, ◌%◌, ◌^◌, ◌<◌, ◌≤◌, Bool, true, false, ◌||◌, ◌&&◌, eqb, List, [], ◌∷◌, ◌++◌, length, map, drop, get_or, ⊎_elim, ◌⊎◌, inl, inr, refl, sym, ap, ◌∙◌, subst, arith}
+use Rattle.std.proofs.Common.{◌≡◌, ℕ, zero, suc, ◌+◌, ◌-◌, ◌*◌, ◌/◌, ◌%◌, ◌^◌, ◌<◌, ◌≤◌, Bool, true, false, ◌||◌, ◌&&◌, eqb, leb, ltb, List, [], ◌∷◌, ◌++◌, length, map, drop, get_or, ⊎_elim, ◌⊎◌, inl, inr, refl, sym, ap, ◌∙◌, subst, arith}
 use Rattle.std.specs.List.{filter, range_with_len}
 use Rattle.std.proofs.Math.Nat.{pow-zero, div-mul-le_self}
-use Rattle.std.proofs.lemmas.Bool.{cases_lt, cases_eq, or_left, or_right, or_cases, and_parts, and_from, lt-ltb, ltb-true, eq-eqb, eqb-true}
-use Rattle.std.proofs.lemmas.List.{length-map, get_or-map}
+use Rattle.std.proofs.lemmas.Bool.{cases_lt, cases_eq, or_left, or_right, or_cases, or_parts, and_parts, and_from, lt-ltb, ltb-true, leb-true, leb-false, eq-eqb, eqb-true, both_ways}
+use Rattle.std.proofs.lemmas.List.{length-map, get_or-map, length-append, get_or_append_left, get_or-append_right}
 use Rattle.verity_digest.specs.Tree.{Hashing, IsHashing, IsLevelCount, per_block, slot, tree}
 use Rattle.verity_digest.specs.Shape.{level_count, level_len, level_start, place}
 use Rattle.verity_digest.specs.Rows.{row, block_at}
@@ -11,11 +11,14 @@ use Rattle.verity_digest.proofs.Numbers.{IsLevelCount-level_count}
 use Rattle.verity_digest.proofs.Rows.{slot-row, length-row}
 use Rattle.verity_edit.specs.declared.plan.Child.{Child}
 use Rattle.verity_edit.specs.Edits.{Edits}
+use Rattle.verity_edit.specs.Draft.{Draft, IsDraft, edits_of, is_changed, keeps_last}
+use Rattle.verity_edit.specs.Slots.{nobody, child_at, AreNamed}
 use Rattle.verity_edit.specs.Touched.{has_fallen, changed_blocks}
 use Rattle.verity_edit.specs.Parents.{is_edited, edited_blocks}
 use Rattle.verity_edit.specs.Plan.{numbers_of}
 use Rattle.verity_edit.specs.Standing.{BeginsWith}
 use Rattle.verity_edit.proofs.ParentLemmas.{Rising, Has, same_rising, Rising-filter, filter_has, in_filter}
+use Rattle.verity_edit.proofs.Drafts.{length-working, KeepsUnchanged-draft}
 use Rattle.verity_edit.proofs.Trees.{stands_at}
 
 level_some_by : (k n L : ℕ) → 1 < n → IsLevelCount k n L → 0 < L
@@ -83,3 +86,56 @@ edited_last e some fell none =
     (filter_has (is_edited e) (length e.working) 0 n (record { low = omega arith; high = omega arith; passes = or_right (e.changed n) (has_fallen e && eqb n n) (and_from (has_fallen e) (eqb n n) fell (eq-eqb n n refl)) })))
     (has_last (changed_blocks e) n m h))
     (λ m h. last_has (changed_blocks e) n m (⊎_elim (λ c. inl c) (λ f. inr f.1) (edited_cases e m h)))
+
+-- the leaves of a draft
+
+pub keeps_last_edited : (image : List (List ℕ)) (d : Draft) → IsDraft d → length image ≡ d.committed → keeps_last d ≡ true → changed_blocks (edits_of image d) ≡ edited_blocks (edits_of image d)
+keeps_last_edited image d ok len kept =
+    let e : Edits = edits_of image d in
+    let n = length-working image d in
+    let some = ok.some in
+    edited_same e
+    (λ fell.
+    let less = ltb-true (length e.working) (length e.committed) fell in
+    ⊎_elim
+    (λ stays. let more = leb-true d.committed d.working stays in absurd (omega arith))
+    (λ is.
+    let at : d.working - 1 ≡ length e.working - 1 = omega arith in
+    filter_has e.changed (length e.working) 0 (length e.working - 1) (record { low = omega arith; high = omega arith; passes = subst (λ (m : ℕ). is_changed d m ≡ true) at is }))
+    (or_cases (leb d.committed d.working) (is_changed d (d.working - 1)) kept))
+
+pub record IsCut (image : List (List ℕ)) (d : Draft) : Type 0 where
+  pub numbers : changed_blocks (edits_of image d) ++ (length (edits_of image d).working - 1) ∷ [] ≡ edited_blocks (edits_of image d)
+  pub same : get_or (edits_of image d).working (length (edits_of image d).working - 1) [] ≡ get_or image (length (edits_of image d).working - 1) []
+
+pub cut_last : (image : List (List ℕ)) (d : Draft) → IsDraft d → length image ≡ d.committed → keeps_last d ≡ false → IsCut image d
+cut_last image d ok len cut =
+    let e : Edits = edits_of image d in
+    let n = length-working image d in
+    let some = ok.some in
+    let parts = or_parts (leb d.committed d.working) (is_changed d (d.working - 1)) cut in
+    let less = leb-false d.committed d.working parts.0 in
+    let fell : has_fallen e ≡ true = lt-ltb (length e.working) (length e.committed) (omega arith) in
+    let at : d.working - 1 ≡ length e.working - 1 = omega arith in
+    let plain : e.changed (length e.working - 1) ≡ false = subst (λ (m : ℕ). is_changed d m ≡ false) at parts.1 in
+    record {
+      numbers = edited_last e (omega arith) fell
+          (λ has. let i = in_filter e.changed (length e.working) 0 (length e.working - 1) has in both_ways (e.changed (length e.working - 1)) plain i.passes);
+      same = (KeepsUnchanged-draft image d ok len (length e.working - 1) (omega arith) plain).1;
+    }
+
+-- one leaf more
+pub AreNamed-last : (named : ℕ → List ℕ) (old new : List Child) (x : Child) → new ≡ old ++ x ∷ [] → x.digest ≡ named x.number → AreNamed named old → AreNamed named new
+AreNamed-last named old new x is here before =
+    let all : AreNamed named (old ++ x ∷ []) = record {
+      each = λ c below.
+          let P : Child → Type 0 = λ child. child.digest ≡ named child.number in
+          ⊎_elim
+          (λ low. subst P (sym (get_or_append_left old (x ∷ []) nobody c low)) (before.each c low))
+          (λ high.
+          let len = length-append old (x ∷ []) in
+          let at : c - length old ≡ 0 = omega arith in
+          subst P (sym (get_or-append_right old (x ∷ []) (length old) c nobody refl high ∙ ap (λ q. get_or (x ∷ []) q nobody) at)) here)
+          (cases_lt c (length old));
+    } in
+    subst (AreNamed named) (sym is) all

@@ -2,7 +2,7 @@
 use Rattle.std.proofs.Common.{◌≡◌, ℕ, zero, suc, ◌+◌, ◌-◌, ◌*◌, ◌/◌, ◌<◌, ◌≤◌, Bool, true, false, not, List, [], ◌∷◌, ◌++◌, length, map, replicate, get_or, ⊎_elim, ◌⊎◌, inl, inr, refl, sym, ap, ◌∙◌, subst, arith}
 use Rattle.std.specs.List.{filter, range_with_len, sum_by}
 use Rattle.std.proofs.lemmas.Bool.{cases_lt}
-use Rattle.std.proofs.lemmas.List.{length-append, length-map, get_or-map, get_or_append_left, get_or-append_right}
+use Rattle.std.proofs.lemmas.List.{length-append, length-map, length-replicate, get_or-map, get_or_append_left, get_or-append_right}
 use Rattle.std.proofs.lemmas.List.FromFn.{length-range_with_len}
 use Rattle.std.proofs.lemmas.List.Filters.{length-filter_both}
 use Rattle.std.proofs.lemmas.List.Sums.{sum_by-le-sum_by}
@@ -34,7 +34,7 @@ in_tree_level first start len all (n ∷ ns) within inside zero below = let low 
 in_tree_level first start len all (n ∷ ns) within inside (suc c) below = in_tree_level first start len all ns within (λ i has. inside i (inr has)) c (omega arith)
 
 in_tree_touched : (k : ℕ) (e : Edits) (first L : ℕ) → L ≤ level_count k (length e.working) → InTree first (total k (length e.working)) (touched_places k e first (length e.working) L)
-in_tree_touched k e first zero le c below = absurd (omega arith)
+in_tree_touched k e first zero le = λ c below. absurd (omega arith)
 in_tree_touched k e first (suc L) le =
     let n : ℕ = length e.working in
     let there : L < level_count k n = omega arith in
@@ -86,3 +86,7 @@ changed-le e = let f = length-filter-le e.changed (range_with_len 0 (length e.wo
 -- an image of so many blocks
 unfoldable pub some_image : ℕ → List (List ℕ)
 some_image n = replicate n []
+
+pub length-some_image : (n : ℕ) → length (some_image n) ≡ n
+unfolding some_image
+length-some_image n = length-replicate n []

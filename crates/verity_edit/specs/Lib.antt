@@ -20,5 +20,5 @@ pub mod Making
 pub mod Carried
 pub mod Last
 pub mod Planning
+pub mod Committing
 pub mod Editing
--- pub mod Committing

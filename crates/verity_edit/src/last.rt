@@ -17,7 +17,8 @@ use verity_store::{BlockStore, Which};
 /// The digest that stands in a slot of a hash block.
 fn digest_at(block: &[u8], slot: usize, algorithm: Algorithm) -> Digest
     requires { slot * size_of algorithm + size_of algorithm ≤ length block.now }
-    ensures { result ≡ take (size_of algorithm) (drop (slot * size_of algorithm) block.now) }
+    ensures value { result ≡ take (size_of algorithm) (drop (slot * size_of algorithm) block.now) }
+    ensures size { length result ≡ size_of algorithm }
 {
     let at = slot * algorithm.size();
     match algorithm {
@@ -61,9 +62,9 @@ pub fn add_last<H: BlockStore, A: Allocator>(
     let last = change.new.blocks() - 1;
     let (index, slot) = change.old.leaf_parent(last);
     let at = change.first + change.old.place(0, index);
-    if hash_store.read(at, block).is_err() {
+    let Ok(()) = hash_store.read(at, block) else {
         return Err(EditFault::Store(Which::Hash));
-    }
+    };
     let child = Child {
         number: last,
         digest: digest_at(block, slot, algorithm),
@@ -103,6 +104,7 @@ pub fn add_fallen<H: BlockStore, A: Allocator + Copy>(
     ensures size { H.size hash_store.new ≡ H.size hash_store.old }
     ensures room { H.room hash_store.new ≡ H.room hash_store.old }
 {
+    pending.facts();
     if pending.keeps_last() {
         return Ok(());
     }

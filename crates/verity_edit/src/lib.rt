@@ -3,7 +3,7 @@
 
 mod change;
 mod command;
-// mod committing;
+mod committing;
 mod fault;
 mod last;
 mod leaves;

@@ -1,5 +1,5 @@
 //! The plan of a commit: all that it reads and hashes and all memory that it takes, before the first change.
-ghost use Rattle.std.specs.Prelude.{◌≡◌, ℕ, ◌+◌, ◌-◌, ◌^◌, ◌<◌, ◌≤◌, true, List, [], ◌++◌, length, drop, replicate, IfErr, IfOk, OnOk, ◌⊎◌};
+ghost use Rattle.std.specs.Prelude.{◌≡◌, ℕ, ◌+◌, ◌-◌, ◌^◌, ◌<◌, ◌≤◌, true, List, [], length, drop, replicate, IfErr, IfOk, OnOk, ◌⊎◌};
 ghost use Rattle.verity_digest.specs.Hash.{size_of, hashing};
 ghost use Rattle.verity_digest.specs.Tree.{root, tree};
 ghost use Rattle.verity_geometry.specs.Geometry.{IsShape, digests_per_block, levels_of, total_of};
@@ -102,15 +102,6 @@ fn superblock_over<A: Allocator + Copy>(
     }
 }
 
-/// Puts bytes over the first ones of a block.
-fn put_first(block: &mut [u8], bytes: &[u8])
-    requires { length bytes.now ≤ length block.old }
-    ensures { block.new ≡ bytes.now ++ drop (length bytes.now) block.old }
-{
-    let len = bytes.len();
-    block[..len].copy_from_slice(bytes);
-}
-
 /// The hash block that a superblock stands in.
 fn first_block_of<A: Allocator + Copy>(
     alloc: A,
@@ -121,10 +112,13 @@ fn first_block_of<A: Allocator + Copy>(
     ensures fault { IfErr result (λ fault. fault ≡ EditFault.NoMemory) }
 {
     superblock.facts();
-    let bytes = superblock.encode();
-    let mut block = zeros(alloc, superblock.hash_block_size())?;
-    put_first(&mut block, &bytes);
-    Ok(block)
+    let Ok(mut block) = superblock.encode().to_vec(alloc) else {
+        return Err(EditFault::NoMemory);
+    };
+    match block.resize(superblock.hash_block_size(), 0) {
+        Ok(()) => Ok(block),
+        Err(_) => Err(EditFault::NoMemory),
+    }
 }
 
 /// What the new tree is made of: its touched blocks, its root hash, and how many blocks were hashed for it.
