@@ -18,3 +18,4 @@ mod MakingLemmas
 mod CarriedLemmas
 mod LastLemmas
 mod PlanLemmas
+mod DeviceLemmas

@@ -90,15 +90,18 @@ fn carry_out<D: BlockStore, H: BlockStore, A: Allocator + Copy>(
     ensures hash_tells { H.tells hash_store.new ≡ H.tells hash_store.old }
     ensures hash_sized { H.size hash_store.new ≡ H.size hash_store.old }
 {
-    if pending.apply(data_store, &plan.zero).is_err() {
+    pending.facts();
+    superblock.facts();
+    let Ok(()) = pending.apply(data_store, &plan.zero) else {
         return Err(Which::Data);
-    }
-    if change_hash(hash_store, &plan.change, &plan.made, &plan.first_block, block).is_err() {
+    };
+    let Ok(()) = change_hash(hash_store, &plan.change, &plan.made, &plan.first_block, block)
+    else {
         return Err(Which::Hash);
-    }
-    if data_store.sync().is_err() {
+    };
+    let Ok(()) = data_store.sync() else {
         return Err(Which::Data);
-    }
+    };
     match hash_store.sync() {
         Ok(()) => Ok(()),
         Err(_) => Err(Which::Hash),

@@ -4,6 +4,7 @@
 mod change;
 mod command;
 mod committing;
+mod editor;
 mod fault;
 mod last;
 mod leaves;
@@ -17,5 +18,5 @@ mod tree;
 mod writes;
 
 pub use command::{Command, Committed, Reply};
+pub use editor::Editor;
 pub use fault::EditFault;
-pub use pending::Pending;
