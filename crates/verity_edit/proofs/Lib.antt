@@ -19,3 +19,4 @@ mod CarriedLemmas
 mod LastLemmas
 mod PlanLemmas
 mod DeviceLemmas
+mod OpeningLemmas

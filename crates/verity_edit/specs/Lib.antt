@@ -22,3 +22,5 @@ pub mod Last
 pub mod Planning
 pub mod Committing
 pub mod Editing
+pub mod Opening
+pub mod Running

@@ -1,14 +1,17 @@
 //! The editor of a volume.
-ghost use Rattle.std.specs.Prelude.{◌≡◌, ℕ, ◌+◌, ◌-◌, ◌<◌, ◌≤◌, true, false, List, [], IfErr, IfOk, None, OnErr, OnOk, Some, IsOk, ◌↔◌, MatchBool, ◌⊎◌};
+ghost use Rattle.std.specs.Prelude.{◌≡◌, ◌≢◌, ℕ, ◌+◌, ◌-◌, ◌<◌, ◌≤◌, true, false, List, [], IfErr, IfOk, None, OnErr, OnOk, Some, IsOk, ◌↔◌, MatchBool, ◌⊎◌};
 ghost use Rattle.verity_superblock.specs.Superblock.{Volume};
 ghost use Rattle.verity_edit.specs.Edits.{with_write, with_growth, with_shrink, write_rule, grow_rule, shrink_rule};
 ghost use Rattle.verity_edit.specs.Draft.{edits_of};
 ghost use Rattle.verity_edit.specs.Touched.{touched_count};
 ghost use Rattle.verity_edit.specs.Committing.{IsRefusal, RefusesEdit};
+ghost use Rattle.verity_store.specs.Stores.{IsOnlyRead};
+ghost use Rattle.verity_edit.specs.Opening.{IsOpened, ExplainsOpen, presented};
 ghost use Rattle.verity_edit.specs.Editing.{Commits, IsUnchanged, Stays, Stands, FitsStores, IsWhole, edits_in, width_in, fresh};
 
 use crate::command::Committed;
 use crate::committing::commit_edits;
+use crate::opening::find_volume;
 use crate::pending::Pending;
 use crate::EditFault;
 use std::alloc::{Allocator, Global};
@@ -44,7 +47,80 @@ impl<D: BlockStore, H: BlockStore, A: Allocator + Copy> Model for Editor<D, H, A
     ghost invariant = { λ e. IsEditor D.BlockStore H.BlockStore e.hasher.salted (record { data_store = e.data_store; hash_store = e.hash_store; volume = e.superblock; first = e.first; root = e.root; draft = e.pending; hashed = e.hasher.hashed; broken = e.broken }) };
 }
 
+/// Why a volume wasn't opened, and both stores, whose contents are as they were.
+#[derive(Drop)]
+pub struct OpenRefused<D, H> {
+    /// Why.
+    pub fault: EditFault,
+    /// The data store.
+    pub data_store: D,
+    /// The hash store.
+    pub hash_store: H,
+}
+
 impl<D: BlockStore, H: BlockStore, A: Allocator + Copy> Editor<D, H, A> {
+    /// Opens the volume in two stores, whose superblock stands at byte 0 of the hash store: as `open_at` with the offset 0,
+    /// which E12 never refuses.
+    pub fn open(alloc: A, data_store: D, hash_store: H) -> Result<Self, OpenRefused<D, H>>
+        ensures opened { IfOk result (λ e. IsOpened D.BlockStore H.BlockStore data_store hash_store 0 e) }
+        ensures refused { IfErr result (λ r. ExplainsOpen (presented D.BlockStore H.BlockStore data_store hash_store 0) (D.tells data_store ≡ true) (H.tells hash_store ≡ true)
+            (D.failures data_store < D.failures r.data_store) (H.failures hash_store < H.failures r.hash_store) r.fault) }
+        ensures no_offset { IfErr result (λ r. r.fault ≢ EditFault.Offset) }
+        ensures data_store { IfErr result (λ r. IsOnlyRead D.BlockStore data_store r.data_store) }
+        ensures hash_store { IfErr result (λ r. IsOnlyRead H.BlockStore hash_store r.hash_store) }
+    {
+        Editor::open_at(alloc, data_store, hash_store, 0)
+    }
+
+    /// Opens the volume in two stores, whose superblock stands at a byte offset of the hash store. The committed and the
+    /// working image are then the data store's content, and nothing is edited.
+    ///
+    /// The first that applies: E12 where the offset isn't a multiple of the hash store's block size, or is of 2^40 of them or
+    /// more; E9 where no superblock of the profile stands there, with B1 where the store ends before it; E11 where a store's
+    /// block size isn't the superblock's, the data store first; E10 where the data store hasn't as many blocks as the
+    /// superblock says; E8 with the first block of the tree that isn't that of the data store's blocks. E5 and E6 come where
+    /// they are met. A refusal gives both stores back.
+    ///
+    /// It reads the superblock's block, each data block once, and each block of the tree at most once; it hashes each of them
+    /// once. It takes memory for two salts, a data block, two hash blocks, and one hash block a level.
+    pub fn open_at(
+        alloc: A,
+        data_store: D,
+        hash_store: H,
+        offset: u64,
+    ) -> Result<Self, OpenRefused<D, H>>
+        ensures opened { IfOk result (λ e. IsOpened D.BlockStore H.BlockStore data_store hash_store offset e) }
+        ensures refused { IfErr result (λ r. ExplainsOpen (presented D.BlockStore H.BlockStore data_store hash_store offset) (D.tells data_store ≡ true) (H.tells hash_store ≡ true)
+            (D.failures data_store < D.failures r.data_store) (H.failures hash_store < H.failures r.hash_store) r.fault) }
+        ensures data_store { IfErr result (λ r. IsOnlyRead D.BlockStore data_store r.data_store) }
+        ensures hash_store { IfErr result (λ r. IsOnlyRead H.BlockStore hash_store r.hash_store) }
+    {
+        let mut data_store = data_store;
+        let mut hash_store = hash_store;
+        match find_volume(alloc, &mut data_store, &mut hash_store, offset) {
+            Ok(found) => Ok(Editor {
+                alloc,
+                pending: Pending::new(
+                    alloc,
+                    found.superblock.data_block_size(),
+                    found.superblock.data_blocks(),
+                ),
+                data_store,
+                hash_store,
+                superblock: found.superblock,
+                hasher: found.hasher,
+                first: found.first,
+                root: found.root,
+                broken: false,
+            }),
+            Err(fault) => Err(OpenRefused {
+                fault,
+                data_store,
+                hash_store,
+            }),
+        }
+    }
+
     /// Writes a data block of the working image. It takes memory for the block, and hashes nothing.
     ///
     /// The first that applies: E7; E1 where `n` isn't below the working count; E2 where the block hasn't the bytes of a

@@ -11,12 +11,14 @@ mod leaves;
 mod level;
 mod levels;
 mod made;
+mod opening;
 mod pending;
 mod plan;
 mod planning;
+mod running;
 mod tree;
 mod writes;
 
 pub use command::{Command, Committed, Reply};
-pub use editor::Editor;
+pub use editor::{Editor, OpenRefused};
 pub use fault::EditFault;
