@@ -20,3 +20,4 @@ mod LastLemmas
 mod PlanLemmas
 mod DeviceLemmas
 mod OpeningLemmas
+mod AnswerLemmas

@@ -1,5 +1,5 @@
 -- What an editor's answers to commands say.
-use Rattle.std.specs.Prelude.{◌≡◌, ℕ, ◌<◌, ◌≤◌, true, false, List, [], ◌∷◌, ◌++◌, length, take, All, Any, ◌⊎◌}
+use Rattle.std.specs.Prelude.{◌≡◌, ℕ, ◌<◌, ◌≤◌, true, false, List, [], ◌∷◌, ◌++◌, length, take, All, Any, ◌⊎◌, Result, Ok, Err}
 use Rattle.verity_store.specs.declared.store.BlockStore as store
 use Rattle.verity_edit.specs.declared.command.Command.{Command}
 use Rattle.verity_edit.specs.declared.command.Committed.{Committed}
@@ -24,6 +24,11 @@ IsNoFailure _ = Unit {0}
 abbrev pub IsUnfailed : Reply → Type 0
 IsUnfailed (Refused fault) = IsNoFailure fault
 IsUnfailed _ = Unit {0}
+
+-- the reply to an edit
+abbrev pub reply_to : Result (Unit {0}) EditFault → Reply
+reply_to (Ok done) = Done
+reply_to (Err fault) = Refused fault
 
 -- a command leads from a state to another with this reply, in which the editor is
 pub record Leads {D H A : Type 0} (data_facts : store.Ghosts D) (hash_facts : store.Ghosts H) (command : Command A) (reply : Reply) (old_editor : Editing D H) (old : State) (e : Editing D H) : Type 0 where

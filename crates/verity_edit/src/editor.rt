@@ -206,6 +206,7 @@ impl<D: BlockStore, H: BlockStore, A: Allocator + Copy> Editor<D, H, A> {
     pub fn commit(&mut self) -> Result<Committed, EditFault>
         ensures committed { IfOk result (λ committed. Commits D.BlockStore H.BlockStore self.old self.new committed) }
         ensures refused { IfErr result (IsRefusal self.old.broken (D.failures self.old.data_store < D.failures self.new.data_store) (H.failures self.old.hash_store < H.failures self.new.hash_store)) }
+        ensures still_broken { self.old.broken ≡ true → self.new ≡ self.old }
         ensures memory { result ≡ Err EditFault.NoMemory → self.new.broken ≡ false }
         ensures unchanged { OnErr result (self.new.broken ≡ self.old.broken → IsUnchanged D.BlockStore H.BlockStore self.old self.new) }
         ensures hash_reads { self.old.broken ≡ false → self.old.draft.working ≡ self.old.draft.committed

@@ -1,6 +1,6 @@
 //! Commands, one after the other.
-ghost use Rattle.std.specs.Prelude.{◌≡◌, ℕ, ◌+◌, ◌≤◌, ◌<◌, length, OnOk, vec_len, IfOk};
-ghost use Rattle.verity_edit.specs.Running.{IsAnswered, AreAnswered};
+ghost use Rattle.std.specs.Prelude.{◌≡◌, ℕ, ◌+◌, ◌-◌, ◌≤◌, ◌<◌, length, OnOk, vec_len, IfOk};
+ghost use Rattle.verity_edit.specs.Running.{IsAnswered, AreAnswered, reply_to};
 
 use crate::command::{Command, Reply};
 use crate::editor::Editor;
@@ -9,7 +9,9 @@ use std::alloc::{AllocError, Allocator};
 use verity_store::BlockStore;
 
 // The reply to an edit.
-fn reply_of(done: Result<(), EditFault>) -> Reply {
+fn reply_of(done: Result<(), EditFault>) -> Reply
+    ensures { result ≡ reply_to done }
+{
     match done {
         Ok(()) => Reply::Done,
         Err(fault) => Reply::Refused(fault),
@@ -21,6 +23,7 @@ impl<D: BlockStore, H: BlockStore, A: Allocator + Copy> Editor<D, H, A> {
     fn answer<C: Allocator>(&mut self, command: &Command<C>) -> Reply
         ensures { IsAnswered D.BlockStore H.BlockStore command.now self.old self.new result }
     {
+        self.facts();
         match command {
             Command::Write(n, block) => reply_of(self.write(*n, block.as_slice())),
             Command::Grow(count) => reply_of(self.grow(*count)),
