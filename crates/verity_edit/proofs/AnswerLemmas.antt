@@ -1,6 +1,6 @@
 -- What the answers to commands say of the edit state.
 use Rattle.std.proofs.Common.{◌≡◌, ℕ, ◌+◌, ◌-◌, ◌<◌, ◌≤◌, Bool, true, false, ◌^◌, List, [], ◌∷◌, ◌++◌, length, take, drop, get_or, Option, Some, None, cond, leb, ltb, eqb, ◌&&◌, ⊎_elim, ◌⊎◌, inl, inr, refl, sym, ap, ◌∙◌, subst, arith}
-use Rattle.std.specs.Prelude.{MatchBool, MatchOption}
+use Rattle.std.specs.Prelude.{MatchBool, MatchOption, Result, Ok, Err, OnOk, OnErr, IfErr, IsOk, ◌↔◌}
 use Rattle.std.proofs.lemmas.Bool.{cases_Bool, both_ways, true≢false}
 use Rattle.std.proofs.lemmas.List.{length-take-le, take_at}
 use Rattle.verity_digest.specs.Tree.{Hashing, root}
@@ -21,7 +21,7 @@ use Rattle.verity_edit.specs.Draft.{Draft, edits_of}
 use Rattle.verity_edit.specs.After.{State, IsDone, TakesMemory, Passes, Answers}
 use Rattle.verity_edit.specs.Committing.{IsRefusal, RefusesEdit}
 use Rattle.verity_edit.specs.Editing.{Editing, IsIn, IsWhole, Stays, StaysStore, IsUnchanged, Commits, FitsStores, fresh, hashing_in, edits_in}
-use Rattle.verity_edit.specs.Running.{IsCommit, IsNoFailure, IsUnfailed, Leads, IsAnswered}
+use Rattle.verity_edit.specs.Running.{IsCommit, IsNoFailure, IsUnfailed, Leads, IsAnswered, reply_to}
 use Rattle.verity_edit.proofs.Drafts.{length-working, edits_fresh}
 
 at_true : (b : Bool) (P Q : Type 0) → b ≡ true → P → MatchBool b P Q
@@ -61,7 +61,7 @@ stays_draft stored hashes old d size = record {
 
 -- an edit was made
 pub answered_done : {D H A : Type 0} (stored : store.Ghosts D) (hashes : store.Ghosts H) (command : Command A) (old : Editing D H) (d : Draft) → old.broken ≡ false → d.size ≡ old.draft.size
-    → rule old.draft.size old.draft.working command ≡ None → ((image : List (List ℕ)) → edits_of image d ≡ step old.draft.size command (edits_of image old.draft))
+    → rule old.draft.size old.draft.working command ≡ None → edits_of (stored.content old.data_store) d ≡ step old.draft.size command (edits_of (stored.content old.data_store) old.draft)
     → ((h : Hashing) (image : List (List ℕ)) → IsDone h image command Done)
     → IsAnswered stored hashes command old (record old { draft = d }) Done
 answered_done stored hashes command old d sound size passed made done = record {
@@ -78,7 +78,7 @@ answered_done stored hashes command old d sound size passed made done = record {
             (inl (done (hashing_in old) state.edits.working, refl)));
         is_in = record {
           broken = sym sound;
-          edits = λ _. ap (step old.draft.size command) (is_in.edits sound) ∙ sym (made (stored.content old.data_store));
+          edits = λ _. ap (step old.draft.size command) (is_in.edits sound) ∙ sym made;
         };
       };
   whole = λ told hash_told still whole. ⊎_elim (λ no. absurd no) (λ w. w) whole;
@@ -204,13 +204,99 @@ no_failure : (a b m n : ℕ) (w : Which) → b ≡ a → n ≡ m → HasFailed (
 no_failure a b m n which.Data same hash_same f = absurd (omega arith)
 no_failure a b m n which.Hash same hash_same f = absurd (omega arith)
 
--- the answer where a store failed in a commit
-store_answers : {D H A : Type 0} (stored : store.Ghosts D) (old : Editing D H) (state : State) (w : Which) (up : Bool) → IsIn stored state old → old.broken ≡ false
-    → let one : Command A = Commit in Answers (hashing_in old) old.draft.size one (Refused (Store w)) state (record { edits = state.edits; broken = up })
-store_answers {A = A} stored old state w up is_in sound =
-    let one : Command A = Commit in
-    let next : State = record { edits = state.edits; broken = up } in
-    at_false state.broken ((Refused (Store w) ≡ Refused Broken) × (next ≡ state))
-    (MatchOption (rule old.draft.size (length state.edits.working) one) (Passes (hashing_in old) old.draft.size one (Refused (Store w)) state next) (λ fault. (Refused (Store w) ≡ Refused fault) × (next ≡ state)))
-    (is_in.broken ∙ sound)
-    (inr (inr (refl, (w, refl), refl)))
+-- the state after a commit in which a store failed: the edits are as they were, and the editor may be broken
+store_leads : {D H A : Type 0} (stored : store.Ghosts D) (hashes : store.Ghosts H) (command : Command A) (old new : Editing D H) (w : Which) (state : State) → command ≡ Commit → old.broken ≡ false
+    → (new.broken ≡ old.broken → IsUnchanged stored hashes old new) → IsIn stored state old → Leads stored hashes command (Refused (Store w)) old state new
+store_leads stored hashes command old new w state is sound unchanged is_in =
+    let next : State = record { edits = state.edits; broken = new.broken } in
+    record {
+      state = next;
+      answers = at_false state.broken ((Refused (Store w) ≡ Refused Broken) × (next ≡ state))
+          (MatchOption (rule old.draft.size (length state.edits.working) command) (Passes (hashing_in old) old.draft.size command (Refused (Store w)) state next) (λ fault. (Refused (Store w) ≡ Refused fault) × (next ≡ state)))
+          (is_in.broken ∙ sound)
+          (at_none (rule old.draft.size (length state.edits.working) command) (Passes (hashing_in old) old.draft.size command (Refused (Store w)) state next) (λ fault. (Refused (Store w) ≡ Refused fault) × (next ≡ state))
+          (ap (rule old.draft.size (length state.edits.working)) is)
+          (inr (inr (is, (w, refl), refl))));
+      is_in = record {
+        broken = refl;
+        edits = λ still.
+            let same = unchanged (still ∙ sym sound) in
+            is_in.edits sound ∙ (λ i. edits_of (sym same.data_content i) (sym same.draft i));
+      };
+    }
+
+takes_commit : {A : Type 0} (command : Command A) → command ≡ Commit → TakesMemory command
+takes_commit {A = A} command is = let one : Command A = Commit in subst (λ (c : Command A). TakesMemory c) (sym is) (let t : TakesMemory one = tt in t)
+
+-- a commit was refused
+pub answered_commit_refused : {D H A : Type 0} (stored : store.Ghosts D) (hashes : store.Ghosts H) (command : Command A) (old new : Editing D H) (fault : EditFault) → command ≡ Commit
+    → IsRefusal old.broken (stored.failures old.data_store < stored.failures new.data_store) (hashes.failures old.hash_store < hashes.failures new.hash_store) fault
+    → (old.broken ≡ true → new ≡ old) → (fault ≡ NoMemory → new.broken ≡ false) → (new.broken ≡ old.broken → IsUnchanged stored hashes old new) → Stays stored hashes old new
+    → IsAnswered stored hashes command old new (Refused fault)
+answered_commit_refused stored hashes command old new Broken is why still memory unchanged stays =
+    subst (λ e. IsAnswered stored hashes command old e (Refused Broken)) (sym (still why))
+    (answered_refused stored hashes command old Broken (at_true old.broken (Broken ≡ Broken) (rule old.draft.size old.draft.working command ≡ Some Broken) why refl))
+answered_commit_refused stored hashes command old new NoMemory is why still memory unchanged stays =
+    let sound : new.broken ≡ old.broken = memory refl ∙ sym why in
+    let same = unchanged sound in
+    let before = answered_memory stored hashes command old why (ap (rule old.draft.size old.draft.working) is) (takes_commit command is) in
+    record {
+      leads = λ told hash_told state is_in.
+          let led = before.leads told hash_told state is_in in
+          record { state = state; answers = at_false state.broken ((Refused NoMemory ≡ Refused Broken) × (state ≡ state))
+              (MatchOption (rule old.draft.size (length state.edits.working) command) (Passes (hashing_in old) old.draft.size command (Refused NoMemory) state state) (λ fault. (Refused NoMemory ≡ Refused fault) × (state ≡ state)))
+              (is_in.broken ∙ why)
+              (at_none (rule old.draft.size (length state.edits.working) command) (Passes (hashing_in old) old.draft.size command (Refused NoMemory) state state) (λ fault. (Refused NoMemory ≡ Refused fault) × (state ≡ state))
+              (ap (rule old.draft.size (length state.edits.working)) is)
+              (inr (inl (takes_commit command is, refl, refl)))); is_in = is_in_unchanged stored hashes old new state same is_in };
+      whole = λ told hash_told free whole. ⊎_elim (λ no. absurd no) (λ w. whole_unchanged stored hashes old new same w) whole;
+      unfailed = λ _ _ _. (memory refl, tt);
+      stays = stays;
+    }
+answered_commit_refused stored hashes command old new (Store w) is why still memory unchanged stays = record {
+  leads = λ told hash_told state is_in. store_leads stored hashes command old new w state is why.0 unchanged is_in;
+  whole = λ told hash_told free whole. ⊎_elim (λ no. absurd no) (λ was. whole_unchanged stored hashes old new (unchanged (free ∙ sym why.0)) was) whole;
+  unfailed = λ same hash_same _. absurd (no_failure (stored.failures old.data_store) (stored.failures new.data_store) (hashes.failures old.hash_store) (hashes.failures new.hash_store) w same hash_same why.1);
+  stays = stays;
+}
+answered_commit_refused stored hashes command old new OutOfRange is why still memory unchanged stays = absurd why
+answered_commit_refused stored hashes command old new WrongLength is why still memory unchanged stays = absurd why
+answered_commit_refused stored hashes command old new TooSmall is why still memory unchanged stays = absurd why
+answered_commit_refused stored hashes command old new TooLarge is why still memory unchanged stays = absurd why
+answered_commit_refused stored hashes command old new (Mismatch l i) is why still memory unchanged stays = absurd why
+answered_commit_refused stored hashes command old new (Superblock f) is why still memory unchanged stays = absurd why
+answered_commit_refused stored hashes command old new DataLength is why still memory unchanged stays = absurd why
+answered_commit_refused stored hashes command old new (StoreSize w) is why still memory unchanged stays = absurd why
+answered_commit_refused stored hashes command old new Offset is why still memory unchanged stays = absurd why
+
+-- an edit was made or refused
+pub answered_edit : {D H A : Type 0} (stored : store.Ghosts D) (hashes : store.Ghosts H) (command : Command A) (old new : Editing D H) (r : Result (Unit {0}) EditFault)
+    → OnOk r ((image : List (List ℕ)) → edits_of image new.draft ≡ step old.draft.size command (edits_of image old.draft))
+    → OnOk r ((old.broken ≡ false) × (rule old.draft.size old.draft.working command ≡ None))
+    → IfErr r (λ fault. RefusesEdit old.broken (rule old.draft.size old.draft.working command) fault ⊎ (TakesMemory command × (old.broken ≡ false) × (rule old.draft.size old.draft.working command ≡ None) × (fault ≡ NoMemory)))
+    → OnErr r (new ≡ old) → new ≡ record old { draft = new.draft } → new.draft.size ≡ old.draft.size → ((h : Hashing) (image : List (List ℕ)) → IsDone h image command Done)
+    → IsAnswered stored hashes command old new (reply_to r)
+answered_edit stored hashes command old new (Ok x) made passed refused unchanged only size done =
+    subst (λ e. IsAnswered stored hashes command old e Done) (sym only) (answered_done stored hashes command old new.draft passed.0 size passed.1 (made (stored.content old.data_store)) done)
+answered_edit stored hashes command old new (Err fault) made passed refused unchanged only size done =
+    subst (λ e. IsAnswered stored hashes command old e (Refused fault)) (sym unchanged)
+    (⊎_elim
+    (λ why. answered_refused stored hashes command old fault why)
+    (λ why. subst (λ (f : EditFault). IsAnswered stored hashes command old old (Refused f)) (sym why.3) (answered_memory stored hashes command old why.1 why.2 why.0))
+    refused)
+
+-- the edits were dropped
+pub answered_discard : {D H A : Type 0} (stored : store.Ghosts D) (hashes : store.Ghosts H) (command : Command A) (old new : Editing D H) (r : Result (Unit {0}) EditFault) → command ≡ Discard
+    → (old.broken ≡ false → FitsStores stored hashes old) → OnOk r (new ≡ record old { draft = fresh old.draft.size old.draft.committed }) → IsOk r ↔ (old.broken ≡ false) → IfErr r (λ fault. fault ≡ Broken)
+    → OnErr r (new ≡ old) → IsAnswered stored hashes command old new (reply_to r)
+answered_discard {A = A} stored hashes command old new (Ok x) is fits made ok refused unchanged =
+    let one : Command A = Discard in
+    let sound = ok.0 refl in
+    subst (λ e. IsAnswered stored hashes command old e Done) (sym made)
+    (subst (λ (c : Command A). IsAnswered stored hashes c old (record old { draft = fresh old.draft.size old.draft.committed }) Done) (sym is)
+    (answered_done stored hashes one old (fresh old.draft.size old.draft.committed) sound refl refl
+    (edits_fresh (stored.content old.data_store) old.draft.size old.draft.committed (fits sound).committed) (λ h image. refl)))
+answered_discard stored hashes command old new (Err fault) is fits made ok refused unchanged =
+    let broken : old.broken ≡ true = ⊎_elim (λ b. b) (λ sound. let no : false ≡ true = ok.1 sound in absurd (true≢false (sym no))) (cases_Bool old.broken) in
+    subst (λ e. IsAnswered stored hashes command old e (Refused fault)) (sym unchanged)
+    (answered_refused stored hashes command old fault (at_true old.broken (fault ≡ Broken) (rule old.draft.size old.draft.working command ≡ Some fault) broken refused))
