@@ -1,7 +1,7 @@
 -- What the answers to commands say of the edit state.
 use Rattle.std.proofs.Common.{◌≡◌, ℕ, ◌+◌, ◌-◌, ◌<◌, ◌≤◌, Bool, true, false, ◌^◌, List, [], ◌∷◌, ◌++◌, length, take, drop, get_or, Option, Some, None, cond, leb, ltb, eqb, ◌&&◌, ⊎_elim, ◌⊎◌, inl, inr, refl, sym, ap, ◌∙◌, subst, arith}
 use Rattle.std.specs.Prelude.{MatchBool, MatchOption, Result, Ok, Err, OnOk, OnErr, IfErr, IsOk, ◌↔◌}
-use Rattle.std.proofs.lemmas.Bool.{cases_Bool, both_ways, true≢false}
+use Rattle.std.proofs.lemmas.Bool.{cases_Bool, both_ways, true≢false, false≢true}
 use Rattle.std.proofs.lemmas.List.{length-take-le, take_at}
 use Rattle.verity_digest.specs.Tree.{Hashing, root}
 use Rattle.verity_store.specs.declared.store.BlockStore as store
@@ -21,16 +21,16 @@ use Rattle.verity_edit.specs.Draft.{Draft, edits_of}
 use Rattle.verity_edit.specs.After.{State, IsDone, TakesMemory, Passes, Answers}
 use Rattle.verity_edit.specs.Committing.{IsRefusal, RefusesEdit}
 use Rattle.verity_edit.specs.Editing.{Editing, IsIn, IsWhole, Stays, StaysStore, IsUnchanged, Commits, FitsStores, fresh, hashing_in, edits_in}
-use Rattle.verity_edit.specs.Running.{IsCommit, IsNoFailure, IsUnfailed, Leads, IsAnswered, reply_to}
+use Rattle.verity_edit.specs.Running.{is_commit, IsNoFailure, IsUnfailed, Leads, IsAnswered, reply_to}
 use Rattle.verity_edit.proofs.Drafts.{length-working, edits_fresh}
 
-at_true : (b : Bool) (P Q : Type 0) → b ≡ true → P → MatchBool b P Q
+pub at_true : (b : Bool) (P Q : Type 0) → b ≡ true → P → MatchBool b P Q
 at_true b P Q e p = subst (λ (x : Bool). MatchBool x P Q) (sym e) p
 
 at_false : (b : Bool) (P Q : Type 0) → b ≡ false → Q → MatchBool b P Q
 at_false b P Q e q = subst (λ (x : Bool). MatchBool x P Q) (sym e) q
 
-from_true : (b : Bool) (P Q : Type 0) → b ≡ true → MatchBool b P Q → P
+pub from_true : (b : Bool) (P Q : Type 0) → b ≡ true → MatchBool b P Q → P
 from_true b P Q e m = subst (λ (x : Bool). MatchBool x P Q) e m
 
 from_false : (b : Bool) (P Q : Type 0) → b ≡ false → MatchBool b P Q → Q
@@ -81,15 +81,12 @@ answered_done stored hashes command old d sound size passed made done = record {
           edits = λ _. ap (step old.draft.size command) (is_in.edits sound) ∙ sym made;
         };
       };
-  whole = λ told hash_told still whole. ⊎_elim (λ no. absurd no) (λ w. w) whole;
+  whole = λ told hash_told still whole. ⊎_elim (λ no. absurd (false≢true no)) (λ w. w) whole;
   unfailed = λ _ _ _. (sound, tt);
   stays = stays_draft stored hashes old d size;
 }
 
--- by cases of the rule: edits alone are refused by it
-record RuleIs (fault : EditFault) : Type 0 where
-  free : IsNoFailure fault
-
+-- the faults of the rule are no failures
 cond_fault : (b : Bool) (x y : Option EditFault) (fault : EditFault) → ((x ≡ Some fault) → IsNoFailure fault) → ((y ≡ Some fault) → IsNoFailure fault) → cond b x y ≡ Some fault → IsNoFailure fault
 cond_fault true x y fault f g e = f e
 cond_fault false x y fault f g e = g e
@@ -128,7 +125,7 @@ answered_refused stored hashes command old fault why = record {
         (cases_Bool old.broken);
     is_in = is_in;
   };
-  whole = λ told hash_told still whole. ⊎_elim (λ no. absurd no) (λ w. w) whole;
+  whole = λ told hash_told still whole. ⊎_elim (λ no. absurd (false≢true no)) (λ w. w) whole;
   unfailed = λ _ _ sound. (sound, rule_unfailed old.draft.size old.draft.working command fault (from_false old.broken (fault ≡ Broken) (rule old.draft.size old.draft.working command ≡ Some fault) sound why));
   stays = stays_draft stored hashes old old.draft refl;
 }
@@ -147,7 +144,7 @@ answered_memory stored hashes command old sound passed takes = record {
         (inr (inl (takes, refl, refl))));
     is_in = is_in;
   };
-  whole = λ told hash_told still whole. ⊎_elim (λ no. absurd no) (λ w. w) whole;
+  whole = λ told hash_told still whole. ⊎_elim (λ no. absurd (false≢true no)) (λ w. w) whole;
   unfailed = λ _ _ _. (sound, tt);
   stays = stays_draft stored hashes old old.draft refl;
 }
@@ -249,13 +246,13 @@ answered_commit_refused stored hashes command old new NoMemory is why still memo
               (at_none (rule old.draft.size (length state.edits.working) command) (Passes (hashing_in old) old.draft.size command (Refused NoMemory) state state) (λ fault. (Refused NoMemory ≡ Refused fault) × (state ≡ state))
               (ap (rule old.draft.size (length state.edits.working)) is)
               (inr (inl (takes_commit command is, refl, refl)))); is_in = is_in_unchanged stored hashes old new state same is_in };
-      whole = λ told hash_told free whole. ⊎_elim (λ no. absurd no) (λ w. whole_unchanged stored hashes old new same w) whole;
+      whole = λ told hash_told free whole. ⊎_elim (λ no. absurd (false≢true no)) (λ w. whole_unchanged stored hashes old new same w) whole;
       unfailed = λ _ _ _. (memory refl, tt);
       stays = stays;
     }
 answered_commit_refused stored hashes command old new (Store w) is why still memory unchanged stays = record {
   leads = λ told hash_told state is_in. store_leads stored hashes command old new w state is why.0 unchanged is_in;
-  whole = λ told hash_told free whole. ⊎_elim (λ no. absurd no) (λ was. whole_unchanged stored hashes old new (unchanged (free ∙ sym why.0)) was) whole;
+  whole = λ told hash_told free whole. ⊎_elim (λ no. absurd (false≢true no)) (λ was. whole_unchanged stored hashes old new (unchanged (free ∙ sym why.0)) was) whole;
   unfailed = λ same hash_same _. absurd (no_failure (stored.failures old.data_store) (stored.failures new.data_store) (hashes.failures old.hash_store) (hashes.failures new.hash_store) w same hash_same why.1);
   stays = stays;
 }

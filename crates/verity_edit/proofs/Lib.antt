@@ -21,3 +21,4 @@ mod PlanLemmas
 mod DeviceLemmas
 mod OpeningLemmas
 mod AnswerLemmas
+mod RunLemmas

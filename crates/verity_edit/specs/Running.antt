@@ -1,5 +1,6 @@
 -- What an editor's answers to commands say.
-use Rattle.std.specs.Prelude.{◌≡◌, ℕ, ◌<◌, ◌≤◌, true, false, List, [], ◌∷◌, ◌++◌, length, take, All, Any, ◌⊎◌, Result, Ok, Err}
+use Rattle.std.specs.Prelude.{◌≡◌, ℕ, ◌<◌, ◌≤◌, Bool, true, false, List, [], ◌∷◌, ◌++◌, length, take, All, ◌⊎◌, Result, Ok, Err}
+use Rattle.std.specs.List.{list_any}
 use Rattle.verity_store.specs.declared.store.BlockStore as store
 use Rattle.verity_edit.specs.declared.command.Command.{Command}
 use Rattle.verity_edit.specs.declared.command.Committed.{Committed}
@@ -11,9 +12,9 @@ use Rattle.verity_edit.specs.After.{State, Answers, After}
 use Rattle.verity_edit.specs.Editing.{Editing, IsIn, IsWhole, Stays, hashing_in}
 
 -- a commit was done
-abbrev pub IsCommit : Reply → Type 0
-IsCommit (CommittedReply committed) = Unit {0}
-IsCommit _ = ⊥
+abbrev pub is_commit : Reply → Bool
+is_commit (CommittedReply committed) = true
+is_commit _ = false
 
 -- no store failed, and the editor wasn't broken
 abbrev pub IsNoFailure : EditFault → Type 0
@@ -39,7 +40,7 @@ pub record Leads {D H A : Type 0} (data_facts : store.Ghosts D) (hash_facts : st
 -- one command was answered
 pub record IsAnswered {D H A : Type 0} (data_facts : store.Ghosts D) (hash_facts : store.Ghosts H) (command : Command A) (old new : Editing D H) (reply : Reply) : Type 0 where
   pub leads : data_facts.tells old.data_store ≡ true → hash_facts.tells old.hash_store ≡ true → (state : State) → IsIn data_facts state old → Leads data_facts hash_facts command reply old state new
-  pub whole : data_facts.tells old.data_store ≡ true → hash_facts.tells old.hash_store ≡ true → new.broken ≡ false → IsCommit reply ⊎ IsWhole data_facts hash_facts old → IsWhole data_facts hash_facts new
+  pub whole : data_facts.tells old.data_store ≡ true → hash_facts.tells old.hash_store ≡ true → new.broken ≡ false → (is_commit reply ≡ true) ⊎ IsWhole data_facts hash_facts old → IsWhole data_facts hash_facts new
   pub unfailed : data_facts.failures new.data_store ≡ data_facts.failures old.data_store → hash_facts.failures new.hash_store ≡ hash_facts.failures old.hash_store → old.broken ≡ false
       → (new.broken ≡ false) × IsUnfailed reply
   pub stays : Stays data_facts hash_facts old new
@@ -57,7 +58,7 @@ pub record AreAnswered {D H A : Type 0} (data_facts : store.Ghosts D) (hash_fact
   pub each : length added ≡ done
   pub few : done ≤ length commands
   pub leads : data_facts.tells old.data_store ≡ true → hash_facts.tells old.hash_store ≡ true → (state : State) → IsIn data_facts state old → LeadsAll data_facts hash_facts (take done commands) added old state new
-  pub whole : data_facts.tells old.data_store ≡ true → hash_facts.tells old.hash_store ≡ true → new.broken ≡ false → Any IsCommit added ⊎ IsWhole data_facts hash_facts old → IsWhole data_facts hash_facts new
+  pub whole : data_facts.tells old.data_store ≡ true → hash_facts.tells old.hash_store ≡ true → new.broken ≡ false → (list_any is_commit added ≡ true) ⊎ IsWhole data_facts hash_facts old → IsWhole data_facts hash_facts new
   pub unfailed : data_facts.failures new.data_store ≡ data_facts.failures old.data_store → hash_facts.failures new.hash_store ≡ hash_facts.failures old.hash_store → old.broken ≡ false
       → (new.broken ≡ false) × All IsUnfailed added
   pub stays : Stays data_facts hash_facts old new
