@@ -146,6 +146,10 @@ impl From<SessionFault> for Failure {
 }
 
 impl From<AllocError> for Failure {
+    ghost use Rattle.verity_tool.specs.declared.failure.Failure.TheVariants.{NoMemory};
+
+    ghost from_gives = { λ _ f. f ≡ NoMemory };
+
     fn from(_error: AllocError) -> Failure {
         Failure::NoMemory
     }

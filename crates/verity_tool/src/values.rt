@@ -1,4 +1,10 @@
 //! The values of words: numbers, salts, UUIDs, algorithms and pairs of paths.
+ghost use Rattle.std.specs.Prelude.{◌≡◌, ◌==◌, ◌⊎◌, ◌↔◌, Ok, None, Some, IfOk, IfErr, nat_lt, length, codes, not};
+ghost use Rattle.std.specs.List.{list_all};
+ghost use Rattle.std.specs.Char.{is_ascii_digit};
+ghost use Rattle.std.specs.Result.{result_err};
+ghost use Rattle.verity_superblock.specs.Line.{is_path};
+ghost use Rattle.verity_tool.specs.Words.{number_in, sessions_in, salt_of, paths_refusal};
 
 use crate::failure::{Failure, Word};
 use hex::FromHexError;
@@ -10,30 +16,56 @@ use verity_digest::{Algorithm, Salt};
 const MOST_SESSIONS: u64 = 4294967295;
 
 /// The number that a word is: decimal digits alone, whose value fits 64 bits.
-pub fn number(word: Word, text: &str) -> Result<u64, Failure> {
-    if !text.bytes().all(|byte| byte.is_ascii_digit()) {
+pub fn number(word: Word, text: &str) -> Result<u64, Failure>
+    ensures { result ≡ number_in word text.now }
+{
+    if !are_digits(text) {
         return Err(Failure::Word(word));
     }
-    text.parse::<u64>().map_err(|_| Failure::Word(word))
+    match text.parse::<u64>() {
+        Ok(number) => Ok(number),
+        Err(_) => Err(Failure::Word(word)),
+    }
+}
+
+fn are_digits(text: &str) -> bool
+    ensures { result ≡ list_all is_ascii_digit text.now }
+{
+    text.as_bytes().iter().all(|byte| byte.is_ascii_digit())
 }
 
 /// The number of bytes in a block that a word is. Which sizes are taken is for the stores to say.
-pub fn block_size(word: Word, text: &str) -> Result<usize, Failure> {
-    Ok(number(word, text)? as usize)
+pub fn block_size(word: Word, text: &str) -> Result<usize, Failure>
+    ensures { result ≡ number_in word text.now }
+{
+    match number(word, text) {
+        Ok(size) => Ok(size as usize),
+        Err(failure) => Err(failure),
+    }
 }
 
 /// The number of connections that a word is: at most 4,294,967,295.
-pub fn sessions(text: &str) -> Result<u64, Failure> {
-    let count = number(Word::Sessions, text)?;
-    if count > MOST_SESSIONS {
-        return Err(Failure::Word(Word::Sessions));
+pub fn sessions(text: &str) -> Result<u64, Failure>
+    ensures { result ≡ sessions_in text.now }
+{
+    match number(Word::Sessions, text) {
+        Ok(count) => {
+            if count > MOST_SESSIONS {
+                Err(Failure::Word(Word::Sessions))
+            } else {
+                Ok(count)
+            }
+        }
+        Err(failure) => Err(failure),
     }
-    Ok(count)
 }
 
 /// The bytes that a salt's word names: `none` is the empty salt, all else is an even number, at least 2, of
 /// hexadecimal digits of either case.
-pub fn salt_bytes(alloc: Global, text: &str) -> Result<Vec<u8>, Failure> {
+pub fn salt_bytes(alloc: Global, text: &str) -> Result<Vec<u8>, Failure>
+    ensures value { IfOk result (λ bytes. salt_of text.now ≡ Some bytes.items) }
+    ensures refused { IfErr result (λ e. (e ≡ Failure.NoMemory) ⊎ ((e ≡ Failure.Word Word.Salt) × (salt_of text.now ≡ None))) }
+{
     if text == "none" {
         return Ok(Vec::new(alloc));
     }
@@ -58,16 +90,21 @@ pub fn uuid(text: &str) -> Result<Uuid, Failure> {
 }
 
 /// The algorithm that a word names.
-pub fn algorithm(text: &str) -> Result<Algorithm, Failure> {
-    Algorithm::from_name(text.as_bytes()).ok_or(Failure::Word(Word::Algorithm))
-}
-
-fn is_field(text: &str) -> bool {
-    !text.is_empty() && !text.contains(' ')
+pub fn algorithm(text: &str) -> Result<Algorithm, Failure>
+    ensures sha256 { (result ≡ Ok Algorithm.Sha256) ↔ (text.now ≡ codes "sha256") }
+    ensures sha512 { (result ≡ Ok Algorithm.Sha512) ↔ (text.now ≡ codes "sha512") }
+    ensures word { IfErr result (λ e. e ≡ Failure.Word Word.Algorithm) }
+{
+    match Algorithm::from_name(text.as_bytes()) {
+        Some(algorithm) => Ok(algorithm),
+        None => Err(Failure::Word(Word::Algorithm)),
+    }
 }
 
 /// Two paths that can stand in a table line: neither is empty or holds a space, and they differ.
-pub fn check_paths(data_path: &str, hash_path: &str) -> Result<(), Failure> {
+pub fn check_paths(data_path: &str, hash_path: &str) -> Result<(), Failure>
+    ensures { result_err result ≡ paths_refusal data_path.now hash_path.now }
+{
     if !is_field(data_path) {
         return Err(Failure::Word(Word::Data));
     }
@@ -75,4 +112,16 @@ pub fn check_paths(data_path: &str, hash_path: &str) -> Result<(), Failure> {
         return Err(Failure::Word(Word::Hash));
     }
     Ok(())
+}
+
+fn is_field(text: &str) -> bool
+    ensures { result ≡ is_path text.now }
+{
+    0 < text.len() && has_no_space(text)
+}
+
+fn has_no_space(text: &str) -> bool
+    ensures { result ≡ list_all (λ b. not (b == 32)) text.now }
+{
+    text.as_bytes().iter().all(|byte| *byte != b' ')
 }
