@@ -1,5 +1,6 @@
 //! A verifier that lacks memory.
 use crate::STEP;
+use crate::heaps::fill;
 use crate::volumes::{device, image, numbered, table};
 use linked_list_allocator::LocalHeap;
 use std::alloc::{AllocError, Global};
@@ -76,14 +77,15 @@ fn a_report_refused_memory_leaves_the_verifier_usable(rt: HostRuntime) -> Result
     let (_, root) = device(alloc)?;
     let mut refused = 0;
     for steps in 0..1000 {
-        let heap = LocalHeap::new(alloc, 16_384)?;
+        let heap = LocalHeap::new(alloc, 65_536)?;
         let (hash_store, _) = device(alloc)?;
         let data_store = FailStore::at(numbered(alloc, 17)?, 1);
         let mut verifier = Verifier::new(&heap, table(&heap, root)?, data_store, hash_store, 1)?;
-        let room = 16_384usize.saturating_sub(heap.used());
-        let filler = Vec::from_elem(&heap, 0u8, room.saturating_sub(64 + steps * STEP))?;
+        let gap = Vec::from_elem(&heap, 0u8, steps * STEP)?;
+        let rest = fill(alloc, &heap)?;
+        drop(gap);
         let report = verifier.report();
-        drop(filler);
+        drop(rest);
         if let Ok(report) = report {
             assert_eq!(rt; report.unchecked, 0);
             assert_eq!(rt; report.faults.as_slice().len(), 1);

@@ -9,7 +9,11 @@ mod building;
 #[cfg(test)]
 mod checking;
 #[cfg(test)]
+mod editing;
+#[cfg(test)]
 mod failures;
+#[cfg(test)]
+mod heaps;
 #[cfg(test)]
 mod volumes;
 
