@@ -1,0 +1,59 @@
+use Rattle.std.proofs.Common.{◌≡◌, ℕ, ◌+◌, ◌-◌, ◌*◌, ◌/◌, ◌%◌, ◌<◌, ◌≤◌, List, [], ◌∷◌, ◌++◌, length, take, drop, get_or, arith, subst, sym, ap, ◌∙◌}
+use Rattle.verity_digest.specs.Hash.{size_of}
+use Rattle.verity_digest.specs.Tree.{Hashing, per_block, slot}
+use Rattle.verity_digest.specs.Shape.{level_count, level_len, place}
+use Rattle.verity_geometry.specs.Geometry.{Shape, digests_per_block}
+use Rattle.verity_geometry.proofs.Shapes.{branching, some}
+use Rattle.verity_edit.specs.declared.plan.Child.{Child}
+use Rattle.verity_edit.proofs.LastLemmas.{level_some, slot_stands}
+use Rattle.verity_edit.proofs.last.add_last.Goals as goal
+
+pub leaf_parent-index-requires-clause-levels : goal.leaf_parent-index-requires-clause-levels
+leaf_parent-index-requires-clause-levels g c =
+    let old : Shape = c.args.change.now.old in
+    let left = some c.args.change.now.new c.requires.change.new_shape in
+    let fell = c.requires.fell in
+    level_some (digests_per_block old) old.blocks (branching old c.requires.change.old_shape) (omega arith)
+
+pub place-requires-clause-level : goal.place-requires-clause-level
+place-requires-clause-level g c =
+    let old : Shape = c.args.change.now.old in
+    let left = some c.args.change.now.new c.requires.change.new_shape in
+    let fell = c.requires.fell in
+    level_some (digests_per_block old) old.blocks (branching old c.requires.change.old_shape) (omega arith)
+
+pub returns-in-Ok-push-clause-added : goal.returns-in-Ok-push-clause-added
+returns-in-Ok-push-clause-added g c =
+    let last : c.blocks-last.result - 1 ≡ c.args.change.now.new.blocks - 1 = ap (λ n. n - 1) c.blocks-last.ensures.value in
+    record {
+      digest = c.digest_at.result;
+      sized = c.digest_at.ensures.size;
+      added = c.in-Ok-push.ensures.items ∙ ap (λ n. let x : Child = record { number = n; digest = c.digest_at.result } in c.args.leaves.now.items ++ x ∷ []) last;
+    }
+
+pub returns-in-Ok-push-clause-named : goal.returns-in-Ok-push-clause-named
+returns-in-Ok-push-clause-named g c = λ told h image ok block_size digest_size len stands.
+    let old : Shape = c.args.change.now.old in
+    let first : ℕ = c.args.change.now.first in
+    let content = g.H.BlockStore.content c.args.hash_store.now in
+    let b : ℕ = c.args.change.now.new.blocks - 1 in
+    let last : c.blocks-last.result - 1 ≡ b = ap (λ n. n - 1) c.blocks-last.ensures.value in
+    let left = some c.args.change.now.new c.requires.change.new_shape in
+    let fell = c.requires.fell in
+    let width : digests_per_block old ≡ per_block h = (λ i. sym block_size i / sym digest_size i) in
+    let size : size_of c.args.algorithm ≡ h.digest_size = sym (digest_size ∙ c.requires.change.old_digest) in
+    let parent = c.leaf_parent-index.ensures in
+    let index : c.leaf_parent-index.result.0 ≡ b / per_block h = parent.index ∙ (λ i. last i / width i) in
+    let slots : c.leaf_parent-index.result.1 ≡ b % per_block h = parent.slot ∙ (λ i. last i % width i) in
+    let at : first + c.place.result ≡ first + place (per_block h) (length image) 0 (b / per_block h) =
+    ap (λ p. first + p) c.place.ensures.value ∙ (λ i. first + place (width i) (sym len i) 0 (index i)) in
+    let block : c.read.new.out ≡ get_or content (first + place (per_block h) (length image) 0 (b / per_block h)) [] = sym (c.in-Ok.ensures.right told) ∙ ap (λ p. get_or content p []) at in
+    let some_level : 0 < level_count (per_block h) (length image) = level_some (per_block h) (length image) ok.branching (omega arith) in
+    let inside : b / per_block h < level_len (per_block h) (length image) 0 =
+    subst (λ (n : ℕ). n < level_len (per_block h) (length image) 0) index
+    (subst (λ (n : ℕ). c.leaf_parent-index.result.0 < n) (λ i. level_len (width i) (sym len i) 0) parent.index_within) in
+    let digest : c.digest_at.result ≡ h.digest (get_or image b []) =
+    c.digest_at.ensures.value ∙ (λ i. take (size i) (drop (slots i * size i) (block i)))
+    ∙ slot_stands h image content first b ok stands some_level (omega arith) inside in
+    c.in-Ok-push.ensures.items
+    ∙ (λ i. let x : Child = record { number = last i; digest = digest i } in c.args.leaves.now.items ++ x ∷ [])

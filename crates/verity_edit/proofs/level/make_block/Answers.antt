@@ -1,0 +1,31 @@
+use Rattle.std.proofs.Common.{◌≡◌, ℕ, ◌+◌, ◌++◌, ◌∷◌, List, [], length, get_or, rules, ap, ◌∙◌}
+use Rattle.verity_digest.specs.Tree.{Hashing, pack}
+use Rattle.verity_digest.specs.Hash.{hashing}
+use Rattle.verity_edit.specs.declared.plan.Child.{Child}
+use Rattle.verity_edit.specs.Plan.{Planned}
+use Rattle.verity_edit.proofs.level.make_block.Goals as goal
+
+pub returns-in-Ok-push-clause-made : goal.returns-in-Ok-push-clause-made
+returns-in-Ok-push-clause-made g c = λ told old new count holds renews.
+    let h : Hashing = hashing c.args.hasher.now.salted (length c.args.block.now) in
+    let i : ℕ = c.args.index in
+    let at : ℕ = c.args.level.now.start + i in
+    let r = c.in-Ok.ensures.made told old new count holds renews in
+    let copied : c.in-Ok-to_vec.bytes.items ≡ c.make_again.new.block = search rules in
+    let block : c.new.result ≡ get_or (pack h new) i [] = c.new.ensures ∙ copied ∙ r.0 in
+    let planned : c.push.new.self.items ≡ c.args.plan.now.items ++ c.new-made.result ∷ [] = search rules in
+    let child : Child = record { number = i; digest = c.in-Ok.digest } in
+    let nexted : c.push-2.new.self.items ≡ c.args.next.now.items ++ child ∷ [] = search rules in (
+      planned ∙ ap (λ m. c.args.plan.now.items ++ m ∷ []) c.new-made.ensures ∙ (λ j. c.args.plan.now.items ++ record { at = at; block = block j } ∷ []),
+      nexted ∙ (λ j. c.args.next.now.items ++ record { number = i; digest = r.1 j } ∷ []),
+    )
+
+pub returns-in-Ok-push-clause-planned : goal.returns-in-Ok-push-clause-planned
+returns-in-Ok-push-clause-planned g c =
+    let copied : c.in-Ok-to_vec.bytes.items ≡ c.make_again.new.block = search rules in
+    let planned : c.push.new.self.items ≡ c.args.plan.now.items ++ c.new-made.result ∷ [] = search rules in
+    record {
+      block = c.new.result;
+      sized = ap length (c.new.ensures ∙ copied) ∙ c.make_again.auto.block;
+      added = planned ∙ ap (λ m. c.args.plan.now.items ++ m ∷ []) c.new-made.ensures;
+    }

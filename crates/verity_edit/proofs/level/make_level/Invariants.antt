@@ -1,0 +1,25 @@
+use Rattle.std.proofs.Common.{◌≡◌, ℕ, ◌+◌, ◌<◌, ◌≤◌, ◌++◌, true, List, [], length, map, take}
+use Rattle.verity_digest.specs.Hash.{hashing}
+use Rattle.verity_edit.specs.Slots.{AreSized}
+use Rattle.verity_edit.specs.Level.{Holds, Renews}
+use Rattle.verity_edit.specs.Plan.{numbers_of, places, ArePlanned, made_blocks, made_digests}
+use Rattle.verity_edit.proofs.level.make_level.Given as goal
+
+abbrev pub invariant-loop-index : goal.invariant-loop-index
+invariant-loop-index g l = record {
+  made : g.H.BlockStore.tells l.initial.hash_store ≡ true → (old new : List (List ℕ)) → let h = hashing l.initial.hasher.salted (length l.initial.block) in
+      length new ≡ l.level.digests → Holds h old l.level.old (g.H.BlockStore.content l.initial.hash_store) → Renews l.level.digest_size old new l.children
+      → (l.plan.items ≡ l.initial.plan.items ++ made_blocks h new l.level.start (take l.index-index l.numbers)) × (l.next.items ≡ made_digests h new (take l.index-index l.numbers));
+  numbers : numbers_of l.next.items ≡ take l.index-index l.numbers;
+  next_sized : AreSized l.level.digest_size l.next.items;
+  places : places l.plan.items ≡ places l.initial.plan.items ++ map (λ i. l.level.start + i) (take l.index-index l.numbers);
+  planned : ArePlanned (length l.initial.block) l.initial.plan.items → ArePlanned (length l.initial.block) l.plan.items;
+  salted : l.hasher.salted ≡ l.initial.hasher.salted;
+  hashed : l.hasher.hashed ≡ l.initial.hasher.hashed + l.index-index;
+  failures : g.H.BlockStore.failures l.initial.hash_store ≤ g.H.BlockStore.failures l.hash_store;
+  reads : g.H.BlockStore.reads l.hash_store ≤ g.H.BlockStore.reads l.initial.hash_store + l.index-index;
+  content : g.H.BlockStore.content l.hash_store ≡ g.H.BlockStore.content l.initial.hash_store;
+  tells : g.H.BlockStore.tells l.hash_store ≡ g.H.BlockStore.tells l.initial.hash_store;
+  size : g.H.BlockStore.size l.hash_store ≡ g.H.BlockStore.size l.initial.hash_store;
+  room : g.H.BlockStore.room l.hash_store ≡ g.H.BlockStore.room l.initial.hash_store;
+}

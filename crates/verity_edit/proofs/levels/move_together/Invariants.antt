@@ -1,0 +1,23 @@
+use Rattle.std.proofs.Common.{◌≡◌, ℕ, ◌+◌, ◌<◌, ◌≤◌, true, List, [], length, get_or}
+use Rattle.verity_geometry.specs.Geometry.{digests_per_block, levels_of, len_of, start_of}
+use Rattle.verity_edit.specs.Levels.{KeepsFront}
+use Rattle.verity_edit.proofs.levels.move_together.Given as goal
+
+abbrev pub invariant-loop-left : goal.invariant-loop-left
+invariant-loop-left g l = record {
+  most : l.left ≤ levels_of l.new;
+  moved : g.H.BlockStore.tells l.initial.hash_store ≡ true → (m i : ℕ) → l.left ≤ m → m < levels_of l.new → i < len_of l.new m
+      → get_or (g.H.BlockStore.content l.hash_store) (l.first + start_of l.new m + i) [] ≡ get_or (g.H.BlockStore.content l.initial.hash_store) (l.first + start_of l.old m + i) [];
+  rest : (m i : ℕ) → m < l.left → m < levels_of l.new → i < len_of l.new m
+      → get_or (g.H.BlockStore.content l.hash_store) (l.first + start_of l.old m + i) [] ≡ get_or (g.H.BlockStore.content l.initial.hash_store) (l.first + start_of l.old m + i) [];
+  front : KeepsFront l.first (g.H.BlockStore.content l.initial.hash_store) (g.H.BlockStore.content l.hash_store);
+  stays : l.new ≡ l.old → g.H.BlockStore.reads l.hash_store ≡ g.H.BlockStore.reads l.initial.hash_store;
+  len : length (g.H.BlockStore.content l.hash_store) ≡ length (g.H.BlockStore.content l.initial.hash_store);
+  failures : g.H.BlockStore.failures l.initial.hash_store ≤ g.H.BlockStore.failures l.hash_store;
+  tells : g.H.BlockStore.tells l.hash_store ≡ g.H.BlockStore.tells l.initial.hash_store;
+  size : g.H.BlockStore.size l.hash_store ≡ g.H.BlockStore.size l.initial.hash_store;
+  room : g.H.BlockStore.room l.hash_store ≡ g.H.BlockStore.room l.initial.hash_store;
+}
+
+abbrev pub decreases-loop-left : goal.decreases-loop-left
+decreases-loop-left g l = l.left

@@ -1,0 +1,113 @@
+use Rattle.std.proofs.Common.{◌≡◌, ℕ, ◌+◌, ◌-◌, ◌*◌, ◌/◌, ◌<◌, ◌≤◌, List, [], length, drop, get_or, arith, subst, sym, ap, ◌∙◌, true, refl}
+use Rattle.std.proofs.lemmas.List.{length-map, length-replicate}
+use Rattle.verity_digest.specs.Hash.{hashing, size_of}
+use Rattle.verity_digest.specs.Tree.{Hashing, IsHashing, per_block, root, tree}
+use Rattle.verity_digest.proofs.Sha.{IsHashing-hashing}
+use Rattle.verity_profile.proofs.Bounds.{block_size_low}
+use Rattle.verity_geometry.specs.Geometry.{Shape, IsShape, digests_per_block, levels_of}
+use Rattle.verity_geometry.proofs.Shapes.{some}
+use Rattle.verity_edit.specs.declared.plan.Child.{Child}
+use Rattle.verity_edit.specs.declared.tree.Change.{Change}
+use Rattle.verity_edit.specs.Edits.{Edits}
+use Rattle.verity_edit.specs.Draft.{Draft, IsDraft, edits_of}
+use Rattle.verity_edit.specs.Touched.{changed_blocks, touched_count, bound}
+use Rattle.verity_edit.specs.Slots.{AreNamed}
+use Rattle.verity_edit.specs.Plan.{ArePlanned, numbers_of}
+use Rattle.verity_edit.specs.Making.{IsEdited, IsChange, StandsFor, touched_blocks}
+use Rattle.verity_edit.specs.Last.{AreEdited}
+use Rattle.verity_edit.specs.Standing.{BeginsWith}
+use Rattle.verity_edit.proofs.Drafts.{length-working, KeepsUnchanged-draft}
+use Rattle.verity_edit.proofs.PlanLemmas.{AreInTree-from, length-plan, some_image, length-some_image}
+use Rattle.verity_edit.proofs.planning.plan_tree.Goals as goal
+
+-- the leaves are of the edits of each image of this length
+edited : (image : List (List ℕ)) (d : Draft) (old new : Shape) (leaves : List Child) → IsDraft d → IsShape old → IsShape new → d.committed ≡ old.blocks → d.working ≡ new.blocks → AreEdited d leaves
+    → length image ≡ d.committed → IsEdited (edits_of image d) old.blocks new.blocks leaves
+edited image d old new leaves ok old_shape new_shape committed working are len = record {
+  committed = len ∙ committed;
+  working = length-working image d ∙ working;
+  some = some old old_shape;
+  left = some new new_shape;
+  kept = KeepsUnchanged-draft image d ok len;
+  numbers = are image len;
+}
+
+pub returns-in_err-root-clause-reads : goal.returns-in_err-root-clause-reads
+returns-in_err-root-clause-reads g c = λ image len same.
+    let d : Draft = c.args.pending.now in
+    let change : Change = c.args.change.now in
+    let ed = edited image d change.old change.new c.add_fallen.new.leaves.items c.facts.ensures c.requires.change.old_shape c.requires.change.new_shape c.requires.committed c.requires.working c.in_ok-add_fallen.ensures.edited len in
+    let before = c.in_ok-add_fallen.ensures.reads same in
+    let after = c.in_err-root.ensures.reads (edits_of image d) ed in
+    omega arith
+
+pub returns-clause-reads : goal.returns-clause-reads
+returns-clause-reads g c = λ image len same.
+    let d : Draft = c.args.pending.now in
+    let change : Change = c.args.change.now in
+    let ed = edited image d change.old change.new c.add_fallen.new.leaves.items c.facts.ensures c.requires.change.old_shape c.requires.change.new_shape c.requires.committed c.requires.working c.in_ok-add_fallen.ensures.edited len in
+    let before = c.in_ok-add_fallen.ensures.reads same in
+    let after = c.in_ok-root.ensures.reads (edits_of image d) ed in
+    omega arith
+
+pub returns-clause-planned : goal.returns-clause-planned
+returns-clause-planned g c = subst (λ (n : ℕ). ArePlanned n c.make_tree.new.plan.items) c.add_fallen.auto.block c.in_ok-root.ensures.planned
+
+pub returns-clause-places : goal.returns-clause-places
+returns-clause-places g c =
+    let d : Draft = c.args.pending.now in
+    let change : Change = c.args.change.now in
+    let image : List (List ℕ) = some_image d.committed in
+    let ed = edited image d change.old change.new c.add_fallen.new.leaves.items c.facts.ensures c.requires.change.old_shape c.requires.change.new_shape c.requires.committed c.requires.working c.in_ok-add_fallen.ensures.edited (length-some_image d.committed) in
+    AreInTree-from (digests_per_block change.new) (edits_of image d) change.first change.new.blocks c.make_tree.new.plan.items ed.working (c.in_ok-root.ensures.places (edits_of image d) ed)
+
+pub returns-clause-hashed : goal.returns-clause-hashed
+returns-clause-hashed g c = λ image len.
+    let d : Draft = c.args.pending.now in
+    let e : Edits = edits_of image d in
+    let change : Change = c.args.change.now in
+    let ed = edited image d change.old change.new c.add_fallen.new.leaves.items c.facts.ensures c.requires.change.old_shape c.requires.change.new_shape c.requires.committed c.requires.working c.in_ok-add_fallen.ensures.edited len in
+    let made = length-plan (digests_per_block change.new) e change.first change.new.blocks c.make_tree.new.plan.items ed.working (c.in_ok-root.ensures.places e ed) in
+    let changed : length c.in-Ok.leaves.items ≡ length (changed_blocks e) = sym (length-map c.in-Ok.leaves.items (λ child. child.number)) ∙ ap length (c.in-Ok.ensures.numbers image) in
+    let a = c.len-changed.ensures in
+    let b = c.len.ensures in
+    omega arith
+
+pub returns-clause-counted : goal.returns-clause-counted
+returns-clause-counted g c =
+    let d : Draft = c.args.pending.now in
+    let image : List (List ℕ) = some_image d.committed in
+    let e : Edits = edits_of image d in
+    let change : Change = c.args.change.now in
+    let ed = edited image d change.old change.new c.add_fallen.new.leaves.items c.facts.ensures c.requires.change.old_shape c.requires.change.new_shape c.requires.committed c.requires.working c.in_ok-add_fallen.ensures.edited (length-some_image d.committed) in
+    let made = length-plan (digests_per_block change.new) e change.first change.new.blocks c.make_tree.new.plan.items ed.working (c.in_ok-root.ensures.places e ed) in
+    let first = c.in-Ok.ensures.hashed in
+    let then = c.in_ok-root.ensures.hashed e ed in
+    let a = c.len-changed.ensures in
+    let b = c.len.ensures in
+    omega arith
+
+pub returns-clause-right : goal.returns-clause-right
+returns-clause-right g c = λ told image len stands is_root.
+    let d : Draft = c.args.pending.now in
+    let e : Edits = edits_of image d in
+    let change : Change = c.args.change.now in
+    let content = g.H.BlockStore.content in
+    let leaves : List Child = c.add_fallen.new.leaves.items in
+    let ed = edited image d change.old change.new leaves c.facts.ensures c.requires.change.old_shape c.requires.change.new_shape c.requires.committed c.requires.working c.in_ok-add_fallen.ensures.edited len in
+    let h : Hashing = hashing c.args.hasher.now.salted (length c.args.block.now) in
+    let here : Hashing = hashing c.leaves.new.hasher.salted (length c.add_fallen.new.block) in
+    let same : here ≡ h = (λ i. hashing (c.in-Ok.ensures.salted i) (c.add_fallen.auto.block i)) in
+    let big : 512 ≤ length c.args.block.now = (let low = block_size_low change.new.hash_size c.requires.change.new_shape.hash_size in let s = c.requires.change.new_size in let q = c.requires.sized in omega arith) in
+    let ok : IsHashing h = IsHashing-hashing c.args.hasher.now.salted (length c.args.block.now) big in
+    let named : AreNamed (λ n. h.digest (get_or e.working n [])) leaves =
+    c.in_ok-add_fallen.ensures.named told h image ok (c.requires.sized ∙ sym c.requires.change.old_size) (sym c.requires.change.old_digest) ed.committed stands (c.in-Ok.ensures.named image) in
+    let there : StandsFor h e change.first (content c.add_fallen.new.hash_store) change.root leaves = record {
+      tree = subst (λ (blocks : List (List ℕ)). BeginsWith (drop change.first blocks) (tree h image)) (sym c.in_ok-add_fallen.ensures.content) stands;
+      root = is_root;
+      named = named;
+    } in
+    let r = c.in_ok-root.ensures.made (c.in_ok-add_fallen.ensures.tells ∙ told) e ed (subst (λ (x : Hashing). StandsFor x e change.first (content c.add_fallen.new.hash_store) change.root leaves) (sym same) there) in (
+      r.0 ∙ ap (λ x. touched_blocks x e change.first change.new.blocks (levels_of change.new)) same,
+      r.1 ∙ ap (λ x. root x e.working) same,
+    )

@@ -1,0 +1,34 @@
+use Rattle.std.proofs.Common.{◌≡◌, ℕ, ◌+◌, ◌≤◌, true, List, [], length, get_or}
+use Rattle.verity_digest.specs.Hash.{hashing, size_of}
+use Rattle.verity_digest.specs.Shape.{row_len}
+use Rattle.verity_geometry.specs.Geometry.{digests_per_block}
+use Rattle.verity_edit.specs.Edits.{Edits}
+use Rattle.verity_edit.specs.Digests.{digests_of}
+use Rattle.verity_edit.specs.Slots.{AreNamed, AreSized, AreWithin}
+use Rattle.verity_edit.specs.Plan.{numbers_of, places, ArePlanned}
+use Rattle.verity_edit.specs.Making.{renewed, touched_below, touched_places, touched_blocks, IsEdited, StandsFor}
+use Rattle.verity_edit.proofs.tree.make_tree.Given as goal
+
+abbrev pub invariant-loop-level : goal.invariant-loop-level
+invariant-loop-level g l = record {
+  within : AreWithin (row_len (digests_per_block l.change.new) l.change.new.blocks l.level) l.children.items;
+  sized : AreSized (size_of l.initial.hasher.salted.algorithm) l.children.items;
+  numbers : (e : Edits) → IsEdited e l.change.old.blocks l.change.new.blocks l.fn.leaves.items → numbers_of l.children.items ≡ renewed (digests_per_block l.change.new) e l.level;
+  places : (e : Edits) → IsEdited e l.change.old.blocks l.change.new.blocks l.fn.leaves.items
+      → places l.plan.items ≡ touched_places (digests_per_block l.change.new) e l.change.first l.change.new.blocks l.level;
+  made : g.H.BlockStore.tells l.initial.hash_store ≡ true → (e : Edits) → IsEdited e l.change.old.blocks l.change.new.blocks l.fn.leaves.items
+      → let h = hashing l.initial.hasher.salted (length l.initial.block) in
+      StandsFor h e l.change.first (g.H.BlockStore.content l.initial.hash_store) l.change.root l.fn.leaves.items
+      → (l.plan.items ≡ touched_blocks h e l.change.first l.change.new.blocks l.level) × AreNamed (λ j. get_or (digests_of h e.working l.level) j []) l.children.items;
+  planned : ArePlanned (length l.initial.block) l.plan.items;
+  salted : l.hasher.salted ≡ l.initial.hasher.salted;
+  hashed : (e : Edits) → IsEdited e l.change.old.blocks l.change.new.blocks l.fn.leaves.items
+      → l.hasher.hashed ≡ l.initial.hasher.hashed + touched_below (digests_per_block l.change.new) e l.level;
+  failures : g.H.BlockStore.failures l.initial.hash_store ≤ g.H.BlockStore.failures l.hash_store;
+  reads : (e : Edits) → IsEdited e l.change.old.blocks l.change.new.blocks l.fn.leaves.items
+      → g.H.BlockStore.reads l.hash_store ≤ g.H.BlockStore.reads l.initial.hash_store + touched_below (digests_per_block l.change.new) e l.level;
+  content : g.H.BlockStore.content l.hash_store ≡ g.H.BlockStore.content l.initial.hash_store;
+  tells : g.H.BlockStore.tells l.hash_store ≡ g.H.BlockStore.tells l.initial.hash_store;
+  size : g.H.BlockStore.size l.hash_store ≡ g.H.BlockStore.size l.initial.hash_store;
+  room : g.H.BlockStore.room l.hash_store ≡ g.H.BlockStore.room l.initial.hash_store;
+}

@@ -1,0 +1,112 @@
+//! The last data block where the count fell: it keeps its digest, but what stood behind it in its hash block goes.
+ghost use Rattle.std.specs.Prelude.{◌≡◌, ℕ, ◌+◌, ◌-◌, ◌*◌, ◌<◌, ◌≤◌, true, List, length, take, drop, IfErr, OnOk, ◌⊎◌};
+ghost use Rattle.verity_digest.specs.Hash.{size_of};
+ghost use Rattle.verity_edit.specs.Edits.{Edits};
+ghost use Rattle.verity_edit.specs.Slots.{AreSized, AreWithin};
+ghost use Rattle.verity_edit.specs.Making.{IsChange};
+ghost use Rattle.verity_edit.specs.Last.{AddsLast, NamesLast, AreChanged, AreEdited, NamesEdited};
+
+use crate::EditFault;
+use crate::pending::Pending;
+use crate::plan::Child;
+use crate::tree::Change;
+use std::alloc::Allocator;
+use verity_digest::{Algorithm, Digest};
+use verity_store::{BlockStore, Which};
+
+/// The digest that stands in a slot of a hash block.
+fn digest_at(block: &[u8], slot: usize, algorithm: Algorithm) -> Digest
+    requires { slot * size_of algorithm + size_of algorithm ≤ length block.now }
+    ensures value { result ≡ take (size_of algorithm) (drop (slot * size_of algorithm) block.now) }
+    ensures size { length result ≡ size_of algorithm }
+{
+    let at = slot * algorithm.size();
+    match algorithm {
+        Algorithm::Sha256 => {
+            let mut bytes = [0; 32];
+            bytes.copy_from_slice(&block[at..at + 32]);
+            Digest::from_bytes(bytes)
+        }
+        Algorithm::Sha512 => {
+            let mut bytes = [0; 64];
+            bytes.copy_from_slice(&block[at..at + 64]);
+            Digest::from_wide(bytes)
+        }
+    }
+}
+
+/// Adds the last data block of the new count to the leaves, with the digest that level 0 of the committed tree holds. It
+/// reads one hash block.
+pub fn add_last<H: BlockStore, A: Allocator>(
+    hash_store: &mut H,
+    change: &Change,
+    algorithm: Algorithm,
+    block: &mut [u8],
+    leaves: &mut Vec<Child, A>,
+) -> Result<(), EditFault>
+    requires change { IsChange change.now (length (H.content hash_store.old)) (H.size hash_store.old) (size_of algorithm) }
+    requires sized { length block.old ≡ H.size hash_store.old }
+    requires fell { change.now.new.blocks < change.now.old.blocks }
+    ensures added { OnOk result (AddsLast (size_of algorithm) (change.now.new.blocks - 1) leaves.old.items leaves.new.items) }
+    ensures named { OnOk result (H.tells hash_store.old ≡ true → NamesLast change.now (H.content hash_store.old) leaves.old.items leaves.new.items) }
+    ensures error { IfErr result (λ fault. (fault ≡ EditFault.NoMemory) ⊎ ((fault ≡ EditFault.Store Which.Hash) × (H.failures hash_store.old < H.failures hash_store.new))) }
+    ensures failures { H.failures hash_store.old ≤ H.failures hash_store.new }
+    ensures reads { H.reads hash_store.new ≤ H.reads hash_store.old + 1 }
+    ensures content { H.content hash_store.new ≡ H.content hash_store.old }
+    ensures tells { H.tells hash_store.new ≡ H.tells hash_store.old }
+    ensures size { H.size hash_store.new ≡ H.size hash_store.old }
+    ensures room { H.room hash_store.new ≡ H.room hash_store.old }
+{
+    let _shaped = change.old.levels();
+    let _some = change.new.blocks();
+    let last = change.new.blocks() - 1;
+    let (index, slot) = change.old.leaf_parent(last);
+    let at = change.first + change.old.place(0, index);
+    let Ok(()) = hash_store.read(at, block) else {
+        return Err(EditFault::Store(Which::Hash));
+    };
+    let child = Child {
+        number: last,
+        digest: digest_at(block, slot, algorithm),
+    };
+    match leaves.push(child) {
+        Ok(()) => Ok(()),
+        Err(_) => Err(EditFault::NoMemory),
+    }
+}
+
+/// Where the count fell and the last block wasn't changed, adds its leaf to those of the changed blocks, since what its
+/// hash blocks held behind it goes. It then reads one hash block.
+pub fn add_fallen<H: BlockStore, A: Allocator + Copy>(
+    pending: &Pending<A>,
+    hash_store: &mut H,
+    change: &Change,
+    algorithm: Algorithm,
+    block: &mut [u8],
+    leaves: &mut Vec<Child, A>,
+) -> Result<(), EditFault>
+    requires change { IsChange change.now (length (H.content hash_store.old)) (H.size hash_store.old) (size_of algorithm) }
+    requires sized { length block.old ≡ H.size hash_store.old }
+    requires committed { pending.now.committed ≡ change.now.old.blocks }
+    requires working { pending.now.working ≡ change.now.new.blocks }
+    requires leaves { AreChanged pending.now leaves.old.items }
+    requires leaves_sized { AreSized (size_of algorithm) leaves.old.items }
+    requires leaves_within { AreWithin change.now.new.blocks leaves.old.items }
+    ensures edited { OnOk result (AreEdited pending.now leaves.new.items) }
+    ensures named { OnOk result (H.tells hash_store.old ≡ true → NamesEdited change.now (H.content hash_store.old) pending.now leaves.old.items leaves.new.items) }
+    ensures edited_sized { OnOk result (AreSized (size_of algorithm) leaves.new.items) }
+    ensures edited_within { OnOk result (AreWithin change.now.new.blocks leaves.new.items) }
+    ensures error { IfErr result (λ fault. (fault ≡ EditFault.NoMemory) ⊎ ((fault ≡ EditFault.Store Which.Hash) × (H.failures hash_store.old < H.failures hash_store.new))) }
+    ensures failures { H.failures hash_store.old ≤ H.failures hash_store.new }
+    ensures reads { change.now.new.blocks ≡ change.now.old.blocks → H.reads hash_store.new ≡ H.reads hash_store.old }
+    ensures content { H.content hash_store.new ≡ H.content hash_store.old }
+    ensures tells { H.tells hash_store.new ≡ H.tells hash_store.old }
+    ensures size { H.size hash_store.new ≡ H.size hash_store.old }
+    ensures room { H.room hash_store.new ≡ H.room hash_store.old }
+{
+    pending.facts();
+    if pending.keeps_last() {
+        return Ok(());
+    }
+    add_last(hash_store, change, algorithm, block, leaves)
+}
