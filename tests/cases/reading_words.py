@@ -1,6 +1,5 @@
 """Words that are not a command's: help, and what `clap` refuses. Its texts are those of clap 4."""
 from cases.case import UUID, Case
-from verity import Volume
 
 HELP = """Makes, edits, verifies and serves dm-verity volumes
 
@@ -9,6 +8,7 @@ Usage: dalgovuun [COMMAND]
 Commands:
   format  Makes the hash device of a block image, and prints the table line
   dump    Prints the superblock of a hash device
+  edit    Does a script's lines over a volume, and prints an answer to each
   verify  Reports what is wrong in a volume
   serve   Serves a volume over NBD, one connection after the other
   talk    Serves a volume to one NBD client, over standard input and output
@@ -47,11 +47,6 @@ For more information, try '--help'.
 
 
 def cases():
-    zeros = Volume(1, data_size=1024)
-    line = zeros.line(bytes(1024), "scratch-data", "scratch-hash")
-    assert line.endswith(" 5f70bf18a086007016e948b04aed3b82103a36bea41755b6cddfaf10ace3c6ef -")
-    yield Case("no words", [], line + "\n")
-    yield Case("no words, and input", [], line + "\n", input=b"commit\n")
     for words in (["--help"], ["-h"], ["help"]):
         yield Case(f"{words}", words, HELP)
     for words in (["dump", "--help"], ["dump", "-h"], ["help", "dump"]):

@@ -1,6 +1,8 @@
 """`serve`: connections over a loopback socket, one after the other, and what is refused before them."""
+import resource
 import socket
 import subprocess
+import threading
 
 from cases.case import Case
 from cases.talking import BEGIN, BEGUN, DATA, HASHES, VOLUME, bytes_at, read, refusals
@@ -23,24 +25,49 @@ class Served(Case):
         super().__init__(f"serve: {name}", SERVE, "listening\n" + output, status, FILES)
         self.connections = connections
         self.sessions = len(connections) if sessions is None else sessions
+        self.setup = None
 
     def differences(self, tool, folder):
         port = free_port()
         words = ["dalgovuun", *self.words, "--listen", f"127.0.0.1:{port}", "--sessions", str(self.sessions)]
-        with subprocess.Popen(words, executable=tool, cwd=folder, stdout=subprocess.PIPE) as server:
+        with subprocess.Popen(words, executable=tool, cwd=folder, stdout=subprocess.PIPE, preexec_fn=self.setup) as server:
+            watch = threading.Timer(60, server.kill)
+            watch.start()
             try:
                 first = server.stdout.readline()
                 for number, (said, heard) in enumerate(self.connections, 1):
                     seen = talk_to(port, said)
                     if seen != heard:
                         yield f"connection {number} heard {seen!r}, not {heard!r}"
-                output = first + server.communicate(timeout=30)[0]
+                output = first + server.stdout.read()
+                server.wait(timeout=30)
             finally:
+                watch.cancel()
                 server.kill()
         if server.returncode != self.status:
             yield f"the status is {server.returncode}, not {self.status}"
         if not self.prints(output):
             yield f"printed {output!r}, not {self.output!r}"
+
+
+class Crowded(Case):
+    """`serve` at an address that another listener has."""
+
+    def __init__(self):
+        super().__init__("serve: an address in use", SERVE, "refused N6\n", 1, FILES)
+
+    def differences(self, tool, folder):
+        with socket.create_server(("127.0.0.1", 0)) as other:
+            port = other.getsockname()[1]
+            yield from Case(self.name, [*SERVE, "--listen", f"127.0.0.1:{port}"], self.output, 1).differences(tool, folder)
+
+
+class Cramped(Served):
+    """`serve` with no file descriptor left for a connection: standard ones, two files and the listener have them all."""
+
+    def __init__(self):
+        super().__init__("a connection that can't be accepted", [], "refused N6\n", 1, sessions=1)
+        self.setup = lambda: resource.setrlimit(resource.RLIMIT_NOFILE, (6, 6))
 
 
 def talk_to(port, said):
@@ -73,6 +100,8 @@ def before():
     for sessions in ("", "x", "-1", "4294967296", "18446744073709551616"):
         yield Case(f"serve: sessions {sessions!r}", [*SERVE, "--listen", "nowhere", f"--sessions={sessions}"],
                    "error: the value of --sessions is not understood\n", 2, FILES)
+    yield Crowded()
+    yield Cramped()
     yield Case("serve: no address", SERVE, ["error: ", "--listen <listen>"], 2, FILES)
     yield Case("serve: an output that can't be written", [*SERVE, "--listen", "127.0.0.1:0"], "", 1, FILES,
                sink="/dev/full")

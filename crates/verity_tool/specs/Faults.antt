@@ -8,13 +8,15 @@ use Rattle.verity_check.specs.declared.fault.CheckFault.TheVariants as check
 use Rattle.verity_check.specs.Texts.{check_text}
 use Rattle.verity_digest.specs.declared.salt.SaltFault.TheVariants as salt
 use Rattle.verity_digest.specs.Texts.{salt_text}
+use Rattle.verity_edit.specs.declared.fault.EditFault.TheVariants as edit
+use Rattle.verity_edit.specs.Texts.{edit_text}
 use Rattle.verity_store.specs.declared.fault.StoreFault.TheVariants as store
 use Rattle.verity_store.specs.Texts as store_texts
 use Rattle.verity_superblock.specs.declared.faults.SuperFault.TheVariants as super
 use Rattle.verity_superblock.specs.declared.faults.TableFault.TheVariants as table
 use Rattle.verity_superblock.specs.Texts.{super_text, table_text}
 use Rattle.verity_tool.specs.declared.fault.Fault.{Fault}
-use Rattle.verity_tool.specs.declared.fault.Fault.TheVariants.{Store, Salt, Superblock, Table, Build, Check, Session, Socket}
+use Rattle.verity_tool.specs.declared.fault.Fault.TheVariants.{Store, Salt, Superblock, Table, Build, Check, Edit, Session, Socket}
 use Rattle.verity_tool.specs.declared.failure.Failure.{Failure}
 use Rattle.verity_tool.specs.declared.failure.Failure.TheVariants.{Refused, NoMemory}
 
@@ -26,6 +28,7 @@ fault_text (Superblock fault) = super_text fault
 fault_text (Table fault) = table_text fault
 fault_text (Build fault) = build_text fault
 fault_text (Check fault) = check_text fault
+fault_text (Edit fault) = edit_text fault
 fault_text (Session fault) = session_text fault
 fault_text Socket = codes "N6"
 
@@ -37,6 +40,8 @@ is_want (Superblock super.NoMemory) = true
 is_want (Table table.NoMemory) = true
 is_want (Build build.NoMemory) = true
 is_want (Check check.NoMemory) = true
+is_want (Edit edit.NoMemory) = true
+is_want (Edit (edit.Superblock super.NoMemory)) = true
 is_want (Session session.NoMemory) = true
 is_want _ = false
 

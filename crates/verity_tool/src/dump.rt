@@ -1,17 +1,18 @@
 //! The command `dump`: prints the superblock of a hash device.
 
 use crate::failure::{Failure, Word};
+use crate::fault::Fault;
 use crate::lines::print_superblock;
 use crate::values::number;
 use crate::words::DumpWords;
 use std::fs::File;
 use std::io::Write;
 use std::rt::Files;
-use verity_store::{BlockStore, FileStore, StoreFault};
-use verity_superblock::{SuperFault, Superblock};
+use verity_store::{BlockStore, FileStore};
+use verity_superblock::{SuperFault, Superblock, tree_start};
 
 /// The bytes of a superblock, and of the blocks in which a hash device is read before its own block size is known.
-pub const SUPERBLOCK_SIZE: usize = 512;
+const SUPERBLOCK_SIZE: usize = 512;
 
 /// Prints the superblock of HASH, a line for each field, and where the levels of its tree stand.
 pub fn dump<R: Files<File = File> + AllocGlobal, W: Write>(
@@ -20,20 +21,31 @@ pub fn dump<R: Files<File = File> + AllocGlobal, W: Write>(
     output: &mut W,
 ) -> Result<(), Failure> {
     let offset = number(Word::HashOffset, words.hash_offset)?;
-    let mut hash_store = FileStore::open(rt, words.hash_path, SUPERBLOCK_SIZE, false)?;
-    let mut bytes = [0; SUPERBLOCK_SIZE];
-    read_superblock(&mut hash_store, offset, &mut bytes)?;
-    let superblock = Superblock::decode(rt.alloc(), &bytes)?;
-    print_superblock(rt.alloc(), &superblock, offset, output)
+    let (superblock, start) = read_superblock(rt, words.hash_path, offset)?;
+    print_superblock(rt.alloc(), &superblock, start, output)
 }
 
-/// Reads the 512 bytes at a byte offset of a hash device. B10 where the offset is no multiple of 512, B1 where the
-/// device ends before them.
-fn read_superblock<S: BlockStore>(
+/// The superblock that stands at a byte offset of the file at a path, and the hash block at which its tree begins. B10
+/// where the offset is no multiple of 512, or of the superblock's own hash blocks; B1 where the file ends before it.
+pub fn read_superblock<R: Files<File = File> + AllocGlobal>(
+    rt: &R,
+    path: &str,
+    offset: u64,
+) -> Result<(Superblock, u64), Fault> {
+    let mut hash_store = FileStore::open(rt, path, SUPERBLOCK_SIZE, false)?;
+    let mut bytes = [0; SUPERBLOCK_SIZE];
+    read_bytes(&mut hash_store, offset, &mut bytes)?;
+    let superblock = Superblock::decode(rt.alloc(), &bytes)?;
+    let start = tree_start(offset, superblock.hash_block_size())?;
+    Ok((superblock, start))
+}
+
+/// Reads the 512 bytes at a byte offset of a hash device.
+fn read_bytes<S: BlockStore>(
     hash_store: &mut S,
     offset: u64,
     bytes: &mut [u8; SUPERBLOCK_SIZE],
-) -> Result<(), Failure> {
+) -> Result<(), Fault> {
     if offset % SUPERBLOCK_SIZE as u64 != 0 {
         return Err(SuperFault::Offset.into());
     }

@@ -12,6 +12,7 @@ use std::{fmt, io};
 use verity_build::BuildFault;
 use verity_check::CheckFault;
 use verity_digest::SaltFault;
+use verity_edit::EditFault;
 use verity_store::StoreFault;
 use verity_superblock::{SuperFault, TableFault};
 
@@ -134,6 +135,14 @@ impl From<CheckFault> for Failure {
 
     fn from(fault: CheckFault) -> Failure {
         Fault::Check(fault).into()
+    }
+}
+
+impl From<EditFault> for Failure {
+    ghost from_gives = { λ f failure. failure ≡ failure_of (fault.Edit f) };
+
+    fn from(fault: EditFault) -> Failure {
+        Fault::Edit(fault).into()
     }
 }
 

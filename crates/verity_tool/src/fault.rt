@@ -8,6 +8,7 @@ use thiserror::Error;
 use verity_build::BuildFault;
 use verity_check::CheckFault;
 use verity_digest::SaltFault;
+use verity_edit::EditFault;
 use verity_store::StoreFault;
 use verity_superblock::{SuperFault, TableFault};
 
@@ -26,6 +27,8 @@ pub enum Fault {
     Build(BuildFault),
     /// V1 to V5.
     Check(CheckFault),
+    /// E1 to E12.
+    Edit(EditFault),
     /// P1 and P2.
     Session(SessionFault),
     /// N6: an address can't be read, a listener can't be bound, or a connection can't be accepted.
@@ -45,6 +48,8 @@ impl Fault {
                 | Fault::Table(TableFault::NoMemory)
                 | Fault::Build(BuildFault::NoMemory)
                 | Fault::Check(CheckFault::NoMemory)
+                | Fault::Edit(EditFault::NoMemory)
+                | Fault::Edit(EditFault::Superblock(SuperFault::NoMemory))
                 | Fault::Session(SessionFault::NoMemory)
         )
     }
@@ -63,8 +68,29 @@ impl fmt::Display for Fault {
             Fault::Table(fault) => write!(f, "{fault}"),
             Fault::Build(fault) => write!(f, "{fault}"),
             Fault::Check(fault) => write!(f, "{fault}"),
+            Fault::Edit(fault) => write!(f, "{fault}"),
             Fault::Session(fault) => write!(f, "{fault}"),
             Fault::Socket => f.write_str("N6"),
         }
+    }
+}
+
+impl From<StoreFault> for Fault {
+    ghost use Rattle.verity_tool.specs.declared.fault.Fault.TheVariants.{Store};
+
+    ghost from_gives = { λ fault f. f ≡ Store fault };
+
+    fn from(fault: StoreFault) -> Fault {
+        Fault::Store(fault)
+    }
+}
+
+impl From<SuperFault> for Fault {
+    ghost use Rattle.verity_tool.specs.declared.fault.Fault.TheVariants.{Superblock};
+
+    ghost from_gives = { λ fault f. f ≡ Superblock fault };
+
+    fn from(fault: SuperFault) -> Fault {
+        Fault::Superblock(fault)
     }
 }

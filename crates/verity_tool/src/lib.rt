@@ -5,6 +5,7 @@
 #![tactic(auto)]
 
 mod dump;
+mod edit;
 mod failure;
 mod fault;
 mod format;
@@ -12,6 +13,7 @@ mod lines;
 mod opened;
 mod program;
 mod scratch;
+mod script;
 mod serve;
 mod status;
 mod talk;

@@ -6,7 +6,7 @@ use std::alloc::Global;
 use std::io::Write;
 use verity_digest::Digest;
 use verity_geometry::Geometry;
-use verity_superblock::{Superblock, Table, tree_start};
+use verity_superblock::{Superblock, Table};
 
 /// What a table line names but for the root hash.
 #[derive(Clone, Copy)]
@@ -36,14 +36,40 @@ pub fn table_line(alloc: Global, volume: &Volume<'_>, root: Digest) -> Result<St
     Ok(table.text()?)
 }
 
-/// Prints a superblock that stands at a byte offset of the hash device, and where the levels of its tree stand.
+/// Where a volume's devices are, and at which hash block its tree begins.
+#[derive(Clone, Copy)]
+pub struct Devices<'a> {
+    pub data_path: &'a str,
+    pub hash_path: &'a str,
+    pub hash_start_block: u64,
+}
+
+/// The table line of a volume with this superblock and this root hash.
+pub fn committed_line(
+    alloc: Global,
+    devices: Devices<'_>,
+    superblock: &Superblock,
+    root: Digest,
+) -> Result<String, Failure> {
+    let volume = Volume {
+        data_path: devices.data_path,
+        hash_path: devices.hash_path,
+        data_block_size: superblock.data_block_size(),
+        hash_block_size: superblock.hash_block_size(),
+        data_blocks: superblock.data_blocks(),
+        hash_start_block: devices.hash_start_block,
+        salt: superblock.salt().bytes(),
+    };
+    table_line(alloc, &volume, root)
+}
+
+/// Prints a superblock, and where the levels of its tree stand, which begins at a hash block.
 pub fn print_superblock<W: Write>(
     alloc: Global,
     superblock: &Superblock,
-    offset: u64,
+    start: u64,
     output: &mut W,
 ) -> Result<(), Failure> {
-    let start = tree_start(offset, superblock.hash_block_size())?;
     print_fields(alloc, superblock, output)?;
     let geometry = Geometry::with_digest(
         superblock.data_block_size(),

@@ -1,6 +1,7 @@
 //! The whole program.
 
 use crate::dump::dump;
+use crate::edit::edit;
 use crate::failure::{Failure, fail};
 use crate::format::format;
 use crate::scratch::scratch;
@@ -41,9 +42,10 @@ fn answer<
     W: Write,
 >(rt: &R, request: Request<'_>, input: &mut I, output: &mut W) -> Result<u8, Failure> {
     match request {
-        Request::Scratch => scratch(rt.alloc(), output).map(|()| DONE),
+        Request::Scratch => scratch(rt.alloc(), input, output),
         Request::Format(words) => format(rt, &words, output).map(|()| DONE),
         Request::Dump(words) => dump(rt, &words, output).map(|()| DONE),
+        Request::Edit(words) => edit(rt, &words, output),
         Request::Verify(words) => verify(rt, &words, output),
         Request::Serve(words) => serve(rt, &words, output),
         Request::Talk(words) => talk(rt, &words, input, output),

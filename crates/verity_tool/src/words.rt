@@ -1,6 +1,7 @@
 //! The program's words, as `clap` reads them.
 
 mod dump;
+mod edit;
 mod format;
 mod parts;
 mod serve;
@@ -10,6 +11,8 @@ mod verify;
 use clap::{ArgMatches, Command, Error};
 pub use dump::DumpWords;
 use dump::{dump_command, dump_words};
+pub use edit::EditWords;
+use edit::{edit_command, edit_words};
 pub use format::FormatWords;
 use format::{format_command, format_words};
 pub use serve::ServeWords;
@@ -27,6 +30,7 @@ pub enum Request<'a> {
     Scratch,
     Format(FormatWords<'a>),
     Dump(DumpWords<'a>),
+    Edit(EditWords<'a>),
     Verify(VerifyWords<'a>),
     Serve(ServeWords<'a>),
     Talk(TalkWords<'a>),
@@ -37,6 +41,7 @@ fn tool<'a>(alloc: Global) -> Result<Command<'a>, AllocError> {
         .about("Makes, edits, verifies and serves dm-verity volumes")
         .subcommand(format_command(alloc)?)?
         .subcommand(dump_command(alloc)?)?
+        .subcommand(edit_command(alloc)?)?
         .subcommand(verify_command(alloc)?)?
         .subcommand(serve_command(alloc)?)?
         .subcommand(talk_command(alloc)?)
@@ -47,6 +52,7 @@ fn asked<'a>(matches: &ArgMatches<'a>) -> Option<Request<'a>> {
         None => Some(Request::Scratch),
         Some(("format", below)) => Some(Request::Format(format_words(below)?)),
         Some(("dump", below)) => Some(Request::Dump(dump_words(below)?)),
+        Some(("edit", below)) => Some(Request::Edit(edit_words(below)?)),
         Some(("verify", below)) => Some(Request::Verify(verify_words(below)?)),
         Some(("serve", below)) => Some(Request::Serve(serve_words(below)?)),
         Some(("talk", below)) => Some(Request::Talk(talk_words(below)?)),

@@ -1,0 +1,151 @@
+//! A script over a volume: read whole, then done line by line.
+
+use crate::failure::Failure;
+use crate::lines::{Devices, committed_line};
+use crate::status::{DONE, REFUSED};
+use std::alloc::Global;
+use std::io::{ErrorKind, Read, Write};
+use std::{io, str};
+use verity_edit::{EditFault, Editor, Reply};
+use verity_script::{Line, read_line};
+use verity_store::{BlockStore, StoreFault};
+
+/// The most bytes of a script.
+const MOST_BYTES: u64 = 1 << 30;
+
+/// The bytes of a script. S1 where it can't be read, or is longer than 2^30 bytes.
+pub fn read_script<I: Read>(alloc: Global, input: &mut I) -> Result<Vec<u8>, Failure> {
+    let mut script = Vec::new(alloc);
+    match input.take(MOST_BYTES + 1).read_to_end(&mut script) {
+        Ok(_) => {}
+        Err(error) => return Err(unread(error)),
+    }
+    if script.len() as u64 > MOST_BYTES {
+        return Err(StoreFault::Device.into());
+    }
+    Ok(script)
+}
+
+/// S1; or want of memory, where that is what it was.
+fn unread(error: io::Error) -> Failure {
+    if error.kind() == ErrorKind::OutOfMemory {
+        Failure::NoMemory
+    } else {
+        StoreFault::Device.into()
+    }
+}
+
+/// Does the lines of a script in order and prints one answer line each, but for empty lines: `ok`, `committed ` and the
+/// new table line, `refused ` and the fault's text, or `bad line`. It goes on after a refusal, and answers status 1 if
+/// there was one. Edits that are pending at the end are dropped with the editor.
+pub fn run_script<D: BlockStore, H: BlockStore, W: Write>(
+    alloc: Global,
+    editor: &mut Editor<D, H>,
+    devices: Devices<'_>,
+    script: &[u8],
+    output: &mut W,
+) -> Result<u8, Failure> {
+    let mut status = DONE;
+    for text in script.split(|byte| *byte == b'\n') {
+        if !text.is_empty() && !run_line(alloc, editor, devices, text, output)? {
+            status = REFUSED;
+        }
+    }
+    Ok(status)
+}
+
+/// Does a line, prints its answer, and tells whether it was done.
+fn run_line<D: BlockStore, H: BlockStore, W: Write>(
+    alloc: Global,
+    editor: &mut Editor<D, H>,
+    devices: Devices<'_>,
+    text: &[u8],
+    output: &mut W,
+) -> Result<bool, Failure> {
+    let Some(line) = line_of(text) else {
+        writeln!(output, "bad line")?;
+        return Ok(false);
+    };
+    match answer(alloc, editor, line)? {
+        Reply::Done => {
+            writeln!(output, "ok")?;
+            Ok(true)
+        }
+        Reply::Committed(committed) => {
+            let line = committed_line(alloc, devices, editor.superblock(), committed.root)?;
+            writeln!(output, "committed {line}")?;
+            Ok(true)
+        }
+        Reply::Refused(fault) => {
+            writeln!(output, "refused {fault}")?;
+            Ok(false)
+        }
+    }
+}
+
+/// What a line asks for. A line that is no text asks for nothing.
+fn line_of(text: &[u8]) -> Option<Line<'_>> {
+    match str::from_utf8(text) {
+        Ok(text) => read_line(text),
+        Err(_) => None,
+    }
+}
+
+/// The editor's answer to a line. Want of memory is a failure of the whole program.
+fn answer<D: BlockStore, H: BlockStore>(
+    alloc: Global,
+    editor: &mut Editor<D, H>,
+    line: Line<'_>,
+) -> Result<Reply, Failure> {
+    let edited = match line {
+        Line::Write(n, digits) => write(alloc, editor, n, digits)?,
+        Line::Fill(n, byte) => fill(alloc, editor, n, byte)?,
+        Line::Grow(blocks) => editor.grow(blocks),
+        Line::Shrink(blocks) => editor.shrink(blocks),
+        Line::Discard => editor.discard(),
+        Line::Commit => match editor.commit() {
+            Ok(committed) => return Ok(Reply::Committed(committed)),
+            Err(fault) => Err(fault),
+        },
+    };
+    match edited {
+        Ok(()) => Ok(Reply::Done),
+        Err(EditFault::NoMemory) => Err(Failure::NoMemory),
+        Err(fault) => Ok(Reply::Refused(fault)),
+    }
+}
+
+/// Whether the editor looks at the bytes of a block that is written here. What it refuses by place or length takes no
+/// memory.
+fn is_welcome<D: BlockStore, H: BlockStore>(editor: &Editor<D, H>, n: u64, size: usize) -> bool {
+    n < editor.blocks() && size == editor.superblock().data_block_size()
+}
+
+fn write<D: BlockStore, H: BlockStore>(
+    alloc: Global,
+    editor: &mut Editor<D, H>,
+    n: u64,
+    digits: &str,
+) -> Result<Result<(), EditFault>, Failure> {
+    if !is_welcome(editor, n, digits.len() / 2) {
+        return Ok(editor.write(n, &[]));
+    }
+    match hex::decode(alloc, digits) {
+        Ok(block) => Ok(editor.write(n, &block)),
+        Err(_) => Err(Failure::NoMemory),
+    }
+}
+
+fn fill<D: BlockStore, H: BlockStore>(
+    alloc: Global,
+    editor: &mut Editor<D, H>,
+    n: u64,
+    byte: u8,
+) -> Result<Result<(), EditFault>, Failure> {
+    let size = editor.superblock().data_block_size();
+    if !is_welcome(editor, n, size) {
+        return Ok(editor.write(n, &[]));
+    }
+    let block = vec![in alloc; byte; size]?;
+    Ok(editor.write(n, &block))
+}

@@ -1,0 +1,32 @@
+//! The words of `edit`.
+
+use super::parts::{hash_offset, path};
+use clap::{ArgMatches, Command};
+use std::alloc::{AllocError, Global};
+
+/// The words of `edit`.
+#[derive(Clone, Copy, Debug)]
+pub struct EditWords<'a> {
+    pub data_path: &'a str,
+    pub hash_path: &'a str,
+    pub script_path: &'a str,
+    pub hash_offset: &'a str,
+}
+
+pub fn edit_command<'a>(alloc: Global) -> Result<Command<'a>, AllocError> {
+    Command::new(alloc, "edit")
+        .about("Does a script's lines over a volume, and prints an answer to each")
+        .arg(path(alloc, "DATA", "The block image"))?
+        .arg(path(alloc, "HASH", "The hash device"))?
+        .arg(path(alloc, "SCRIPT", "The script"))?
+        .arg(hash_offset(alloc))
+}
+
+pub fn edit_words<'a>(matches: &ArgMatches<'a>) -> Option<EditWords<'a>> {
+    Some(EditWords {
+        data_path: matches.get_str("DATA")?,
+        hash_path: matches.get_str("HASH")?,
+        script_path: matches.get_str("SCRIPT")?,
+        hash_offset: matches.get_str("hash-offset")?,
+    })
+}
