@@ -1,18 +1,18 @@
 -- Steps of a report.
-use Rattle.std.proofs.Common.{suc, zero, arith, ℕ, ◌+◌, ◌-◌, ◌/◌, ◌%◌, ◌<◌, ◌≤◌, ◌≡◌, ◌^◌, ◌⊎◌, Bool, true, false, ◌==◌, List, [], ◌∷◌, ◌++◌, length, get_or, Option, Some, None, inl, inr, refl, sym, ap, ◌∙◌, subst, append_assoc, add_assoc}
+use Rattle.std.proofs.Common.{suc, zero, arith, ℕ, ◌+◌, ◌-◌, ◌/◌, ◌%◌, ◌<◌, ◌≤◌, ◌≡◌, ◌^◌, Bool, true, false, ◌==◌, List, [], ◌∷◌, ◌++◌, length, get_or, Option, Some, None, inl, inr, refl, sym, ap, ◌∙◌, subst, append_assoc, add_assoc}
 use Rattle.std.specs.Prelude.{◌&&◌, ◌||◌, Vec}
 use Rattle.std.specs.Str.{bytes_eq}
-use Rattle.std.proofs.lemmas.Bool.{false≢true, cases_lt}
+use Rattle.std.proofs.lemmas.Bool.{cases_lt}
 use Rattle.std.proofs.lemmas.Bool.Decides.{Decides-eqb, Decides-and}
 use Rattle.std.proofs.lemmas.List.{length-append, get_or_append_left, get_or-append-add}
 use Rattle.verity_profile.proofs.Bounds.{block_size_low, block_count_high}
 use Rattle.verity_digest.specs.Tree.{slot}
-use Rattle.verity_digest.specs.Shape.{blocks_of_levels, level_start}
+use Rattle.verity_digest.specs.Shape.{blocks_of_levels}
 use Rattle.verity_digest.proofs.Sha.{per_block_by}
 use Rattle.verity_digest.proofs.Counts.{blocks_of_levels-none, top_start, last_end, next_start, level_within, total_most}
 use Rattle.verity_check.specs.Table.{Table, IsTable, hashing_of, branching, height, row_len, tree_len}
 use Rattle.verity_check.specs.Finding.{Held, Spot, is_among, judge, below, alone, found, finding}
-use Rattle.verity_check.specs.Report.{entries_from, unchecked_from, listed, unchecked_count, IsReportOf, place_of, entry, unchecked_one, row_entries, row_unchecked, judged}
+use Rattle.verity_check.specs.Report.{entries_from, unchecked_from, IsReportOf, place_of, entry, unchecked_one, row_entries, row_unchecked, judged}
 use Rattle.verity_check.specs.Reporting.{AreLater, AreEarlier, IsWhole, AreWhole, IsNamed, IsKeptOf, IsKept, AreKept, ParentsAreKept, AreNoted, AreDone, IsUpTo, IsSoFar, places_above, named_in}
 use Rattle.verity_check.specs.declared.fault.Place.{Place}
 use Rattle.verity_check.specs.declared.finding.Verdict.{Verdict}

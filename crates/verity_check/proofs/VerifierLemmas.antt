@@ -1,13 +1,11 @@
 -- What a verifier's reads leave, and what their answers say.
-use Rattle.std.proofs.Common.{suc, zero, arith, ℕ, ◌+◌, ◌<◌, ◌≤◌, ◌≡◌, ◌≢◌, ◌++◌, List, [], length, inl, inr, sym, refl, ap, ◌∙◌, subst, true, Result, Ok, Err, OnOk, IfErr}
-use Rattle.verity_profile.proofs.Bounds.{block_size_some}
-use Rattle.verity_store.specs.Stores.{IsOnlyRead}
+use Rattle.std.proofs.Common.{suc, zero, arith, ℕ, ◌+◌, ◌<◌, ◌≤◌, ◌≡◌, ◌≢◌, List, [], length, inl, inr, sym, refl, ap, ◌∙◌, subst, Result, Ok, Err, OnOk, IfErr}
 use Rattle.verity_store.specs.declared.store.BlockStore as store
 use Rattle.verity_store.specs.declared.fault.Which.TheVariants as stores
 use Rattle.verity_check.specs.declared.fault.Place.TheVariants as places
 use Rattle.verity_check.specs.declared.fault.CheckFault.{CheckFault}
 use Rattle.verity_check.specs.declared.fault.CheckFault.TheVariants as faults
-use Rattle.verity_check.specs.Table.{Table, IsTable, tree_len, path_index}
+use Rattle.verity_check.specs.Table.{Table, IsTable, tree_len}
 use Rattle.verity_check.specs.Chain.{AreSized, EndsChain, WrongAt}
 use Rattle.verity_check.specs.declared.finding.Finding.TheVariants.{Good}
 use Rattle.verity_check.specs.Finding.{Tells, finding}
@@ -16,7 +14,7 @@ use Rattle.verity_check.specs.Refusal.{Explains, Refuses, RefusesAfter, IsBadOn,
 use Rattle.verity_check.specs.Stores.{given_in, held_in, BothTell}
 use Rattle.verity_check.specs.Verifier.{Verifying, given_to, held_for, StoresTell, IsOnlyReading, DataFailed, HashFailed, MayRefuse, IsVerifier}
 use Rattle.verity_check.proofs.FindingLaws.{chain_is_good, path_good}
-use Rattle.verity_check.proofs.RangeLaw.{wrong_place_bad, refused_first, served_range_good, refuses}
+use Rattle.verity_check.proofs.RangeLaw.{wrong_place_bad, refused_first, served_range_good}
 
 pub err_weaker : {T E : Type 0} (r : Result T E) (P Q : E → Type 0) → ((e : E) → P e → Q e) → IfErr r P → IfErr r Q
 err_weaker (Ok x) P Q f h = tt

@@ -1,14 +1,11 @@
-use Rattle.std.proofs.Common.{ℕ, ◌<◌, ◌≡◌, ◌++◌, List, refl, sym, ap, ◌∙◌, subst, IfErr}
-use Rattle.verity_profile.proofs.Bounds.{block_size_some}
+use Rattle.std.proofs.Common.{refl, sym, ap, ◌∙◌, subst, IfErr}
 use Rattle.verity_check.specs.Table.{Table}
 use Rattle.verity_check.specs.Chain.{EndsChain}
-use Rattle.verity_check.specs.Range.{ServesBytes}
-use Rattle.verity_check.specs.Refusal.{Explains, Refuses, RefusesAfter}
+use Rattle.verity_check.specs.Refusal.{Explains}
 use Rattle.verity_check.specs.Stores.{hash_given, given_in}
 use Rattle.verity_check.specs.Cache.{IsChained}
-use Rattle.verity_check.specs.Verifier.{Verifying, given_to, DataFailed, HashFailed, IsOnlyReading, IsVerifier}
-use Rattle.verity_check.proofs.RangeLaw.{refuses}
-use Rattle.verity_check.proofs.VerifierLemmas.{err_weaker, ok_weaker, verifier_after, sized, block_good, block_bad, range_good, range_bad, may_refuse}
+use Rattle.verity_check.specs.Verifier.{Verifying, given_to, DataFailed, HashFailed, IsOnlyReading}
+use Rattle.verity_check.proofs.VerifierLemmas.{err_weaker, ok_weaker, verifier_after, block_good, block_bad}
 use Rattle.verity_check.proofs.verifier.Verifier.read_block.Goals as goal
 
 pub invariant_of-self : goal.invariant_of-self
