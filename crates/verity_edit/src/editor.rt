@@ -26,15 +26,15 @@ use verity_superblock::Superblock;
 /// past its first change the editor is broken: every call but the getters and `close` answers E7.
 #[derive(Drop)]
 pub struct Editor<D: BlockStore, H: BlockStore, A: Allocator + Copy = Global> {
-    pub(crate) alloc: A,
-    pub(crate) data_store: D,
-    pub(crate) hash_store: H,
-    pub(crate) superblock: Superblock<A>,
-    pub(crate) hasher: Hasher<A>,
-    pub(crate) first: u64,
-    pub(crate) root: Digest,
-    pub(crate) pending: Pending<A>,
-    pub(crate) broken: bool,
+    alloc: A,
+    data_store: D,
+    hash_store: H,
+    superblock: Superblock<A>,
+    hasher: Hasher<A>,
+    first: u64,
+    root: Digest,
+    pending: Pending<A>,
+    broken: bool,
 }
 
 impl<D: BlockStore, H: BlockStore, A: Allocator + Copy> Model for Editor<D, H, A> {
@@ -209,7 +209,7 @@ impl<D: BlockStore, H: BlockStore, A: Allocator + Copy> Editor<D, H, A> {
         ensures still_broken { self.old.broken ≡ true → self.new ≡ self.old }
         ensures memory { result ≡ Err EditFault.NoMemory → self.new.broken ≡ false }
         ensures unchanged { OnErr result (self.new.broken ≡ self.old.broken → IsUnchanged D.BlockStore H.BlockStore self.old self.new) }
-        ensures hash_reads { self.old.broken ≡ false → self.old.draft.working ≡ self.old.draft.committed
+        ensures hash_reads { self.old.draft.working ≡ self.old.draft.committed
             → H.reads self.new.hash_store ≤ H.reads self.old.hash_store + touched_count (width_in self.old) (edits_in D.BlockStore self.old) }
         ensures stays { Stays D.BlockStore H.BlockStore self.old self.new }
     {
