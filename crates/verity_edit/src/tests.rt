@@ -124,15 +124,51 @@ fn check_change(rt: &impl Abort, alloc: Global, row: Change) -> Result<(), Fail>
 #[test]
 fn counts_that_change(rt: HostRuntime) -> Result<(), Fail> {
     let rows = [
-        Change { old: 256, new: 257, most: 4 },
-        Change { old: 257, new: 256, most: 2 },
-        Change { old: 1, new: 257, most: 276 },
-        Change { old: 257, new: 17, most: 2 },
-        Change { old: 17, new: 1, most: 0 },
-        Change { old: 16, new: 17, most: 3 },
-        Change { old: 17, new: 16, most: 1 },
-        Change { old: 1, new: 2, most: 2 },
-        Change { old: 4097, new: 256, most: 2 },
+        Change {
+            old: 256,
+            new: 257,
+            most: 4,
+        },
+        Change {
+            old: 257,
+            new: 256,
+            most: 2,
+        },
+        Change {
+            old: 1,
+            new: 257,
+            most: 276,
+        },
+        Change {
+            old: 257,
+            new: 17,
+            most: 2,
+        },
+        Change {
+            old: 17,
+            new: 1,
+            most: 0,
+        },
+        Change {
+            old: 16,
+            new: 17,
+            most: 3,
+        },
+        Change {
+            old: 17,
+            new: 16,
+            most: 1,
+        },
+        Change {
+            old: 1,
+            new: 2,
+            most: 2,
+        },
+        Change {
+            old: 4097,
+            new: 256,
+            most: 2,
+        },
     ];
     for row in rows {
         check_change(&rt, rt.alloc(), row)?;
@@ -140,42 +176,79 @@ fn counts_that_change(rt: HostRuntime) -> Result<(), Fail> {
     Ok(())
 }
 
-// A script over a volume of 17 blocks, and its replies.
-fn check_script(
+// A command, whose written block is filled with one byte.
+#[derive(Clone, Copy)]
+enum Step {
+    Write(u64, u8),
+    WriteShort(u64),
+    Grow(u64),
+    Shrink(u64),
+    Discard,
+    Commit,
+}
+
+fn command_of(alloc: Global, step: Step) -> Result<Command, Fail> {
+    match step {
+        Step::Write(n, byte) => Ok(Command::Write(n, filled(alloc, byte)?)),
+        Step::WriteShort(n) => Ok(Command::Write(
+            n,
+            Block::new(Vec::from_elem(alloc, 1, SIZE - 1)?),
+        )),
+        Step::Grow(count) => Ok(Command::Grow(count)),
+        Step::Shrink(count) => Ok(Command::Shrink(count)),
+        Step::Discard => Ok(Command::Discard),
+        Step::Commit => Ok(Command::Commit),
+    }
+}
+
+fn commands_of(alloc: Global, steps: &[Step]) -> Result<Vec<Command>, Fail> {
+    let mut commands = Vec::new(alloc);
+    for step in steps {
+        commands.push(command_of(alloc, *step)?)?;
+    }
+    Ok(commands)
+}
+
+fn fault_of(reply: &Reply) -> Option<EditFault> {
+    match reply {
+        Reply::Refused(fault) => Some(*fault),
+        _ => None,
+    }
+}
+
+// The faults of the replies to a script, over a volume of so many blocks, which is then compared with one from scratch.
+fn run_script(
     rt: &impl Abort,
     alloc: Global,
     count: u64,
-    commands: &[Command],
-    wanted: &[Option<EditFault>],
-) -> Result<(), Fail> {
+    steps: &[Step],
+) -> Result<Vec<Option<EditFault>>, Fail> {
     let mut editor = opened(alloc, make_volume(alloc, count)?)?;
-    let mut replies = Vec::new(alloc);
-    editor.run(commands, &mut replies)?;
-    assert_eq!(rt; replies.len(), wanted.len());
-    for (reply, fault) in replies.iter().zip(wanted) {
-        match reply {
-            Reply::Refused(own) => assert_eq!(rt; Some(*own), *fault),
-            _ => assert_eq!(rt; None, *fault),
-        }
+    let commands = commands_of(alloc, steps)?;
+    let mut replies: Vec<Reply> = Vec::new(alloc);
+    editor.run(&commands, &mut replies)?;
+    let mut faults = Vec::new(alloc);
+    for reply in &replies {
+        faults.push(fault_of(reply))?;
     }
     assert!(rt; !editor.broken());
     let root = editor.root();
-    is_from_scratch(rt, alloc, editor, root)
+    is_from_scratch(rt, alloc, editor, root)?;
+    Ok(faults)
 }
 
 #[test]
 fn rules_of_the_edits(rt: HostRuntime) -> Result<(), Fail> {
-    let alloc = rt.alloc();
-    let commands = [
-        Command::Shrink(0),
-        Command::Shrink(17),
-        Command::Grow(17),
-        Command::Grow((1 << 40) + 1),
-        Command::Write(17, filled(alloc, 1)?),
-        Command::Write(16, Block::new(Vec::from_elem(alloc, 1, 511)?)),
-        Command::Write(16, filled(alloc, 1)?),
-        Command::Commit,
-        Command::Commit,
+    let steps = [
+        Step::Shrink(0),
+        Step::Shrink(17),
+        Step::Grow(17),
+        Step::Grow((1 << 40) + 1),
+        Step::Write(17, 1),
+        Step::WriteShort(16),
+        Step::Write(16, 1),
+        Step::Commit,
+        Step::Commit,
     ];
     let wanted = [
         Some(EditFault::TooSmall),
@@ -188,7 +261,9 @@ fn rules_of_the_edits(rt: HostRuntime) -> Result<(), Fail> {
         None,
         None,
     ];
-    check_script(&rt, alloc, 17, &commands, &wanted)
+    let faults = run_script(&rt, rt.alloc(), 17, &steps)?;
+    assert_eq!(rt; faults.as_slice(), wanted.as_slice());
+    Ok(())
 }
 
 #[test]
@@ -196,7 +271,10 @@ fn shrink_then_grow_leaves_zeros(rt: HostRuntime) -> Result<(), Fail> {
     let alloc = rt.alloc();
     let data_store = MemStore::new(Vec::from_elem(alloc, 0xaa, 3 * SIZE)?, SIZE)?;
     let front = MemStore::zeroed(alloc, SIZE, 0)?;
-    let mut editor = opened(alloc, built(alloc, data_store, front, Algorithm::Sha256, 0)?)?;
+    let mut editor = opened(
+        alloc,
+        built(alloc, data_store, front, Algorithm::Sha256, 0)?,
+    )?;
     editor.shrink(1)?;
     editor.grow(3)?;
     let committed = editor.commit()?;
@@ -208,35 +286,38 @@ fn shrink_then_grow_leaves_zeros(rt: HostRuntime) -> Result<(), Fail> {
     Ok(())
 }
 
+const SCRIPT: [Step; 22] = [
+    Step::Write(0, 1),
+    Step::Write(16, 2),
+    Step::Write(0, 3),
+    Step::Commit,
+    Step::Grow(300),
+    Step::Write(299, 4),
+    Step::Commit,
+    Step::Shrink(20),
+    Step::Grow(40),
+    Step::Write(30, 5),
+    Step::Shrink(33),
+    Step::Commit,
+    Step::Write(2, 6),
+    Step::Discard,
+    Step::Commit,
+    Step::Shrink(1),
+    Step::Commit,
+    Step::Grow(18),
+    Step::Commit,
+    Step::Shrink(17),
+    Step::Write(16, 7),
+    Step::Commit,
+];
+
 #[test]
 fn scripts_of_many_kinds(rt: HostRuntime) -> Result<(), Fail> {
-    let alloc = rt.alloc();
-    let commands = [
-        Command::Write(0, filled(alloc, 1)?),
-        Command::Write(16, filled(alloc, 2)?),
-        Command::Write(0, filled(alloc, 3)?),
-        Command::Commit,
-        Command::Grow(300),
-        Command::Write(299, filled(alloc, 4)?),
-        Command::Commit,
-        Command::Shrink(20),
-        Command::Grow(40),
-        Command::Write(30, filled(alloc, 5)?),
-        Command::Shrink(33),
-        Command::Commit,
-        Command::Write(2, filled(alloc, 6)?),
-        Command::Discard,
-        Command::Commit,
-        Command::Shrink(1),
-        Command::Commit,
-        Command::Grow(18),
-        Command::Commit,
-        Command::Shrink(17),
-        Command::Write(16, filled(alloc, 7)?),
-        Command::Commit,
-    ];
-    check_script(&rt, alloc, 17, &commands, &[None; 22])?;
-    check_script(&rt, alloc, 257, &commands, &[None; 22])
+    for count in [17, 257] {
+        let faults = run_script(&rt, rt.alloc(), count, &SCRIPT)?;
+        assert_eq!(rt; faults.as_slice(), [None; 22].as_slice());
+    }
+    Ok(())
 }
 
 // One block more, over a data store that fails every read after `open`.
@@ -331,42 +412,91 @@ fn check_spoiled(rt: &impl Abort, alloc: Global, row: Spoiled) -> Result<(), Fai
 fn volumes_that_are_refused(rt: HostRuntime) -> Result<(), Fail> {
     let alloc = rt.alloc();
     let rows = [
-        Spoiled { at: 0, fault: Some(EditFault::Superblock(SuperFault::Signature)) },
-        Spoiled { at: 12, fault: Some(EditFault::Superblock(SuperFault::HashType)) },
-        Spoiled { at: 65, fault: Some(EditFault::Superblock(SuperFault::BadSize)) },
-        Spoiled { at: 72, fault: Some(EditFault::DataLength) },
-        Spoiled { at: 84, fault: None },
-        Spoiled { at: 400, fault: None },
-        Spoiled { at: 512, fault: Some(EditFault::Mismatch { level: 1, index: 0 }) },
-        Spoiled { at: 1024, fault: Some(EditFault::Mismatch { level: 0, index: 0 }) },
-        Spoiled { at: 2047, fault: Some(EditFault::Mismatch { level: 0, index: 1 }) },
+        Spoiled {
+            at: 0,
+            fault: Some(EditFault::Superblock(SuperFault::Signature)),
+        },
+        Spoiled {
+            at: 12,
+            fault: Some(EditFault::Superblock(SuperFault::HashType)),
+        },
+        Spoiled {
+            at: 65,
+            fault: Some(EditFault::Superblock(SuperFault::BadSize)),
+        },
+        Spoiled {
+            at: 72,
+            fault: Some(EditFault::DataLength),
+        },
+        Spoiled {
+            at: 84,
+            fault: None,
+        },
+        Spoiled {
+            at: 400,
+            fault: None,
+        },
+        Spoiled {
+            at: 512,
+            fault: Some(EditFault::Mismatch { level: 1, index: 0 }),
+        },
+        Spoiled {
+            at: 1024,
+            fault: Some(EditFault::Mismatch { level: 0, index: 0 }),
+        },
+        Spoiled {
+            at: 2047,
+            fault: Some(EditFault::Mismatch { level: 0, index: 1 }),
+        },
     ];
     for row in rows {
         check_spoiled(&rt, alloc, row)?;
     }
-    let empty = Vec::new(alloc);
-    let short = Some(EditFault::Superblock(SuperFault::Short));
-    assert_eq!(rt; open_with(alloc, numbered(alloc, 17)?, empty, 0)?, short);
-    let bytes = make_volume(alloc, 17)?.hash_store.bytes().to_vec(alloc)?;
-    assert_eq!(rt; open_with(alloc, numbered(alloc, 17)?, bytes, 511)?, Some(EditFault::Offset));
     Ok(())
 }
 
 #[test]
-fn stores_of_other_sizes_are_refused(rt: HostRuntime) -> Result<(), Fail> {
+fn an_empty_hash_store_is_refused(rt: HostRuntime) -> Result<(), Fail> {
+    let alloc = rt.alloc();
+    let fault = open_with(alloc, numbered(alloc, 17)?, Vec::new(alloc), 0)?;
+    assert_eq!(rt; fault, Some(EditFault::Superblock(SuperFault::Short)));
+    Ok(())
+}
+
+#[test]
+fn an_offset_inside_a_block_is_refused(rt: HostRuntime) -> Result<(), Fail> {
+    let alloc = rt.alloc();
+    let volume = make_volume(alloc, 17)?;
+    let bytes = volume.hash_store.bytes().to_vec(alloc)?;
+    let fault = open_with(alloc, volume.data_store, bytes, 511)?;
+    assert_eq!(rt; fault, Some(EditFault::Offset));
+    Ok(())
+}
+
+fn open_fault(alloc: Global, data_store: MemStore, hash_store: MemStore) -> Option<EditFault> {
+    match Editor::open(alloc, data_store, hash_store) {
+        Ok(_editor) => None,
+        Err(refused) => Some(refused.fault),
+    }
+}
+
+#[test]
+fn a_data_store_of_another_size_is_refused(rt: HostRuntime) -> Result<(), Fail> {
     let alloc = rt.alloc();
     let volume = make_volume(alloc, 16)?;
     let wide = MemStore::new(volume.data_store.bytes().to_vec(alloc)?, 1024)?;
-    match Editor::open(alloc, wide, volume.hash_store) {
-        Ok(_editor) => assert!(rt; false),
-        Err(refused) => assert_eq!(rt; refused.fault, EditFault::StoreSize(Which::Data)),
-    }
+    let fault = open_fault(alloc, wide, volume.hash_store);
+    assert_eq!(rt; fault, Some(EditFault::StoreSize(Which::Data)));
+    Ok(())
+}
+
+#[test]
+fn a_hash_store_of_another_size_is_refused(rt: HostRuntime) -> Result<(), Fail> {
+    let alloc = rt.alloc();
     let volume = make_volume(alloc, 16)?;
     let wide = MemStore::new(volume.hash_store.bytes().to_vec(alloc)?, 1024)?;
-    match Editor::open(alloc, volume.data_store, wide) {
-        Ok(_editor) => assert!(rt; false),
-        Err(refused) => assert_eq!(rt; refused.fault, EditFault::StoreSize(Which::Hash)),
-    }
+    let fault = open_fault(alloc, volume.data_store, wide);
+    assert_eq!(rt; fault, Some(EditFault::StoreSize(Which::Hash)));
     Ok(())
 }
 
@@ -411,7 +541,11 @@ struct Outcome {
     contents: Contents,
 }
 
-fn contents_of(alloc: Global, data_store: &Failing, hash_store: &Failing) -> Result<Contents, Fail> {
+fn contents_of(
+    alloc: Global,
+    data_store: &Failing,
+    hash_store: &Failing,
+) -> Result<Contents, Fail> {
     Ok(Contents {
         data_bytes: data_store.store().bytes().to_vec(alloc)?,
         hash_bytes: hash_store.store().bytes().to_vec(alloc)?,
@@ -419,7 +553,11 @@ fn contents_of(alloc: Global, data_store: &Failing, hash_store: &Failing) -> Res
 }
 
 // A refused editor answers E7 to every call.
-fn is_broken(rt: &impl Abort, alloc: Global, editor: &mut Editor<Failing, Failing>) -> Result<(), Fail> {
+fn is_broken(
+    rt: &impl Abort,
+    alloc: Global,
+    editor: &mut Editor<Failing, Failing>,
+) -> Result<(), Fail> {
     let broken = Some(EditFault::Broken);
     assert_eq!(rt; editor.write(0, filled(alloc, 1)?.as_slice()).err(), broken);
     assert_eq!(rt; editor.grow(99).err(), broken);
@@ -454,7 +592,12 @@ fn commit_once(
 }
 
 // The call of number `data_call` at the data store fails, and that of number `hash_call` at the hash store.
-fn outcome_of(rt: &impl Abort, alloc: Global, data_call: u64, hash_call: u64) -> Result<Outcome, Fail> {
+fn outcome_of(
+    rt: &impl Abort,
+    alloc: Global,
+    data_call: u64,
+    hash_call: u64,
+) -> Result<Outcome, Fail> {
     let volume = make_volume(alloc, 16)?;
     let data_store = FailStore::at(volume.data_store, data_call);
     let hash_store = FailStore::at(volume.hash_store, hash_call);
@@ -472,7 +615,12 @@ fn outcome_of(rt: &impl Abort, alloc: Global, data_call: u64, hash_call: u64) ->
 // What stands after a broken commit is opened where tree and data agree, and can be built again in any case.
 fn is_rebuilt(rt: &impl Abort, alloc: Global, contents: &Contents) -> Result<(), Fail> {
     let data_store = MemStore::new(contents.data_bytes.as_slice().to_vec(alloc)?, SIZE)?;
-    let fault = open_with(alloc, data_store, contents.hash_bytes.as_slice().to_vec(alloc)?, 0)?;
+    let fault = open_with(
+        alloc,
+        data_store,
+        contents.hash_bytes.as_slice().to_vec(alloc)?,
+        0,
+    )?;
     match fault {
         None | Some(EditFault::Mismatch { .. }) => {}
         Some(fault) => assert!(rt;
