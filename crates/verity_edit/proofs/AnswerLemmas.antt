@@ -240,12 +240,16 @@ answered_commit_refused stored hashes command old new NoMemory is why still memo
     record {
       leads = λ told hash_told state is_in.
           let led = before.leads told hash_told state is_in in
-          record { state = state; answers = at_false state.broken ((Refused NoMemory ≡ Refused Broken) × (state ≡ state))
-              (MatchOption (rule old.draft.size (length state.edits.working) command) (Passes (hashing_in old) old.draft.size command (Refused NoMemory) state state) (λ fault. (Refused NoMemory ≡ Refused fault) × (state ≡ state)))
-              (is_in.broken ∙ why)
-              (at_none (rule old.draft.size (length state.edits.working) command) (Passes (hashing_in old) old.draft.size command (Refused NoMemory) state state) (λ fault. (Refused NoMemory ≡ Refused fault) × (state ≡ state))
-              (ap (rule old.draft.size (length state.edits.working)) is)
-              (inr (inl (takes_commit command is, refl, refl)))); is_in = is_in_unchanged stored hashes old new state same is_in };
+          record {
+            state = state;
+            answers = at_false state.broken ((Refused NoMemory ≡ Refused Broken) × (state ≡ state))
+                (MatchOption (rule old.draft.size (length state.edits.working) command) (Passes (hashing_in old) old.draft.size command (Refused NoMemory) state state) (λ fault. (Refused NoMemory ≡ Refused fault) × (state ≡ state)))
+                (is_in.broken ∙ why)
+                (at_none (rule old.draft.size (length state.edits.working) command) (Passes (hashing_in old) old.draft.size command (Refused NoMemory) state state) (λ fault. (Refused NoMemory ≡ Refused fault) × (state ≡ state))
+                (ap (rule old.draft.size (length state.edits.working)) is)
+                (inr (inl (takes_commit command is, refl, refl))));
+            is_in = is_in_unchanged stored hashes old new state same is_in;
+          };
       whole = λ told hash_told free whole. ⊎_elim (λ no. absurd (false≢true no)) (λ w. whole_unchanged stored hashes old new same w) whole;
       unfailed = λ _ _ _. (memory refl, tt);
       stays = stays;

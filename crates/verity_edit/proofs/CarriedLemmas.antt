@@ -66,10 +66,12 @@ in_plan h e first n l i (suc L) below has =
     let r = in_made h (digests_of h e.working L) (first + level_start (per_block h) n L) i (touched (per_block h) e L) (subst (λ (m : ℕ). Has (touched (per_block h) e m) i) same has) in
     let low = r.1 in
     let at : length front ≤ length front + r.0 = omega arith in
-    let shift : length front + r.0 - length front ≡ r.0 = omega arith in
-    (length front + r.0, omega arith,
-        ap (λ m. m.at) (get_or-append_right front back (length front) (length front + r.0) nothing_planned refl at ∙ ap (λ j. get_or back j nothing_planned) shift)
-        ∙ r.2 ∙ ap (λ m. first + level_start (per_block h) n m + i) (sym same)))
+    let shift : length front + r.0 - length front ≡ r.0 = omega arith in (
+      length front + r.0,
+      omega arith,
+      ap (λ m. m.at) (get_or-append_right front back (length front) (length front + r.0) nothing_planned refl at ∙ ap (λ j. get_or back j nothing_planned) shift)
+          ∙ r.2 ∙ ap (λ m. first + level_start (per_block h) n m + i) (sym same),
+    ))
     (cases_lt l L)
 
 -- each block of the plan is the block of the tree at its place, and stands in it

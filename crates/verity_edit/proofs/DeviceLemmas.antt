@@ -1,9 +1,11 @@
 -- The hash device, from its parts.
 use Rattle.std.proofs.Common.{◌≡◌, ℕ, ◌+◌, ◌-◌, ◌<◌, ◌≤◌, List, [], ◌∷◌, ◌++◌, length, take, drop, get_or, sym, ap, ◌∙◌, arith}
 use Rattle.std.proofs.lemmas.List.{get_or-take, length-take-le, take_all}
+use Rattle.std.specs.List.{concat}
+use Rattle.std.proofs.lemmas.List.Folds.{concat-append}
 use Rattle.std.proofs.Math.Seq.{drop-append-add}
 use Rattle.verity_superblock.specs.Superblock.{Params}
-use Rattle.verity_superblock.specs.Image.{hash_blocks, superblock_block, tree_of}
+use Rattle.verity_superblock.specs.Image.{hash_blocks, hash_image, superblock_block, tree_of}
 use Rattle.verity_build.proofs.Finishes.{in_parts}
 use Rattle.verity_edit.specs.Levels.{KeepsFront}
 use Rattle.verity_edit.specs.Standing.{BeginsWith}
@@ -27,3 +29,7 @@ device_begins p image old new first some there is =
     let len = length-take-le (first - 1) old (omega arith) in
     let all : drop first new ≡ tree_of p image = ap (drop first) is ∙ behind front (tree_of p image) (superblock_block p (length image)) first (omega arith) in
     ap (take (length (tree_of p image))) all ∙ take_all (length (tree_of p image)) (tree_of p image) (omega arith)
+
+-- the hash device joined
+pub device_bytes : (p : Params) (image old new : List (List ℕ)) (first : ℕ) → new ≡ hash_blocks p image (take (first - 1) old) → concat new ≡ hash_image p image (take (first - 1) old)
+device_bytes p image old new first is = ap concat is ∙ concat-append (take (first - 1) old) (superblock_block p (length image) ∷ tree_of p image)

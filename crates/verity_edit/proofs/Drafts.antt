@@ -161,11 +161,11 @@ pub edits_fresh : (image : List (List ℕ)) (size n : ℕ) → length image ≡ 
 edits_fresh image size n len =
     let d : Draft = record { size = size; committed = n; least = n; working = n; written = [] } in
     same_edits image (edits_of image d).working image (is_changed d) (λ _. false)
-        (ext_get_or [] (edits_of image d).working image (length-working image d ∙ sym len)
-            (λ i below.
-                let inside : i < n = rw length-working at below in
-                at_working image d i inside ∙ cond-true (ltb i n) (get_or image i []) (zero_block size) (lt-ltb i n inside)))
-        (λ m. ⊎_elim (λ low. and_left (leb n m) (ltb m n) (lt-leb n m low)) (λ high. and_right (leb n m) (ltb m n) (le-ltb m n high)) (cases_lt m n))
+    (ext_get_or [] (edits_of image d).working image (length-working image d ∙ sym len)
+    (λ i below.
+    let inside : i < n = rw length-working at below in
+    at_working image d i inside ∙ cond-true (ltb i n) (get_or image i []) (zero_block size) (lt-ltb i n inside)))
+    (λ m. ⊎_elim (λ low. and_left (leb n m) (ltb m n) (lt-leb n m low)) (λ high. and_right (leb n m) (ltb m n) (le-ltb m n high)) (cases_lt m n))
 
 none_written : (o : Option (List ℕ)) → is_some o ≡ false → o ≡ None
 none_written None e = refl
@@ -177,8 +177,9 @@ KeepsUnchanged-draft image d ok len n within plain =
     let inside : n < d.working = rw length-working at within in
     let parts = or_parts (is_some (written_at d n)) (leb d.least n && ltb n d.working) plain in
     let low : n < d.least = ⊎_elim (λ f. leb-false d.least n f) (λ f. let high = ltb-false n d.working f in absurd (omega arith)) (and_cases (leb d.least n) (ltb n d.working) parts.1) in
-    let kept = ok.kept in
-    (omega arith,
-        at_working image d n inside
-        ∙ ap (λ o. unwrap_or o (cond (ltb n d.least) (get_or image n []) (zero_block d.size))) (none_written (written_at d n) parts.0)
-        ∙ cond-true (ltb n d.least) (get_or image n []) (zero_block d.size) (lt-ltb n d.least low))
+    let kept = ok.kept in (
+      omega arith,
+      at_working image d n inside
+          ∙ ap (λ o. unwrap_or o (cond (ltb n d.least) (get_or image n []) (zero_block d.size))) (none_written (written_at d n) parts.0)
+          ∙ cond-true (ltb n d.least) (get_or image n []) (zero_block d.size) (lt-ltb n d.least low),
+    )

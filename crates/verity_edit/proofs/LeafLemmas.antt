@@ -131,16 +131,21 @@ numbers-leaves salted d image ok rise =
     (λ a. let o = old_has salted d.least n d.written a in let low = o.low in
     filter_has e.changed (length e.working) 0 n (record { low = omega arith; high = omega arith; passes = or_left (is_some (written_at d n)) (leb d.least n && ltb n d.working) o.known }))
     (λ b. let r = new_has f (λ m. refl) (d.working - d.least) d.least n b in let low = r.0 in let high = r.1 in
-    filter_has e.changed (length e.working) 0 n (record { low = omega arith; high = omega arith;
-    passes = or_right (is_some (written_at d n)) (leb d.least n && ltb n d.working) (and_from (leb d.least n) (ltb n d.working) (le-leb d.least n low) (lt-ltb n d.working (omega arith))) }))
+    filter_has e.changed (length e.working) 0 n (record {
+      low = omega arith;
+      high = omega arith;
+      passes = or_right (is_some (written_at d n)) (leb d.least n && ltb n d.working) (and_from (leb d.least n) (ltb n d.working) (le-leb d.least n low) (lt-ltb n d.working (omega arith)));
+    }))
     (has_append old new n h))
     (λ n h.
     let i = in_filter e.changed (length e.working) 0 n h in
     let high = i.high in
     append_has old new n
     (⊎_elim
-    (λ low. inl (has_old salted d.least n d.written (record { low = low;
-    known = ⊎_elim (λ k. k) (λ b. let p = and_parts (leb d.least n) (ltb n d.working) b in let up = leb-true d.least n p.0 in absurd (omega arith)) (or_cases (is_some (written_at d n)) (leb d.least n && ltb n d.working) i.passes) })))
+    (λ low. inl (has_old salted d.least n d.written (record {
+      low = low;
+      known = ⊎_elim (λ k. k) (λ b. let p = and_parts (leb d.least n) (ltb n d.working) b in let up = leb-true d.least n p.0 in absurd (omega arith)) (or_cases (is_some (written_at d n)) (leb d.least n && ltb n d.working) i.passes);
+    })))
     (λ up. inr (has_new f (λ m. refl) (d.working - d.least) d.least n up (omega arith)))
     (cases_lt n d.least)))
 

@@ -41,14 +41,16 @@ failed_later df hf hf' which.Hash f h = f h
 pub explains_compare : (p : Presented) (dt ht ht' df hf hf' : Type 0) (content : List (List ℕ)) (size : ℕ) (v : Volume) (fault : EditFault) → CanBegin p.offset p.hash_size
     → (ht → ht') → (hf → hf') → content ≡ p.content → size ≡ p.hash_size → (ht → IsVolume (first_block_in p) v) → FitsVolume v p.data_size size (length p.image)
     → ExplainsCompare v (start_behind p.offset size) p.image content dt ht' df hf fault → ExplainsOpen p dt ht df hf' fault
-explains_compare p dt ht ht' df hf hf' content size v (Mismatch l i) can told failed same sized is fits r =
-    (can, λ d h. record {
-      volume = v;
-      is_volume = is h;
-      fits = subst (λ (n : ℕ). FitsVolume v p.data_size n (length p.image)) sized fits;
-      differs = subst (λ (n : ℕ). IsFirstDifference (volume_shape v.params v.data_blocks) (start_behind p.offset n) (tree (volume_hashing v.params) p.image) p.content l i) sized
-          (subst (λ (blocks : List (List ℕ)). IsFirstDifference (volume_shape v.params v.data_blocks) (start_behind p.offset size) (tree (volume_hashing v.params) p.image) blocks l i) same (r d (told h)));
-    })
+explains_compare p dt ht ht' df hf hf' content size v (Mismatch l i) can told failed same sized is fits r = (
+  can,
+  λ d h. record {
+    volume = v;
+    is_volume = is h;
+    fits = subst (λ (n : ℕ). FitsVolume v p.data_size n (length p.image)) sized fits;
+    differs = subst (λ (n : ℕ). IsFirstDifference (volume_shape v.params v.data_blocks) (start_behind p.offset n) (tree (volume_hashing v.params) p.image) p.content l i) sized
+        (subst (λ (blocks : List (List ℕ)). IsFirstDifference (volume_shape v.params v.data_blocks) (start_behind p.offset size) (tree (volume_hashing v.params) p.image) blocks l i) same (r d (told h)));
+  },
+)
 explains_compare p dt ht ht' df hf hf' content size v NoMemory can told failed same sized is fits r = can
 explains_compare p dt ht ht' df hf hf' content size v (Store w) can told failed same sized is fits r = (can, failed_later df hf hf' w failed r)
 explains_compare p dt ht ht' df hf hf' content size v OutOfRange can told failed same sized is fits r = absurd r

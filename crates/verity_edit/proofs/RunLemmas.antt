@@ -108,13 +108,13 @@ answered_more {A = A} stored hashes commands n command old now new old_replies r
           let hash_now = stayed.hash_store.tells ∙ hash_told in
           let sound_now : now.broken ≡ false = ⊎_elim (λ b. absurd (true≢false (sym (stays_broken stored hashes command now new reply one told_now hash_now b) ∙ sound))) (λ f. f) (cases_Bool now.broken) in
           one.whole told_now hash_now sound
-              (⊎_elim
-              (λ some. ⊎_elim
-              (λ earlier. inr (before.whole told hash_told sound_now (inl earlier)))
-              (λ here. inl (or_none (is_commit reply) here))
-              (or_cases (list_any is_commit before.added) (list_any is_commit (reply ∷ [])) (sym any ∙ some)))
-              (λ was. inr (before.whole told hash_told sound_now (inr was)))
-              whole);
+          (⊎_elim
+          (λ some. ⊎_elim
+          (λ earlier. inr (before.whole told hash_told sound_now (inl earlier)))
+          (λ here. inl (or_none (is_commit reply) here))
+          (or_cases (list_any is_commit before.added) (list_any is_commit (reply ∷ [])) (sym any ∙ some)))
+          (λ was. inr (before.whole told hash_told sound_now (inr was)))
+          whole);
       unfailed = λ same hash_same sound.
           let a = stayed.data_store.failures in
           let b = one.stays.data_store.failures in

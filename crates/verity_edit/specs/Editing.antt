@@ -1,11 +1,12 @@
 -- An editor, as a contract sees it.
 use Rattle.std.specs.Prelude.{◌≡◌, ℕ, ◌+◌, ◌-◌, ◌^◌, ◌<◌, ◌≤◌, Bool, true, false, List, [], ◌∷◌, ◌++◌, length, take, drop, slice_index_or}
+use Rattle.std.specs.List.{concat}
 use Rattle.verity_digest.specs.Hash.{Salted, size_of}
 use Rattle.verity_digest.specs.Tree.{Hashing, root, tree}
 use Rattle.verity_geometry.specs.Geometry.{digests_per_block, total_of}
 use Rattle.verity_store.specs.declared.store.BlockStore as store
 use Rattle.verity_superblock.specs.Superblock.{Params, Volume, salted}
-use Rattle.verity_superblock.specs.Image.{hash_blocks}
+use Rattle.verity_superblock.specs.Image.{hash_blocks, hash_image}
 use Rattle.verity_edit.specs.declared.command.Committed.{Committed}
 use Rattle.verity_edit.specs.Edits.{Edits}
 use Rattle.verity_edit.specs.Touched.{bound, touched_count}
@@ -108,6 +109,8 @@ pub record Commits {D H : Type 0} (data_facts : store.Ghosts D) (hash_facts : st
   pub image : data_facts.tells old.data_store ≡ true → data_facts.content new.data_store ≡ (edits_in data_facts old).working
   pub device : data_facts.tells old.data_store ≡ true → hash_facts.tells old.hash_store ≡ true → hash_facts.content new.hash_store
       ≡ hash_blocks old.volume.params (edits_in data_facts old).working (take (old.first - 1) (hash_facts.content old.hash_store))
+  pub bytes : data_facts.tells old.data_store ≡ true → hash_facts.tells old.hash_store ≡ true → concat (hash_facts.content new.hash_store)
+      ≡ hash_image old.volume.params (edits_in data_facts old).working (take (old.first - 1) (hash_facts.content old.hash_store))
   pub root : data_facts.tells old.data_store ≡ true → hash_facts.tells old.hash_store ≡ true → committed.root ≡ root (hashing_in old) (edits_in data_facts old).working
   pub kept_root : new.root ≡ committed.root
   pub draft : new.draft ≡ fresh old.draft.size old.draft.working

@@ -95,8 +95,13 @@ fn carry_out<D: BlockStore, H: BlockStore, A: Allocator + Copy>(
     let Ok(()) = pending.apply(data_store, &plan.zero) else {
         return Err(Which::Data);
     };
-    let Ok(()) = change_hash(hash_store, &plan.change, &plan.made, &plan.first_block, block)
-    else {
+    let Ok(()) = change_hash(
+        hash_store,
+        &plan.change,
+        &plan.made,
+        &plan.first_block,
+        block,
+    ) else {
         return Err(Which::Hash);
     };
     let Ok(()) = data_store.sync() else {

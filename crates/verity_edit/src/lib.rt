@@ -1,4 +1,24 @@
-//! Edits and commits of a volume.
+//! Edits and commits of a volume: a data store, and the hash store with its superblock and hash tree.
+//!
+//! An [`Editor`] is opened over two stores whose hash store holds the data store's tree. Edits are pending: blocks that were
+//! written stand in an ordered map beside three counts (`Pending`). A commit plans first (`planning`): it hashes each block
+//! that was written or added, and makes each hash block above one of them again from what stood in its place, level by
+//! level, without changing anything and without reading a data block. Then it makes room in both stores, and only then
+//! changes them (`committing`): the data blocks, the levels that stand elsewhere in the new tree, the blocks of the plan, the
+//! superblock. It syncs both last.
+//!
+//! The one contract that the layers above rely on: over stores that tell, after a commit the hash store is `hash_blocks` of
+//! `verity_superblock` for the working image, all of it, and after any list of commands editor and replies are those of
+//! `After`. A commit hashes at most `bound` blocks, and where the count of blocks stays it reads at most as many hash blocks
+//! as are touched.
+//!
+//! The errors are those of [`EditFault`], E1 to E12. A refused call changes nothing, but for a commit of which a store failed
+//! after its first change: the editor is then broken, and all but the getters and `close` answers E7.
+//!
+//! The definitions stand in `specs/`: `Edits` (images, edits and what refuses them), `After` (commands and replies), `Touched`
+//! (the touched hash blocks and their bound), `Editing` (what a contract sees of an editor, and what a commit leaves),
+//! `Opening` (when a volume is opened), `Running` (lists of commands); the others are of the way to them: `Draft` (pending
+//! edits), `Plan`, `Planning`, `Level`, `Making` (hash blocks made again), `Levels`, `Written`, `Carried` (what is changed).
 #![tactic(auto)]
 
 mod change;
@@ -16,6 +36,8 @@ mod pending;
 mod plan;
 mod planning;
 mod running;
+#[cfg(test)]
+mod tests;
 mod tree;
 mod writes;
 

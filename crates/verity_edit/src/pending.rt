@@ -8,10 +8,10 @@ ghost use Rattle.verity_edit.specs.Touched.{changed_blocks};
 ghost use Rattle.verity_edit.specs.Slots.{AreNamed, AreSized, AreWithin};
 ghost use Rattle.verity_edit.specs.Plan.{numbers_of};
 
+use crate::EditFault;
 use crate::leaves::{add_new_leaves, add_old_leaves};
 use crate::plan::Child;
 use crate::writes::{write_pending, write_zeros};
-use crate::EditFault;
 use std::alloc::{AllocError, Allocator, Global};
 use std::collections::BTreeMap;
 use std::marker::Model;
@@ -164,11 +164,7 @@ impl<A: Allocator + Copy> Pending<A> {
     }
 
     /// The leaves of the blocks that were changed, in order. It hashes each of them once and takes memory for their digests.
-    pub fn leaves(
-        &self,
-        hasher: &mut Hasher<A>,
-        zero: &[u8],
-    ) -> Result<Vec<Child, A>, AllocError>
+    pub fn leaves(&self, hasher: &mut Hasher<A>, zero: &[u8]) -> Result<Vec<Child, A>, AllocError>
         requires zero { zero.now ≡ zero_block self.now.size }
         ensures numbers { IfOk result (λ leaves. (image : List (List ℕ)) → numbers_of leaves.items ≡ changed_blocks (edits_of image self.now)) }
         ensures named { IfOk result (λ leaves. (image : List (List ℕ)) →

@@ -217,9 +217,7 @@ pub fn plan_commit<H: BlockStore, A: Allocator + Copy>(
     let zero = zeros(alloc, superblock.data_block_size())?;
     let next = superblock_over(alloc, superblock, blocks)?;
     let first_block = first_block_of(alloc, &next)?;
-    let tree = plan_tree(
-        alloc, hash_store, hasher, pending, &change, &zero, block,
-    )?;
+    let tree = plan_tree(alloc, hash_store, hasher, pending, &change, &zero, block)?;
     Ok(CommitPlan {
         change,
         made: tree.made,

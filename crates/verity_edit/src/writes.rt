@@ -11,7 +11,10 @@ use std::collections::BTreeMap;
 use verity_store::{Block, BlockStore, StoreFault};
 
 /// Writes the blocks of a plan.
-pub fn write_made<H: BlockStore, A: Allocator>(hash_store: &mut H, plan: &[Made<A>]) -> Result<(), StoreFault>
+pub fn write_made<H: BlockStore, A: Allocator>(
+    hash_store: &mut H,
+    plan: &[Made<A>],
+) -> Result<(), StoreFault>
     requires within { (c : ℕ) → c < length plan.now → (planned_at plan.now c).at < length (H.content hash_store.old) }
     requires sized { (c : ℕ) → c < length plan.now → length (planned_at plan.now c).block ≡ H.size hash_store.old }
     ensures written { OnOk result (H.tells hash_store.old ≡ true → AreWritten (length plan.now) plan.now (H.content hash_store.new)) }

@@ -10,16 +10,16 @@ returns-clause-moved g c =
     let now = g.H.BlockStore.content c.move_together.new.hash_store in
     let small = c.args.new.now in
     on_ok c.set_len.result _ _
-        (λ done told l i from to low high.
-            let within = level_within (digests_per_block small) small.blocks l to in
-            let q : ℕ = c.args.first + start_of small l + i in
-            let a : q < c.args.blocks = omega arith in
-            let len = c.in_ok-move_together.ensures.len in
-            let b : q < length now = omega arith in
-            ap (λ blocks. get_or blocks q []) done
-            ∙ get_or-resized (g.H.BlockStore.size c.move_together.new.hash_store) c.args.blocks now q a b
-            ∙ c.in_ok-move_together.ensures.moved told l i to high)
-        c.set_len.ensures.done
+    (λ done told l i from to low high.
+    let within = level_within (digests_per_block small) small.blocks l to in
+    let q : ℕ = c.args.first + start_of small l + i in
+    let a : q < c.args.blocks = omega arith in
+    let len = c.in_ok-move_together.ensures.len in
+    let b : q < length now = omega arith in
+    ap (λ blocks. get_or blocks q []) done
+    ∙ get_or-resized (g.H.BlockStore.size c.move_together.new.hash_store) c.args.blocks now q a b
+    ∙ c.in_ok-move_together.ensures.moved told l i to high)
+    c.set_len.ensures.done
 
 pub returns-clause-front : goal.returns-clause-front
 returns-clause-front g c =

@@ -10,15 +10,15 @@ returns-clause-moved g c =
     let old = g.H.BlockStore.content c.args.hash_store.now in
     let small = c.args.old.now in
     on_ok c.move_apart.result _ _
-        (λ moved told l i from to low high.
-            let within = level_within (digests_per_block small) small.blocks l from in
-            let p : ℕ = c.args.first + start_of small l + i in
-            let a : p < c.args.blocks = omega arith in
-            let b : p < length old = omega arith in
-            moved (c.in_ok-set_len.ensures.tells ∙ told) l i from low
-            ∙ ap (λ blocks. get_or blocks p []) c.in_ok-set_len.ensures.done
-            ∙ get_or-resized (g.H.BlockStore.size c.args.hash_store.now) c.args.blocks old p a b)
-        c.move_apart.ensures.moved
+    (λ moved told l i from to low high.
+    let within = level_within (digests_per_block small) small.blocks l from in
+    let p : ℕ = c.args.first + start_of small l + i in
+    let a : p < c.args.blocks = omega arith in
+    let b : p < length old = omega arith in
+    moved (c.in_ok-set_len.ensures.tells ∙ told) l i from low
+    ∙ ap (λ blocks. get_or blocks p []) c.in_ok-set_len.ensures.done
+    ∙ get_or-resized (g.H.BlockStore.size c.args.hash_store.now) c.args.blocks old p a b)
+    c.move_apart.ensures.moved
 
 pub returns-in_err-set_len-clause-front : goal.returns-in_err-set_len-clause-front
 returns-in_err-set_len-clause-front g c =

@@ -112,9 +112,9 @@ loop-level-preserved g c =
           let made = one.made (inv.tells ∙ told) r.old new long held_here renews_here in
           let next : c.in_ok-children.children.items ≡ made_digests h new (touched k e l) = made.1 ∙ (λ i. made_digests (same i) new (up e ed i)) in
           let inside : (d : ℕ) → d < length c.in_ok-children.children.items → (child_at c.in_ok-children.children.items d).number < length (row h e.working (suc l)) = λ d below.
-              let w = one.next_within d below in
-              let m : length (row h e.working (suc l)) ≡ row_len k n (suc l) = length-row h e.working (suc l) (let b = ok.branching in omega arith) ∙ (λ i. row_len (width i) (ed.working i) (suc l)) in
-              omega arith in (
+          let w = one.next_within d below in
+          let m : length (row h e.working (suc l)) ≡ row_len k n (suc l) = length-row h e.working (suc l) (let b = ok.branching in omega arith) ∙ (λ i. row_len (width i) (ed.working i) (suc l)) in
+          omega arith in (
             made.0 ∙ (λ i. c.loop-level.plan.items ++ made_blocks (same i) new (change.first + start_of change.new l) (up e ed i))
                 ∙ touched_blocks-more h e change.first k n l (l + 1) c.loop-level.plan.items width refl before.0,
             subst (λ (m : ℕ). AreNamed (λ j. get_or (digests_of h e.working m) j []) c.in_ok-children.children.items) (sym step)

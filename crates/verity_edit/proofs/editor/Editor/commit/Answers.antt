@@ -10,26 +10,26 @@ use Rattle.verity_edit.specs.Touched.{touched_count, bound}
 use Rattle.verity_edit.specs.Standing.{BeginsWith}
 use Rattle.verity_edit.specs.Planning.{volume_shape, volume_hashing}
 use Rattle.verity_edit.specs.Editing.{Editing, Commits, Stays, FitsStores, Stands, edits_in, width_in}
-use Rattle.verity_edit.proofs.DeviceLemmas.{device_begins}
+use Rattle.verity_edit.proofs.DeviceLemmas.{device_begins, device_bytes}
 use Rattle.verity_edit.proofs.editor.Editor.commit.Goals as goal
 
 pub returns-in_err-plan-clause-hash_reads : goal.returns-in_err-plan-clause-hash_reads
 returns-in_err-plan-clause-hash_reads g c =
     let s = c.self.inside in
     let new : ℕ = g.H.BlockStore.reads c.commit_edits.new.hash_store in
-    let P : Editing g.row.D.Denot g.row.H.Denot → Type 0 = λ e. e.broken ≡ false → e.draft.working ≡ e.draft.committed
+    let P : Editing g.row.D.Denot g.row.H.Denot → Type 0 = λ e. e.draft.working ≡ e.draft.committed
     → new ≤ g.H.BlockStore.reads e.hash_store + touched_count (width_in e) (edits_in g.D.BlockStore e) in
     subst P c.self.view_is
-    (λ sound stays. c.in_err-plan.ensures.hash_reads (g.D.BlockStore.content s.data_store) (c.self.invariant.fits sound).committed stays)
+    (λ stays. c.in_err-plan.ensures.hash_reads (g.D.BlockStore.content s.data_store) (c.self.invariant.fits c.if-self.false).committed stays)
 
 pub returns-clause-hash_reads : goal.returns-clause-hash_reads
 returns-clause-hash_reads g c =
     let s = c.self.inside in
     let new : ℕ = g.H.BlockStore.reads c.commit_edits.new.hash_store in
-    let P : Editing g.row.D.Denot g.row.H.Denot → Type 0 = λ e. e.broken ≡ false → e.draft.working ≡ e.draft.committed
+    let P : Editing g.row.D.Denot g.row.H.Denot → Type 0 = λ e. e.draft.working ≡ e.draft.committed
     → new ≤ g.H.BlockStore.reads e.hash_store + touched_count (width_in e) (edits_in g.D.BlockStore e) in
     subst P c.self.view_is
-    (λ sound stays. c.in_ok-plan.ensures.hash_reads (g.D.BlockStore.content s.data_store) (c.self.invariant.fits sound).committed stays)
+    (λ stays. c.in_ok-plan.ensures.hash_reads (g.D.BlockStore.content s.data_store) (c.self.invariant.fits c.if-self.false).committed stays)
 
 pub invariant_of-self-2 : goal.invariant_of-self-2
 invariant_of-self-2 g c =
@@ -101,6 +101,9 @@ returns-clause-committed g c =
       sound = refl;
       image = λ told. done.image told;
       device = λ told hash_told. let stood = c.self.invariant.stands sound told hash_told in done.device hash_told stood.tree stood.root;
+      bytes = λ told hash_told.
+          let stood = c.self.invariant.stands sound told hash_told in
+          device_bytes v.params (edits_of image d).working (g.H.BlockStore.content s.hash_store) (g.H.BlockStore.content c.commit_edits.new.hash_store) s.first (done.device hash_told stood.tree stood.root);
       root = λ told hash_told. let stood = c.self.invariant.stands sound told hash_told in (done.right hash_told image fits.committed stood.tree stood.root).1;
       kept_root = refl;
       draft = c.settle.ensures;
