@@ -28,6 +28,7 @@ fn respond<E: Export, A: Allocator>(
     requires header { header_size phase ≤ length message.now }
     requires size { offer.now.size ≡ (E.facts export.old).size }
     ensures keeps { Keeps (E.facts export.old) (E.facts export.new) }
+    ensures later { E.later export.old export.new }
     ensures phase { IfOk result (λ next. next ≡ next_phase offer.now phase (message_of phase message.now)) }
     ensures ok { OnOk result (AppendsAnswer (E.facts export.old) (E.facts export.new)
         (answer offer.now phase (message_of phase message.now)) out.old.items out.new.items) }
@@ -68,6 +69,7 @@ fn turn<E: Export, I: Allocator, A: Allocator>(
     requires some { 0 < length piece.now }
     requires size { offer.now.size ≡ (E.facts export.old).size }
     ensures keeps { Keeps (E.facts export.old) (E.facts export.new) }
+    ensures later { E.later export.old export.new }
     ensures some { IfOk result (λ taken. (0 < taken) × (taken ≤ length piece.now)) }
     ensures form { OnOk result (IsInForm inbox.new) }
     ensures moves { IfOk result (λ taken. AppendsMove (E.facts export.old) (E.facts export.new) offer.now
@@ -101,6 +103,7 @@ pub fn turns<E: Export, I: Allocator, A: Allocator>(
     requires form { IsInForm inbox.old }
     requires size { offer.now.size ≡ (E.facts export.old).size }
     ensures keeps { Keeps (E.facts export.old) (E.facts export.new) }
+    ensures later { E.later export.old export.new }
     ensures form { OnOk result (IsInForm inbox.new) }
     ensures moves { OnOk result (AppendsMove (E.facts export.old) (E.facts export.new) offer.now
         inbox.old inbox.new piece.now out.old.items out.new.items) }

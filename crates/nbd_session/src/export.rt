@@ -22,6 +22,9 @@ pub enum ExportFault {
 pub trait Export {
     ghost facts: { Self → Facts };
 
+    /// What an implementation says of its own value after any number of reads, where its facts don't say it.
+    ghost later: { Self → Self → Type 0 };
+
     /// The size in bytes.
     fn size(&self) -> u64
         ensures { result ≡ (facts self.now).size };
@@ -43,9 +46,16 @@ pub trait Export {
     ) -> Result<(), ExportFault>
         requires { offset + len ≤ (facts self.old).size }
         ensures keeps { Keeps (facts self.old) (facts self.new) }
+        ensures later { later self.old self.new }
         ensures ok { OnOk result ((bytes : List ℕ) × (out.new.items ≡ out.old.items ++ bytes)
             × Served (facts self.old) (facts self.new) offset len bytes) }
         ensures io { IsErrOf result ExportFault.Io → Failed (facts self.old) (facts self.new) offset len }
         ensures lack { IsErrOf result ExportFault.NoMemory → Lacked (facts self.old) (facts self.new) offset len }
         ensures unchanged { OnErr result (out.new.items ≡ out.old.items) };
+
+    /// No read at all is one number of reads.
+    ghost later_same: { (x : Self) → later x x };
+
+    /// Reads after reads are reads.
+    ghost later_on: { (x y z : Self) → later x y → later y z → later x z };
 }

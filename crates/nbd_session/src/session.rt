@@ -88,7 +88,8 @@ impl<A: Allocator> Session<A> {
         out: &mut Vec<u8, O>,
     ) -> Status
         requires { self.old.offer.size ≡ (E.facts export.old).size }
-        ensures { Feeds (E.facts export.old) (E.facts export.new) self.old self.new piece.now out.old.items out.new.items result }
+        ensures feeds { Feeds (E.facts export.old) (E.facts export.new) self.old self.new piece.now out.old.items out.new.items result }
+        ensures later { E.later export.old export.new }
     {
         if self.starved {
             return Status::Starved;

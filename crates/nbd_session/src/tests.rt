@@ -19,6 +19,8 @@ struct Image {
 impl Export for Image {
     ghost facts = { λ image. record { size = length image.bytes.items; block = 512; may_serve = λ _ _. Unit {0}; may_refuse = λ _ _. Unit {0}; may_lack = λ _ _. Unit {0}; steady = λ _. ⊥; failures = 0 } };
 
+    ghost later = { λ _ _. Unit {0} };
+
     fn size(&self) -> u64 {
         self.bytes.len() as u64
     }
@@ -43,6 +45,10 @@ impl Export for Image {
             Err(_) => Err(ExportFault::NoMemory),
         }
     }
+
+    ghost later_same = { λ _. tt };
+
+    ghost later_on = { λ _ _ _ _ _. tt };
 }
 
 fn make_image(alloc: Global, refusal: Option<ExportFault>) -> Result<Image, AllocError>

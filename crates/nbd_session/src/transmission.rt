@@ -136,6 +136,7 @@ fn read<E: Export, A: Allocator>(
 ) -> Result<(), AllocError>
     requires { size ≡ (E.facts export.old).size }
     ensures keeps { Keeps (E.facts export.old) (E.facts export.new) }
+    ensures later { E.later export.old export.new }
     ensures ok { OnOk result (AppendsAnswer (E.facts export.old) (E.facts export.new)
         (read_answer size request.now) out.old.items out.new.items) }
     ensures err { OnErr result (Grows out.old.items out.new.items) }
@@ -170,6 +171,7 @@ pub fn answer_request<E: Export, A: Allocator>(
     requires header { 28 ≤ length header.now }
     requires size { size ≡ (E.facts export.old).size }
     ensures keeps { Keeps (E.facts export.old) (E.facts export.new) }
+    ensures later { E.later export.old export.new }
     ensures phase { IfOk result (λ next. next ≡ phase_after_request (request_of header.now)) }
     ensures ok { OnOk result (AppendsAnswer (E.facts export.old) (E.facts export.new)
         (request_answer size (request_of header.now)) out.old.items out.new.items) }

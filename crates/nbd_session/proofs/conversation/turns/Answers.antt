@@ -8,6 +8,7 @@ pub loop-done-init : goal.loop-done-init
 loop-done-init g c = record {
   within = omega arith;
   keeps = Keeps-refl (g.E.Export.facts c.args.export.now);
+  later = g.met.E.Export.later_same c.args.export.now;
   form = c.requires.form;
   moves = ([], sym (append-nil c.args.out.now.items), moves_none (g.E.Export.facts c.args.export.now) c.args.offer.now c.args.inbox.now);
 }
@@ -35,6 +36,7 @@ loop-done-preserved g c =
     record {
       within = grind (arith, common_steps);
       keeps = Keeps-trans first mid now i.keeps e.keeps;
+      later = g.met.E.Export.later_on c.args.export.now c.loop-done.export c.turn.new.export i.later e.later;
       form = e.form;
       moves = subst P (next_bytes c.args.piece.now c.loop-done.done c.in_ok-done.field-0)
           (appends_on first mid now offer c.args.inbox.now c.loop-done.inbox c.turn.new.inbox _ _ c.args.out.now.items c.loop-done.out.items c.turn.new.out.items i.keeps e.keeps i.moves e.moves);

@@ -10,6 +10,7 @@ invariant-loop-done g l =
     record {
       within : l.done ≤ length l.piece;
       keeps : Keeps (facts l.fn.export) (facts l.export);
+      later : g.E.Export.later l.fn.export l.export;
       form : IsInForm l.inbox;
       moves : AppendsMove (facts l.fn.export) (facts l.export) l.offer l.fn.inbox l.inbox (take l.done l.piece) l.fn.out.items l.out.items;
     }

@@ -1,0 +1,13 @@
+pub mod Table
+pub mod Chain
+pub mod Right
+pub mod Finding
+pub mod Range
+pub mod Texts
+pub mod Cache
+pub mod Stores
+pub mod Refusal
+pub mod Verifier
+pub mod Holds
+pub mod Report
+pub mod Reporting

@@ -1,0 +1,39 @@
+//! Checking a volume block by block: every block that leaves was checked along its path from the root hash.
+//!
+//! A [`Verifier`] is made of a table line, which is trusted, and two stores, which are not: it reads no superblock. It
+//! appends data blocks ([`Verifier::read_block`]) and ranges of bytes ([`Verifier::read_at`]), and reports what is wrong
+//! in the whole volume ([`Verifier::report`]). The block that was checked is the block that is served: one read, one
+//! buffer. Hash blocks that were checked stay in a cache of bounded size, by level and index.
+//!
+//! The one contract that the layers above rely on, whatever the stores return: each block that is served ends a chain of
+//! blocks that the stores gave, from the root hash of the table line down; a mismatch names a place on the path of a block
+//! of the range where a store gave a block without the digest that is named there; a store's failure is named only where
+//! it failed in the call. Where both stores tell, a read answers by what they hold, and a report lists exactly the bad and
+//! unread places. [`laws`] says what follows: under the table line of an image the bytes are the image's, or at some place
+//! a store gave a block that differs from the image's own there and has its length and its salted digest.
+//!
+//! The errors are V1 to V5 of [`CheckFault`], and `AllocError` of a report.
+//!
+//! The definitions stand in `specs/`: `Table` (the tree of a table line), `Chain` (chains of given blocks), `Right` (the
+//! image's own blocks, clashes), `Range` (ranges of bytes), `Refusal` (why a read is refused), `Finding` and `Report` (what
+//! a report finds and lists), `Holds` (stores that hold an image), `Stores` and `Verifier` (what contracts see of both).
+//! `Cache` has the invariant of the cache, and `Reporting` how far a report has come.
+#![tactic(auto)]
+
+mod cache;
+mod fault;
+mod finding;
+pub mod laws;
+mod range;
+mod report;
+#[cfg(test)]
+mod tests;
+mod tree;
+mod verifier;
+mod walk;
+
+pub use cache::Key;
+pub use fault::{CheckFault, Place};
+pub use finding::{Finding, Verdict};
+pub use report::{Faults, Report};
+pub use verifier::Verifier;

@@ -1,0 +1,37 @@
+-- A verifier as an export, and the verdicts that are right under its table line. The facts of a store of the type S are S.BlockStore.
+use Rattle.std.specs.Prelude.{◌≡◌, ℕ, ◌+◌, ◌*◌, ◌⊎◌, List, length}
+use Rattle.std.specs.List.{concat}
+use Rattle.verity_store.specs.declared.store.BlockStore as store
+use Rattle.verity_check.specs.Right.{AreRight}
+use Rattle.verity_check.specs.Holds.{Holds}
+use Rattle.verity_check.specs.Verifier.{Verifying, given_to, MayServe, MayRefuse}
+use Rattle.nbd_session.specs.Protocol.{nbd_eio, nbd_enomem}
+use Rattle.nbd_session.specs.Talk.{Verdict, Bytes, Refused}
+use Rattle.nbd_session.specs.Export.{Facts}
+
+module _ {D H : Type 0} (data_facts : store.Ghosts D) (hash_facts : store.Ghosts H) where
+  -- both stores tell, and hold the image and its tree under the table line
+  abbrev pub HoldsFor : Verifying D H → (image : List (List ℕ)) → Type 0
+  HoldsFor v image = Holds v.table (data_facts.tells v.data_store) (data_facts.content v.data_store) (hash_facts.tells v.hash_store) (hash_facts.content v.hash_store) image
+
+  -- the whole volume is these bytes, and its stores tell
+  abbrev pub IsContent : Verifying D H → (content : List ℕ) → Type 0
+  IsContent v content = (image : List (List ℕ)) × HoldsFor v image × (content ≡ concat image)
+
+  -- what a session sees of a verifier; memory may be lacked for any range
+  abbrev pub facts_of : Verifying D H → Facts
+  facts_of v = record {
+    size = v.table.data_blocks * v.table.data_block_size;
+    block = v.table.data_block_size;
+    may_serve = MayServe data_facts hash_facts v;
+    may_refuse = MayRefuse data_facts hash_facts v;
+    may_lack = λ offset len. Unit {0};
+    steady = IsContent v;
+    failures = data_facts.failures v.data_store + hash_facts.failures v.hash_store;
+  }
+
+  -- The verdict is right for an image: its bytes, unless a store gave a block that clashes with it; or want of memory; or
+  -- EIO where the verifier may refuse the range.
+  abbrev pub IsRightFor : Verifying D H → (image : List (List ℕ)) → (offset len : ℕ) → Verdict → Type 0
+  IsRightFor v image offset len (Bytes bytes) = (length bytes ≡ len) × AreRight v.table (given_to data_facts hash_facts v) image offset len bytes
+  IsRightFor v image offset len (Refused error) = (error ≡ nbd_enomem) ⊎ ((error ≡ nbd_eio) × MayRefuse data_facts hash_facts v offset len)

@@ -1,0 +1,88 @@
+//! A verifier as what sessions read from.
+
+ghost use Rattle.std.specs.Prelude.{◌≡◌, ◌↔◌};
+ghost use Rattle.verity_check.specs.Verifier.{IsOnlyReading, IsVerifier};
+ghost use Rattle.verity_hub.specs.Volume.{facts_of};
+
+use nbd_session::{Export, ExportFault};
+use std::alloc::{Allocator, Global};
+use std::marker::Model;
+use verity_check::{CheckFault, Verifier};
+use verity_store::BlockStore;
+
+/// A verifier as an export. Contracts see the verifier.
+#[derive(Drop)]
+pub struct Volume<D: BlockStore, H: BlockStore, A: Allocator = Global> {
+    verifier: Verifier<D, H, A>,
+}
+
+impl<D: BlockStore, H: BlockStore, A: Allocator> Model for Volume<D, H, A> {
+    ghost use Rattle.verity_check.specs.Verifier.{Verifying};
+
+    ghost Value = { Verifying D H };
+
+    ghost view = { λ v. v.verifier };
+}
+
+impl<D: BlockStore, H: BlockStore, A: Allocator> Volume<D, H, A> {
+    /// Takes over a verifier.
+    pub fn new(verifier: Verifier<D, H, A>) -> Volume<D, H, A>
+        ensures { result ≡ verifier }
+    {
+        Volume { verifier }
+    }
+
+    /// What is true of every verifier.
+    pub fn check(&self)
+        ensures { IsVerifier D.BlockStore H.BlockStore self.now }
+    {
+        let _size = self.verifier.size();
+    }
+}
+
+/// A refusal as a session takes it: want of memory, or else Io.
+fn export_fault(fault: CheckFault) -> ExportFault
+    ensures { (result ≡ ExportFault.NoMemory) ↔ (fault ≡ CheckFault.NoMemory) }
+{
+    match fault {
+        CheckFault::NoMemory => ExportFault::NoMemory,
+        CheckFault::Mismatch(_)
+        | CheckFault::Store(_)
+        | CheckFault::Lengths
+        | CheckFault::CacheSize => ExportFault::Io,
+    }
+}
+
+impl<D: BlockStore, H: BlockStore, A: Allocator + Copy + Drop> Export for Volume<D, H, A> {
+    ghost facts = { λ v. facts_of D.BlockStore H.BlockStore v };
+
+    ghost later = { λ old new. IsOnlyReading D.BlockStore H.BlockStore old new };
+
+    fn size(&self) -> u64 {
+        self.verifier.size()
+    }
+
+    fn block(&self) -> u32 {
+        self.check();
+        self.verifier.table().data_block_size() as u32
+    }
+
+    fn read_at<B: Allocator>(
+        &mut self,
+        offset: u64,
+        len: usize,
+        out: &mut Vec<u8, B>,
+    ) -> Result<(), ExportFault> {
+        self.check();
+        match self.verifier.read_at(offset, len, out) {
+            Ok(()) => Ok(()),
+            Err(fault) => Err(export_fault(fault)),
+        }
+    }
+
+    ghost use Rattle.verity_hub.specs.Reading.{reading_same, reading_on};
+
+    ghost later_same = { λ v. reading_same D.BlockStore H.BlockStore v };
+
+    ghost later_on = { λ u v w. reading_on D.BlockStore H.BlockStore u v w };
+}
