@@ -4,16 +4,14 @@ ghost use Rattle.std.specs.Prelude.{◌≡◌, ◌≢◌, ◌↔◌, ◌≤◌, 
 ghost use Rattle.nbd_session.specs.Handshake.{greeting};
 ghost use Rattle.verity_check.specs.Right.{Fits};
 ghost use Rattle.verity_check.specs.Verifier.{IsOnlyReading, IsVerifier};
-ghost use Rattle.verity_hub.specs.declared.events.HubReply.{HubReply};
-ghost use Rattle.verity_hub.specs.Sessions.{OpensOne, FeedsOne, EndsOne, lookup, max_open, max_opened};
-ghost use Rattle.verity_hub.specs.History.{Step, steps};
-ghost use Rattle.verity_hub.specs.After.{EachAfter, Given, IsAfter, OpenedAfter, FedAfter, EndedAfter};
+ghost use Rattle.nbd_hub.specs.declared.events.HubReply.{HubReply};
+ghost use Rattle.nbd_hub.specs.Sessions.{OpensOne, FeedsOne, EndsOne, lookup, max_open, max_opened};
+ghost use Rattle.nbd_hub.specs.History.{Step, steps};
+ghost use Rattle.nbd_hub.specs.After.{EachAfter, Given, IsAfter, OpenedAfter, FedAfter, EndedAfter};
 ghost use Rattle.verity_hub.specs.Volume.{facts_of, IsRightFor};
 
-use crate::events::{Event, HubReply};
-use crate::fault::HubFault;
-use crate::sessions::Sessions;
 use crate::volume::Volume;
+use nbd_hub::{Event, HubFault, HubReply, Sessions};
 use nbd_session::{ExportName, Status};
 use std::alloc::{AllocError, Allocator, Global};
 use std::marker::Model;
@@ -29,7 +27,7 @@ pub struct Hub<D: BlockStore, H: BlockStore, A: Allocator + Copy + Drop = Global
 
 impl<D: BlockStore, H: BlockStore, A: Allocator + Copy + Drop> Model for Hub<D, H, A> {
     ghost use Rattle.verity_check.specs.Verifier.{Verifying};
-    ghost use Rattle.verity_hub.specs.Sessions.{HubState};
+    ghost use Rattle.nbd_hub.specs.Sessions.{HubState};
 
     ghost Value = { HubState × Verifying D H };
 

@@ -1,174 +1,19 @@
 //! One session over a stream.
 
-ghost use Rattle.std.specs.Prelude.{◌≡◌, ◌≢◌, ◌↔◌, true, false, ◌≤◌, ◌<◌, ◌+◌, ◌++◌, length, List, [], ℕ, Some, None, Err, OnOk, OnErr, IfErr, IsErrOf};
-ghost use Rattle.std.specs.Io.KnownBytes.{Appends};
-ghost use Rattle.nbd_session.specs.Export.{Keeps};
-ghost use Rattle.nbd_session.specs.Session.{State, IsAt};
-ghost use Rattle.nbd_session.specs.Handshake.{greeting};
-ghost use Rattle.verity_hub.specs.History.{Step};
-ghost use Rattle.verity_hub.specs.Sessions.{SetsOnly, lookup, max_open, max_opened};
-ghost use Rattle.verity_hub.specs.After.{IsAfter};
-ghost use Rattle.verity_hub.specs.Stream.{Exchanged, Served, ServedAfter, TurnedAfter};
-ghost use Rattle.verity_hub.specs.Volume.{facts_of};
+ghost use Rattle.std.specs.Prelude.{◌≡◌, ◌≢◌, ◌↔◌, ◌≤◌, ◌<◌, ◌+◌, length, List, ℕ, None, Err, IsErrOf};
+ghost use Rattle.nbd_hub.specs.History.{Step};
+ghost use Rattle.nbd_hub.specs.Sessions.{SetsOnly, max_open, max_opened};
+ghost use Rattle.nbd_hub.specs.After.{IsAfter};
+ghost use Rattle.nbd_hub.specs.Stream.{Served, ServedBy, ServedAfter};
+ghost use Rattle.verity_check.specs.Right.{Fits};
 ghost use Rattle.verity_check.specs.Verifier.{IsOnlyReading};
+ghost use Rattle.verity_hub.specs.Volume.{facts_of, HoldsFor, SaysRight, SaysExact};
 
-use crate::fault::{HubFault, ServeFault};
 use crate::hub::Hub;
-use crate::sessions::Sessions;
-use nbd_session::{Export, Status};
+use nbd_hub::{HubFault, ServeFault, serve};
 use std::alloc::Allocator;
 use std::io::{Read, Write};
 use verity_store::BlockStore;
-
-/// The most bytes that one turn reads: those of a request's header, so that at most one READ's bytes are held.
-const TURN_BYTES: usize = 28;
-
-/// Writes all of the bytes, or a beginning.
-fn write_out<W: Write>(writer: &mut W, bytes: &[u8]) -> Result<(), ServeFault>
-    ensures ok { OnOk result (Appends (W.contents writer.old) (W.contents writer.new) bytes.now) }
-    ensures err { OnErr result ((part : List ℕ) × (rest : List ℕ) × (bytes.now ≡ part ++ rest) × Appends (W.contents writer.old) (W.contents writer.new) part) }
-    ensures fault { IfErr result (λ fault. fault ≡ ServeFault.Write) }
-{
-    let mut done = 0;
-    while done < bytes.len() {
-        match writer.write(&bytes[done..]) {
-            Ok(0) => return Err(ServeFault::Write),
-            Ok(taken) => done += taken,
-            Err(_) => return Err(ServeFault::Write),
-        }
-    }
-    match writer.flush() {
-        Ok(()) => Ok(()),
-        Err(_) => Err(ServeFault::Write),
-    }
-}
-
-/// Whether a session that isn't starved has ended.
-fn is_over(status: Status) -> bool
-    ensures { (result ≡ true) ↔ (status ≡ Status.Ended) }
-{
-    match status {
-        Status::Ended => true,
-        Status::Open | Status::Starved => false,
-    }
-}
-
-/// Feeds a piece and writes the replies, and tells whether the session has ended.
-fn exchange<E: Export, A: Allocator + Copy, W: Write>(
-    hub: &mut Sessions<E, A>,
-    id: u64,
-    piece: &[u8],
-    out: &mut Vec<u8, A>,
-    writer: &mut W,
-) -> Result<bool, ServeFault>
-    requires { (session : State) × (lookup id hub.old.0.sessions ≡ Some session) }
-    ensures offer { hub.new.0.offer ≡ hub.old.0.offer }
-    ensures keeps { Keeps (E.facts hub.old.1) (E.facts hub.new.1) }
-    ensures later { E.later hub.old.1 hub.new.1 }
-    ensures next { hub.new.0.next ≡ hub.old.0.next }
-    ensures count { length hub.new.0.sessions ≡ length hub.old.0.sessions }
-    ensures exchanged { (before after : State) × (lookup id hub.old.0.sessions ≡ Some before) × (before.offer ≡ hub.old.0.offer) × (after.offer ≡ hub.old.0.offer)
-        × SetsOnly hub.old.0.sessions hub.new.0.sessions id (Some after)
-        × Exchanged (E.facts hub.old.1) (E.facts hub.new.1) before after piece.now (W.contents writer.old) (W.contents writer.new) result }
-    ensures after { (history : List Step) → IsAfter (E.facts hub.old.1) hub.old.0 history → TurnedAfter (E.facts hub.new.1) hub.new.0 history id }
-{
-    out.clear();
-    match hub.feed(id, piece, out) {
-        Ok(status) => {
-            if let Status::Starved = status {
-                return Err(ServeFault::Starved);
-            }
-            match write_out(writer, out) {
-                Ok(()) => Ok(is_over(status)),
-                Err(_) => Err(ServeFault::Write),
-            }
-        }
-        Err(_) => unreachable!(),
-    }
-}
-
-/// Writes the greeting, then takes turns with the client.
-fn turns<E: Export, A: Allocator + Copy, R: Read, W: Write>(
-    hub: &mut Sessions<E, A>,
-    id: u64,
-    out: &mut Vec<u8, A>,
-    reader: &mut R,
-    writer: &mut W,
-    limit: u64,
-) -> Result<(), ServeFault>
-    requires greets { out.old.items ≡ greeting }
-    requires one { (session : State) × (lookup id hub.old.0.sessions ≡ Some session) × IsAt session [] × (session.starved ≡ false) × (session.offer ≡ hub.old.0.offer) }
-    ensures offer { hub.new.0.offer ≡ hub.old.0.offer }
-    ensures keeps { Keeps (E.facts hub.old.1) (E.facts hub.new.1) }
-    ensures later { E.later hub.old.1 hub.new.1 }
-    ensures next { hub.new.0.next ≡ hub.old.0.next }
-    ensures count { length hub.new.0.sessions ≡ length hub.old.0.sessions }
-    ensures others { (session : State) × SetsOnly hub.old.0.sessions hub.new.0.sessions id (Some session) }
-    ensures served { Served (E.facts hub.old.1) (E.facts hub.new.1) hub.old.0.offer
-        (record { reader = R.remaining reader.old; reader' = R.remaining reader.new; writer = W.contents writer.old; writer' = W.contents writer.new }) limit result }
-    ensures hub { (fault : HubFault) → IsErrOf result (ServeFault.Hub fault) → ⊥ }
-    ensures after { (history : List Step) → IsAfter (E.facts hub.old.1) hub.old.0 history → TurnedAfter (E.facts hub.new.1) hub.new.0 history id }
-{
-    if write_out(writer, out).is_err() {
-        return Err(ServeFault::Write);
-    }
-    let mut piece = [0u8; TURN_BYTES];
-    for turn in 0..limit {
-        let taken = match reader.read(&mut piece) {
-            Ok(taken) => taken,
-            Err(_) => return Err(ServeFault::Read),
-        };
-        if taken == 0 {
-            return Ok(());
-        }
-        match exchange(hub, id, &piece[..taken], out, writer) {
-            Ok(over) => {
-                if over {
-                    return Ok(());
-                }
-            }
-            Err(fault) => return Err(fault),
-        }
-    }
-    Err(ServeFault::Turns)
-}
-
-/// Serves one client, in turns of at most 28 bytes.
-pub fn serve<E: Export, A: Allocator + Copy, R: Read, W: Write>(
-    hub: &mut Sessions<E, A>,
-    reader: &mut R,
-    writer: &mut W,
-    limit: u64,
-) -> Result<(), ServeFault>
-    ensures offer { hub.new.0.offer ≡ hub.old.0.offer }
-    ensures keeps { Keeps (E.facts hub.old.1) (E.facts hub.new.1) }
-    ensures later { E.later hub.old.1 hub.new.1 }
-    ensures served { Served (E.facts hub.old.1) (E.facts hub.new.1) hub.old.0.offer
-        (record { reader = R.remaining reader.old; reader' = R.remaining reader.new; writer = W.contents writer.old; writer' = W.contents writer.new }) limit result }
-    // No session came about.
-    ensures full { (result ≡ Err (ServeFault.Hub HubFault.Full)) ↔ (max_open ≤ length hub.old.0.sessions) }
-    ensures spent { (result ≡ Err (ServeFault.Hub HubFault.Spent)) ↔ ((length hub.old.0.sessions < max_open) × (max_opened ≤ hub.old.0.next)) }
-    ensures known { result ≢ Err (ServeFault.Hub HubFault.Unknown) }
-    ensures refused { (fault : HubFault) → IsErrOf result (ServeFault.Hub fault) → hub.new ≡ hub.old }
-    // One came about, and it is ended.
-    ensures ended { ((fault : HubFault) → IsErrOf result (ServeFault.Hub fault) → ⊥) → SetsOnly hub.old.0.sessions hub.new.0.sessions hub.old.0.next None }
-    ensures opened { ((fault : HubFault) → IsErrOf result (ServeFault.Hub fault) → ⊥) → hub.new.0.next ≡ hub.old.0.next + 1 }
-    ensures count { length hub.new.0.sessions ≡ length hub.old.0.sessions }
-    ensures after { ((fault : HubFault) → IsErrOf result (ServeFault.Hub fault) → ⊥) → (history : List Step) → IsAfter (E.facts hub.old.1) hub.old.0 history
-        → ServedAfter (E.facts hub.new.1) hub.new.0 history hub.old.0.next }
-{
-    let mut out = Vec::new(hub.allocator());
-    match hub.open(&mut out) {
-        Ok(id) => {
-            let result = turns(hub, id, &mut out, reader, writer, limit);
-            match hub.end(id) {
-                Ok(()) => result,
-                Err(_) => unreachable!(),
-            }
-        }
-        Err(fault) => Err(ServeFault::Hub(fault)),
-    }
-}
 
 /// Serves one client over a stream: opens a session, writes the greeting, then reads at most 28 bytes a turn, feeds them
 /// and writes the replies before the next turn. So at most one READ's bytes are held, in one buffer that is kept. At each
@@ -192,6 +37,12 @@ pub fn serve_stream<D: BlockStore, H: BlockStore, A: Allocator + Copy + Drop, R:
     ensures verifier { IsOnlyReading D.BlockStore H.BlockStore hub.old.1 hub.new.1 }
     ensures served { Served (facts_of D.BlockStore H.BlockStore hub.old.1) (facts_of D.BlockStore H.BlockStore hub.new.1) hub.old.0.offer
         (record { reader = R.remaining reader.old; reader' = R.remaining reader.new; writer = W.contents writer.old; writer' = W.contents writer.new }) limit result }
+    // For every image that fits the table line, what was said is right.
+    ensures right { (image : List (List ℕ)) → Fits hub.old.1.table image → ServedBy (SaysRight D.BlockStore H.BlockStore hub.new.1 image hub.old.0.offer) hub.old.0.offer
+        (record { reader = R.remaining reader.old; reader' = R.remaining reader.new; writer = W.contents writer.old; writer' = W.contents writer.new }) limit result }
+    // Where the stores hold an image, each verdict is exact.
+    ensures exact { (image : List (List ℕ)) → HoldsFor D.BlockStore H.BlockStore hub.old.1 image → ServedBy (SaysExact D.BlockStore H.BlockStore hub.old.1 hub.new.1 image hub.old.0.offer) hub.old.0.offer
+        (record { reader = R.remaining reader.old; reader' = R.remaining reader.new; writer = W.contents writer.old; writer' = W.contents writer.new }) limit result }
     // No session came about.
     ensures full { (result ≡ Err (ServeFault.Hub HubFault.Full)) ↔ (max_open ≤ length hub.old.0.sessions) }
     ensures spent { (result ≡ Err (ServeFault.Hub HubFault.Spent)) ↔ ((length hub.old.0.sessions < max_open) × (max_opened ≤ hub.old.0.next)) }
@@ -204,5 +55,7 @@ pub fn serve_stream<D: BlockStore, H: BlockStore, A: Allocator + Copy + Drop, R:
     ensures after { ((fault : HubFault) → IsErrOf result (ServeFault.Hub fault) → ⊥) → (history : List Step) → IsAfter (facts_of D.BlockStore H.BlockStore hub.old.1) hub.old.0 history
         → ServedAfter (facts_of D.BlockStore H.BlockStore hub.new.1) hub.new.0 history hub.old.0.next }
 {
-    serve(&mut hub.sessions, reader, writer, limit)
+    let result = serve(&mut hub.sessions, reader, writer, limit);
+    hub.sessions.export().check();
+    result
 }

@@ -1,0 +1,7 @@
+pub mod Lookup
+pub mod Snoc
+pub mod Steps
+pub mod Outcomes
+pub mod Runs
+pub mod Turns
+pub mod Weaker

@@ -1,0 +1,26 @@
+use Rattle.std.proofs.Common.{◌≡◌, ◌≤◌, List, ℕ, Some, length, false}
+use Rattle.nbd_session.specs.Export.{Keeps}
+use Rattle.nbd_session.specs.Session.{State, IsAt, Talked}
+use Rattle.nbd_hub.specs.History.{Step}
+use Rattle.nbd_hub.specs.Sessions.{SetsOnly}
+use Rattle.nbd_hub.specs.After.{IsAfter}
+use Rattle.nbd_hub.specs.Stream.{Moved, HasEnded, TurnedAfter}
+use Rattle.nbd_hub.proofs.stream.turns.Given as goal
+
+abbrev pub invariant-loop-turn : goal.invariant-loop-turn
+invariant-loop-turn g l =
+    let facts = g.E.Export.facts in
+    record {
+      offer : l.hub.0.offer ≡ l.fn.hub.0.offer;
+      keeps : Keeps (facts l.fn.hub.1) (facts l.hub.1);
+      later : g.E.Export.later l.fn.hub.1 l.hub.1;
+      next : l.hub.0.next ≡ l.fn.hub.0.next;
+      count : length l.hub.0.sessions ≡ length l.fn.hub.0.sessions;
+      after : (history : List Step) → IsAfter (facts l.fn.hub.1) l.fn.hub.0 history → TurnedAfter (facts l.hub.1) l.hub.0 history l.id;
+      ran : (input : List ℕ) × (said : List ℕ) × (session : State)
+        × Moved (record { reader = g.R.Read.remaining l.fn.reader; reader' = g.R.Read.remaining l.reader; writer = g.W.Write.contents l.fn.writer; writer' = g.W.Write.contents l.writer }) input said
+        × Talked (facts l.fn.hub.1) (facts l.hub.1) l.fn.hub.0.offer input said
+        × IsAt session input × (session.starved ≡ false) × (session.offer ≡ l.fn.hub.0.offer)
+        × SetsOnly l.fn.hub.0.sessions l.hub.0.sessions l.id (Some session)
+        × (l.turn ≤ length input) × (HasEnded l.fn.hub.0.offer input → ⊥)
+    }

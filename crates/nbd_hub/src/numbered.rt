@@ -1,0 +1,67 @@
+//! A session and its number.
+
+ghost use Rattle.std.specs.Prelude.{◌≡◌, MatchOption, None};
+ghost use Rattle.nbd_session.specs.Session.{Feeds};
+ghost use Rattle.nbd_hub.specs.Sessions.{Place, lookup};
+
+use nbd_session::{Export, Session, Status};
+use std::alloc::{Allocator, Global};
+use std::marker::Model;
+
+/// An open session and its number. Contracts see the two.
+#[derive(Drop)]
+pub struct Numbered<A: Allocator = Global> {
+    number: u64,
+    session: Session<A>,
+}
+
+impl<A: Allocator> Model for Numbered<A> {
+    ghost use Rattle.nbd_hub.specs.Sessions.{Entry};
+
+    ghost Value = { Entry };
+
+    ghost view = { λ one. record { number = one.number; session = one.session } };
+}
+
+impl<A: Allocator> Numbered<A> {
+    /// Numbers a session.
+    pub fn new(number: u64, session: Session<A>) -> Numbered<A>
+        ensures { result ≡ record { number = number; session = session } }
+    {
+        Numbered { number, session }
+    }
+
+    /// The number.
+    pub fn number(&self) -> u64
+        ensures { result ≡ self.now.number }
+    {
+        self.number
+    }
+
+    /// Feeds the session a piece.
+    pub fn feed<E: Export, O: Allocator>(
+        &mut self,
+        piece: &[u8],
+        export: &mut E,
+        out: &mut Vec<u8, O>,
+    ) -> Status
+        requires { self.old.session.offer.size ≡ (E.facts export.old).size }
+        ensures number { self.new.number ≡ self.old.number }
+        ensures later { E.later export.old export.new }
+        ensures feeds { Feeds (E.facts export.old) (E.facts export.new) self.old.session self.new.session piece.now out.old.items out.new.items result }
+    {
+        self.session.feed(piece, export, out)
+    }
+}
+
+/// The place of the session of this number.
+pub fn find<A: Allocator>(sessions: &[Numbered<A>], id: u64) -> Option<usize>
+    ensures { MatchOption result (lookup id sessions.now ≡ None) (Place id sessions.now) }
+{
+    for (i, one) in sessions.iter().enumerate() {
+        if one.number() == id {
+            return Some(i);
+        }
+    }
+    None
+}
