@@ -1,8 +1,7 @@
 -- Sessions by number, when the list changes.
-use Rattle.std.proofs.Common.{◌≡◌, ◌≢◌, ◌<◌, ◌≤◌, ◌+◌, ℕ, zero, suc, false, true, Bool, nat_eq, if◌then◌else◌, cond, List, [], ◌∷◌, ◌++◌, Option, Some, None, length, get_or, set, take, drop, inl, inr, refl, sym, ap, ◌∙◌, subst, arith, eq-eqb}
+use Rattle.std.proofs.Common.{◌≡◌, ◌<◌, ◌≤◌, ◌+◌, ℕ, zero, suc, false, nat_eq, if◌then◌else◌, List, [], ◌∷◌, ◌++◌, Some, None, length, get_or, set, inl, inr, refl, sym, ap, ◌∙◌, subst, arith, eq-eqb}
 use Rattle.std.specs.List.{remove}
-use Rattle.std.proofs.lemmas.Bool.{ne_eqb, eqb-true, eqb-false, cases_eq, cond-true, cond-false}
-use Rattle.nbd_session.specs.Session.{State}
+use Rattle.std.proofs.lemmas.Bool.{ne_eqb, cases_eq}
 use Rattle.nbd_session.specs.declared.offer.Offer.{Offer}
 use Rattle.nbd_hub.specs.Sessions.{Entry, lookup, Place, Passed, Rising, AllOffer}
 
@@ -40,13 +39,13 @@ pub lookup-set : (k : ℕ) (ns : List Entry) (i : ℕ) (x : Entry) → Place k n
 lookup-set k [] i x p e j = absurd p
 lookup-set k (n ∷ ns) zero x p e j =
     elim (cases_eq j k) [
-      inl h ↦ rw (eq-eqb j k h, eq-eqb x.number j (e ∙ sym h)) refl
-    | inr h ↦ rw (ne_eqb j k h, ne_eqb x.number j (λ q. h (sym q ∙ e)), ne_eqb n.number j (λ q. h (sym q ∙ p))) refl
+      | inl h ↦ rw (eq-eqb j k h, eq-eqb x.number j (e ∙ sym h)) refl
+      | inr h ↦ rw (ne_eqb j k h, ne_eqb x.number j (λ q. h (sym q ∙ e)), ne_eqb n.number j (λ q. h (sym q ∙ p))) refl
     ]
 lookup-set k (n ∷ ns) (suc i) x p e j =
     elim (cases_eq n.number j) [
-      inl h ↦ let f : nat_eq j k ≡ false = ap (λ m. nat_eq m k) (sym h) ∙ p.0 in rw (f, eq-eqb n.number j h) refl
-    | inr h ↦ rw (ne_eqb n.number j h) (lookup-set k ns i x p.1 e j)
+      | inl h ↦ let f : nat_eq j k ≡ false = ap (λ m. nat_eq m k) (sym h) ∙ p.0 in rw (f, eq-eqb n.number j h) refl
+      | inr h ↦ rw (ne_eqb n.number j h) (lookup-set k ns i x p.1 e j)
     ]
 
 pub Rising-le : (low : ℕ) (ns : List Entry) (next : ℕ) → Rising low ns next → low ≤ next
@@ -69,36 +68,36 @@ pub lookup-remove : (k low : ℕ) (ns : List Entry) (next i : ℕ) → Rising lo
 lookup-remove k low [] next i r p j = absurd p
 lookup-remove k low (n ∷ ns) next zero r p j =
     elim (cases_eq j k) [
-      inl h ↦ rw (eq-eqb j k h) (lookup-below (suc n.number) ns next j r.1 (omega arith))
-    | inr h ↦ rw (ne_eqb j k h, ne_eqb n.number j (λ q. h (sym q ∙ p))) refl
+      | inl h ↦ rw (eq-eqb j k h) (lookup-below (suc n.number) ns next j r.1 (omega arith))
+      | inr h ↦ rw (ne_eqb j k h, ne_eqb n.number j (λ q. h (sym q ∙ p))) refl
     ]
 lookup-remove k low (n ∷ ns) next (suc i) r p j =
     elim (cases_eq n.number j) [
-      inl h ↦ let f : nat_eq j k ≡ false = ap (λ m. nat_eq m k) (sym h) ∙ p.0 in rw (f, eq-eqb n.number j h) refl
-    | inr h ↦ rw (ne_eqb n.number j h) (lookup-remove k (suc n.number) ns next i r.1 p.1 j)
+      | inl h ↦ let f : nat_eq j k ≡ false = ap (λ m. nat_eq m k) (sym h) ∙ p.0 in rw (f, eq-eqb n.number j h) refl
+      | inr h ↦ rw (ne_eqb n.number j h) (lookup-remove k (suc n.number) ns next i r.1 p.1 j)
     ]
 
 lookup-push-new : (ns : List Entry) (x : Entry) (j : ℕ) → lookup j ns ≡ None → x.number ≡ j → lookup j (ns ++ x ∷ []) ≡ Some x.session
 lookup-push-new [] x j l e = rw (eq-eqb x.number j e) refl
 lookup-push-new (n ∷ ns) x j l e =
     elim (cases_eq n.number j) [
-      inl h ↦ let f = rw (eq-eqb n.number j h) at l in absurd (let q : ⊥ = cc in q)
-    | inr h ↦ let f = rw (ne_eqb n.number j h) at l in rw (ne_eqb n.number j h) (lookup-push-new ns x j f e)
+      | inl h ↦ let f = rw (eq-eqb n.number j h) at l in absurd (let q : ⊥ = cc in q)
+      | inr h ↦ let f = rw (ne_eqb n.number j h) at l in rw (ne_eqb n.number j h) (lookup-push-new ns x j f e)
     ]
 
 lookup-push-other : (ns : List Entry) (x : Entry) (j : ℕ) → (x.number ≡ j → ⊥) → lookup j (ns ++ x ∷ []) ≡ lookup j ns
 lookup-push-other [] x j e = rw (ne_eqb x.number j e) refl
 lookup-push-other (n ∷ ns) x j e =
     elim (cases_eq n.number j) [
-      inl h ↦ rw (eq-eqb n.number j h) refl
-    | inr h ↦ rw (ne_eqb n.number j h) (lookup-push-other ns x j e)
+      | inl h ↦ rw (eq-eqb n.number j h) refl
+      | inr h ↦ rw (ne_eqb n.number j h) (lookup-push-other ns x j e)
     ]
 
 pub lookup-push : (low : ℕ) (ns : List Entry) (next : ℕ) (x : Entry) → Rising low ns next → x.number ≡ next → (j : ℕ) → lookup j (ns ++ x ∷ []) ≡ (if nat_eq j next then Some x.session else lookup j ns)
 lookup-push low ns next x r e j =
     elim (cases_eq j next) [
-      inl h ↦ rw (eq-eqb j next h) (lookup-push-new ns x j (lookup-above low ns next j r (omega arith)) (e ∙ sym h))
-    | inr h ↦ rw (ne_eqb j next h) (lookup-push-other ns x j (λ q. h (sym q ∙ e)))
+      | inl h ↦ rw (eq-eqb j next h) (lookup-push-new ns x j (lookup-above low ns next j r (omega arith)) (e ∙ sym h))
+      | inr h ↦ rw (ne_eqb j next h) (lookup-push-other ns x j (λ q. h (sym q ∙ e)))
     ]
 
 pub Rising-push : (low : ℕ) (ns : List Entry) (next : ℕ) (x : Entry) → Rising low ns next → x.number ≡ next → Rising low (ns ++ x ∷ []) (next + 1)

@@ -1,5 +1,5 @@
 -- A hub after one more step, by what was done.
-use Rattle.std.proofs.Common.{◌≡◌, ◌≢◌, ◌↔◌, ◌⊎◌, ◌<◌, ◌≤◌, ◌+◌, ◌-◌, ℕ, zero, suc, false, true, Bool, nat_eq, if◌then◌else◌, List, [], ◌∷◌, ◌++◌, Option, Some, None, length, inl, inr, refl, sym, ap, ◌∙◌, subst, arith, eq-eqb, append-nil}
+use Rattle.std.proofs.Common.{◌≡◌, ◌↔◌, ◌⊎◌, ◌<◌, ◌+◌, ℕ, false, true, nat_eq, List, [], ◌∷◌, ◌++◌, Option, Some, None, length, inl, inr, refl, sym, ◌∙◌, subst, arith, eq-eqb, append-nil}
 use Rattle.std.proofs.lemmas.Bool.{cases_Bool, cases_eq, ne_eqb}
 use Rattle.nbd_session.specs.declared.status.Status.{Status}
 use Rattle.nbd_session.specs.declared.status.Status.TheVariants as status
@@ -8,14 +8,14 @@ use Rattle.nbd_session.specs.declared.phase.Phase.TheVariants as phase
 use Rattle.nbd_session.specs.declared.offer.Offer.{Offer}
 use Rattle.nbd_session.specs.Handshake.{greeting}
 use Rattle.nbd_session.specs.Talk.{hear, replies}
-use Rattle.nbd_session.specs.Session.{State, IsAt, TalksOn, Feeds, added}
+use Rattle.nbd_session.specs.Session.{State, IsAt, TalksOn, added}
 use Rattle.nbd_session.specs.Export.{Facts, Keeps}
 use Rattle.nbd_session.proofs.Moving.{Keeps-refl}
-use Rattle.nbd_hub.specs.History.{Step, Opening, Feeding, Ending, Refusal, Taken, Nothing, Takes, Starves, taken_by, taken, own, starved, said, opened, closed, ends, open_count, IsOpen}
+use Rattle.nbd_hub.specs.History.{Step, Opening, Feeding, Ending, Refusal, Nothing, Takes, taken_by, taken, own, starved, said, opened, closed, ends, open_count, IsOpen}
 use Rattle.nbd_hub.specs.Sessions.{HubState, lookup, SetsOnly, OpensOne, FeedsOne, EndsOne}
-use Rattle.nbd_hub.specs.After.{Given, IsTold, IsStatus, Stands, IsFresh, IsAfter, OpenedAfter, FedAfter, EndedAfter}
+use Rattle.nbd_hub.specs.After.{IsStatus, Stands, IsAfter, OpenedAfter, FedAfter, EndedAfter}
 use Rattle.nbd_hub.proofs.Snoc.{opened-append, closed-append}
-use Rattle.nbd_hub.proofs.Steps.{Same, same, Knows, knows, knows_same, knows_starved, knows_fed, knows_opened, knows_ended}
+use Rattle.nbd_hub.proofs.Steps.{same, Knows, knows, knows_same, knows_starved, knows_fed, knows_opened, knows_ended}
 
 pub keeps_at : {X : Type 0} (facts : X → Facts) (x y : X) → x ≡ y → Keeps (facts x) (facts y)
 keeps_at {X} facts x y e = let P : X → Type 0 = λ z. Keeps (facts x) (facts z) in subst P e (Keeps-refl (facts x))
@@ -47,7 +47,7 @@ after_refused a hub h x =
     let p = x.next in
     let q = x.count in
     together a hub.offer hub (h ++ Refusal ∷ []) refl (omega arith) (omega arith)
-      (λ k. other a a hub.offer h Refusal k (lookup k hub.sessions) (lookup k hub.sessions) (Keeps-refl a) refl refl refl (λ y. omega arith) refl (knows a hub h x k))
+    (λ k. other a a hub.offer h Refusal k (lookup k hub.sessions) (lookup k hub.sessions) (Keeps-refl a) refl refl refl (λ y. omega arith) refl (knows a hub h x k))
 
 -- whose session is looked up is open
 open_at : (a : Facts) (hub : HubState) (h : List Step) (id : ℕ) (s : State) → IsAfter a hub h → lookup id hub.sessions ≡ Some s → Stands h id (Some s)
@@ -73,16 +73,19 @@ after_opened a b hub hub' h id keeps o x =
     let i = o.number in
     let c = o.count in
     let P : (k : ℕ) → Option State → Type 0 = λ k y. Knows b hub.offer (h ++ s ∷ []) k y in
-    record { number = omega arith; after = together b hub.offer hub' (h ++ s ∷ []) o.offer (omega arith) (omega arith)
-      (λ k. elim (cases_eq k id) [
-          inl y ↦
-            let K : ℕ → Type 0 = λ j. Knows b hub.offer (h ++ s ∷ []) j (lookup j hub'.sessions) in
-            let z : lookup id hub'.sessions ≡ Some o.session = o.sets id ∙ rw (eq-eqb id id refl) refl in
-            subst K (sym y) (subst (P id) (sym z) (knows_opened b hub.offer h id o.session (lookup id hub.sessions) (omega arith) o.at o.awake (later a b hub.offer h id (lookup id hub.sessions) keeps (knows a hub h x id))))
-        | inr y ↦
-            let z : lookup k hub'.sessions ≡ lookup k hub.sessions = o.sets k ∙ rw (ne_eqb k id y) refl in
-            other a b hub.offer h s k (lookup k hub.sessions) (lookup k hub'.sessions) keeps refl (rw (ne_eqb id k (ne_sym k id y)) refl) refl (λ l. omega arith) z (knows a hub h x k)
-        ]) }
+    record {
+      number = omega arith;
+      after = together b hub.offer hub' (h ++ s ∷ []) o.offer (omega arith) (omega arith)
+          (λ k. elim (cases_eq k id) [
+            | inl y ↦
+                let K : ℕ → Type 0 = λ j. Knows b hub.offer (h ++ s ∷ []) j (lookup j hub'.sessions) in
+                let z : lookup id hub'.sessions ≡ Some o.session = o.sets id ∙ rw (eq-eqb id id refl) refl in
+                subst K (sym y) (subst (P id) (sym z) (knows_opened b hub.offer h id o.session (lookup id hub.sessions) (omega arith) o.at o.awake (later a b hub.offer h id (lookup id hub.sessions) keeps (knows a hub h x id))))
+            | inr y ↦
+                let z : lookup k hub'.sessions ≡ lookup k hub.sessions = o.sets k ∙ rw (ne_eqb k id y) refl in
+                other a b hub.offer h s k (lookup k hub.sessions) (lookup k hub'.sessions) keeps refl (rw (ne_eqb id k (ne_sym k id y)) refl) refl (λ l. omega arith) z (knows a hub h x k)
+          ]);
+    }
 
 pub after_ended : (a b : Facts) (hub hub' : HubState) (h : List Step) (id : ℕ) → Keeps a b → EndsOne hub hub' id → IsAfter a hub h → EndedAfter b hub' h id
 after_ended a b hub hub' h id keeps o x =
@@ -95,16 +98,19 @@ after_ended a b hub hub' h id keeps o x =
     let c = o.count in
     let st = open_at a hub h id o.session x o.found in
     let P : (k : ℕ) → Option State → Type 0 = λ k y. Knows b hub.offer (h ++ s ∷ []) k y in
-    record { was_open = st.0; after = together b hub.offer hub' (h ++ s ∷ []) o.offer (omega arith) (omega arith)
-      (λ k. elim (cases_eq k id) [
-          inl y ↦
-            let K : ℕ → Type 0 = λ j. Knows b hub.offer (h ++ s ∷ []) j (lookup j hub'.sessions) in
-            let z : lookup id hub'.sessions ≡ None = o.sets id ∙ rw (eq-eqb id id refl) refl in
-            subst K (sym y) (subst (P id) (sym z) (knows_ended b hub.offer h id (lookup id hub.sessions) st.0 (later a b hub.offer h id (lookup id hub.sessions) keeps (knows a hub h x id))))
-        | inr y ↦
-            let z : lookup k hub'.sessions ≡ lookup k hub.sessions = o.sets k ∙ rw (ne_eqb k id y) refl in
-            other a b hub.offer h s k (lookup k hub.sessions) (lookup k hub'.sessions) keeps refl refl (ne_eqb id k (ne_sym k id y)) (λ l. omega arith) z (knows a hub h x k)
-        ]) }
+    record {
+      was_open = st.0;
+      after = together b hub.offer hub' (h ++ s ∷ []) o.offer (omega arith) (omega arith)
+          (λ k. elim (cases_eq k id) [
+            | inl y ↦
+                let K : ℕ → Type 0 = λ j. Knows b hub.offer (h ++ s ∷ []) j (lookup j hub'.sessions) in
+                let z : lookup id hub'.sessions ≡ None = o.sets id ∙ rw (eq-eqb id id refl) refl in
+                subst K (sym y) (subst (P id) (sym z) (knows_ended b hub.offer h id (lookup id hub.sessions) st.0 (later a b hub.offer h id (lookup id hub.sessions) keeps (knows a hub h x id))))
+            | inr y ↦
+                let z : lookup k hub'.sessions ≡ lookup k hub.sessions = o.sets k ∙ rw (ne_eqb k id y) refl in
+                other a b hub.offer h s k (lookup k hub.sessions) (lookup k hub'.sessions) keeps refl refl (ne_eqb id k (ne_sym k id y)) (λ l. omega arith) z (knows a hub h x k)
+          ]);
+    }
 
 fed_other : (a b : Facts) (hub hub' : HubState) (h : List Step) (id : ℕ) (piece bytes : List ℕ) (st : Status) (after : State) → Keeps a b → hub'.offer ≡ hub.offer
     → hub'.next ≡ hub.next → length hub'.sessions ≡ length hub.sessions → SetsOnly hub.sessions hub'.sessions id (Some after) → IsAfter a hub h
@@ -118,16 +124,16 @@ fed_other a b hub hub' h id piece bytes st after keeps o n c sets x know =
     let q = x.count in
     let P : (k : ℕ) → Option State → Type 0 = λ k y. Knows b hub.offer (h ++ s ∷ []) k y in
     together b hub.offer hub' (h ++ s ∷ []) o (omega arith) (omega arith)
-      (λ k. elim (cases_eq k id) [
-          inl y ↦
-            let K : ℕ → Type 0 = λ j. Knows b hub.offer (h ++ s ∷ []) j (lookup j hub'.sessions) in
-            let z : lookup id hub'.sessions ≡ Some after = sets id ∙ rw (eq-eqb id id refl) refl in
-            subst K (sym y) (subst (P id) (sym z) know)
-        | inr y ↦
-            let z : lookup k hub'.sessions ≡ lookup k hub.sessions = sets k ∙ rw (ne_eqb k id y) refl in
-            let f : nat_eq id k ≡ false = ne_eqb id k (ne_sym k id y) in
-            other a b hub.offer h s k (lookup k hub.sessions) (lookup k hub'.sessions) keeps (rw f refl) (rw f refl) refl (λ l. omega arith) z (knows a hub h x k)
-        ])
+    (λ k. elim (cases_eq k id) [
+      | inl y ↦
+          let K : ℕ → Type 0 = λ j. Knows b hub.offer (h ++ s ∷ []) j (lookup j hub'.sessions) in
+          let z : lookup id hub'.sessions ≡ Some after = sets id ∙ rw (eq-eqb id id refl) refl in
+          subst K (sym y) (subst (P id) (sym z) know)
+      | inr y ↦
+          let z : lookup k hub'.sessions ≡ lookup k hub.sessions = sets k ∙ rw (ne_eqb k id y) refl in
+          let f : nat_eq id k ≡ false = ne_eqb id k (ne_sym k id y) in
+          other a b hub.offer h s k (lookup k hub.sessions) (lookup k hub'.sessions) keeps (rw f refl) (rw f refl) refl (λ l. omega arith) z (knows a hub h x k)
+    ])
 
 takes : (s : Status) (piece : List ℕ) → (s ≡ status.Starved → ⊥) → taken_by s piece ≡ Takes piece
 takes status.Open piece h = refl
@@ -159,25 +165,33 @@ after_fed a b hub hub' h id piece out out' s o x =
     let know = subst W o.found (knows a hub h x id) in
     let O : Offer → Type 0 = λ y. (bytes : List ℕ) × (out' ≡ out ++ bytes) × IsOpen h id × IsStatus y (h ++ Feeding id piece s bytes ∷ []) id s × IsAfter b hub' (h ++ Feeding id piece s bytes ∷ []) in
     let r = subst O (sym o.offer) (elim (cases_starved s) [
-      inl y ↦
-        let S : Status → Type 0 = λ z. Knows b hub.offer (h ++ Feeding id piece z [] ∷ []) id (Some o.after) in
-        let k = knows_starved a b hub.offer h id piece [] o.before o.after f.keeps refl (f.starved y).1 (f.stays y) know in
-        let D : Status → Type 0 = λ z. starved (h ++ Feeding id piece z [] ∷ []) id ≡ true in
-        let d : starved (h ++ Feeding id piece s [] ∷ []) id ≡ true = subst D (sym y) k.1 in
-        ([], (f.starved y).0 ∙ sym (append-nil out), st.0, record { starved = ((λ z. d), λ z. y); ended = λ z. absurd (z y) },
-         fed_other a b hub hub' h id piece [] s o.after f.keeps o.offer o.next o.count o.sets x (subst S (sym y) k.0))
-    | inr y ↦
-        let awake_before : o.before.starved ≡ false = elim (cases_Bool o.before.starved) [ inl z ↦ absurd (y (f.for_good z)) | inr z ↦ z ] in
-        let awake : starved h id ≡ false = sym st.1 ∙ awake_before in
-        let input = own h id in
-        let at = f.at y input st.2 in
-        let t = from_none a b o.before.offer hub.offer input piece out out' o.offers (f.talks y input st.2) in
-        let k = knows_fed a b hub.offer h id piece t.0 s o.before o.after f.keeps (takes s piece y) awake (f.awake y) at t.2 know in
-        let e : Step = Feeding id piece s t.0 in
-        let P : List ℕ → Type 0 = λ z. IsAt o.after z in
-        let ph : o.after.phase ≡ (hear hub.offer phase.Flags (own (h ++ e ∷ []) id)).phase = phase_is hub.offer o.after (own (h ++ e ∷ []) id) (f.offer ∙ o.offers) (f.awake y) (subst P (sym k.1) at) in
-        let E : Phase → Type 0 = λ z. (s ≡ status.Ended) ↔ (z ≡ phase.Ended) in
-        (t.0, t.1, st.0, record { starved = ((λ z. absurd (y z)), λ z. absurd (let q : true ≡ false = sym z ∙ k.2 in let w : ⊥ = cc in w)); ended = λ z. subst E ph (f.ended y) },
-         fed_other a b hub hub' h id piece t.0 s o.after f.keeps o.offer o.next o.count o.sets x k.0)
+      | inl y ↦
+          let S : Status → Type 0 = λ z. Knows b hub.offer (h ++ Feeding id piece z [] ∷ []) id (Some o.after) in
+          let k = knows_starved a b hub.offer h id piece [] o.before o.after f.keeps refl (f.starved y).1 (f.stays y) know in
+          let D : Status → Type 0 = λ z. starved (h ++ Feeding id piece z [] ∷ []) id ≡ true in
+          let d : starved (h ++ Feeding id piece s [] ∷ []) id ≡ true = subst D (sym y) k.1 in (
+            [],
+            (f.starved y).0 ∙ sym (append-nil out),
+            st.0,
+            record { starved = ((λ z. d), λ z. y); ended = λ z. absurd (z y) },
+            fed_other a b hub hub' h id piece [] s o.after f.keeps o.offer o.next o.count o.sets x (subst S (sym y) k.0),
+          )
+      | inr y ↦
+          let awake_before : o.before.starved ≡ false = elim (cases_Bool o.before.starved) [ inl z ↦ absurd (y (f.for_good z)) | inr z ↦ z ] in
+          let awake : starved h id ≡ false = sym st.1 ∙ awake_before in
+          let input = own h id in
+          let at = f.at y input st.2 in
+          let t = from_none a b o.before.offer hub.offer input piece out out' o.offers (f.talks y input st.2) in
+          let k = knows_fed a b hub.offer h id piece t.0 s o.before o.after f.keeps (takes s piece y) awake (f.awake y) at t.2 know in
+          let e : Step = Feeding id piece s t.0 in
+          let P : List ℕ → Type 0 = λ z. IsAt o.after z in
+          let ph : o.after.phase ≡ (hear hub.offer phase.Flags (own (h ++ e ∷ []) id)).phase = phase_is hub.offer o.after (own (h ++ e ∷ []) id) (f.offer ∙ o.offers) (f.awake y) (subst P (sym k.1) at) in
+          let E : Phase → Type 0 = λ z. (s ≡ status.Ended) ↔ (z ≡ phase.Ended) in (
+            t.0,
+            t.1,
+            st.0,
+            record { starved = ((λ z. absurd (y z)), λ z. absurd (let q : true ≡ false = sym z ∙ k.2 in let w : ⊥ = cc in w)); ended = λ z. subst E ph (f.ended y) },
+            fed_other a b hub hub' h id piece t.0 s o.after f.keeps o.offer o.next o.count o.sets x k.0,
+          )
     ]) in
     record { said = r.0; appends = r.1; was_open = r.2; stands = r.3; after = r.4 }

@@ -1,10 +1,9 @@
 -- A list of events, as its replies grow at the end.
-use Rattle.std.proofs.Common.{◌≡◌, ◌<◌, ◌≤◌, ◌+◌, ℕ, zero, suc, List, [], ◌∷◌, ◌++◌, Some, None, length, get_or, refl, sym, ap, ◌∙◌, subst, arith, append_assoc, append-nil}
+use Rattle.std.proofs.Common.{◌≡◌, ◌<◌, ℕ, List, [], ◌∷◌, ◌++◌, length, get_or, refl, sym, ap, ◌∙◌, subst, arith, append_assoc, append-nil}
 use Rattle.nbd_session.specs.declared.offer.Offer.{Offer}
 use Rattle.nbd_session.specs.declared.phase.Phase.TheVariants as phase
 use Rattle.nbd_session.specs.declared.status.Status.{Status}
-use Rattle.nbd_session.specs.Handshake.{greeting}
-use Rattle.nbd_session.specs.Talk.{hear, Verdict, Judged}
+use Rattle.nbd_session.specs.Talk.{hear, Verdict}
 use Rattle.nbd_session.specs.Export.{Facts, Keeps}
 use Rattle.nbd_session.proofs.Hearing.{Judged-weaker}
 use Rattle.nbd_hub.specs.declared.events.Event.{Event}
@@ -12,14 +11,13 @@ use Rattle.nbd_hub.specs.declared.events.Event.TheVariants as event
 use Rattle.nbd_hub.specs.declared.events.HubReply.{HubReply}
 use Rattle.nbd_hub.specs.declared.events.HubReply.TheVariants as reply
 use Rattle.nbd_hub.specs.declared.fault.HubFault.{HubFault}
-use Rattle.nbd_hub.specs.declared.fault.HubFault.TheVariants as fault
-use Rattle.nbd_hub.specs.History.{Step, Opening, Feeding, Ending, Refusal, step_of, steps, own, opened, open_count, IsOpen}
+use Rattle.nbd_hub.specs.History.{Step, Feeding, Refusal, step_of, steps, own, opened}
 use Rattle.nbd_hub.specs.Sessions.{HubState}
-use Rattle.nbd_hub.specs.After.{Given, IsTold, IsAfter, Replies, EachAfter, OpenedAfter, FedAfter, EndedAfter}
+use Rattle.nbd_hub.specs.After.{Given, IsTold, IsAfter, Replies, EachAfter, FedAfter}
 use Rattle.nbd_hub.proofs.Steps.{Given-later}
-use Rattle.nbd_hub.proofs.Outcomes.{after_refused, not_open, how_many}
+use Rattle.nbd_hub.proofs.Outcomes.{after_refused}
 
-told_weaker : (P Q : ℕ → ℕ → Verdict → Type 0) (offer : Offer) (h : List Step) (k : ℕ) → ((o l : ℕ) (v : Verdict) → P o l v → Q o l v) → IsTold P offer h k → IsTold Q offer h k
+pub told_weaker : (P Q : ℕ → ℕ → Verdict → Type 0) (offer : Offer) (h : List Step) (k : ℕ) → ((o l : ℕ) (v : Verdict) → P o l v → Q o l v) → IsTold P offer h k → IsTold Q offer h k
 told_weaker P Q offer h k f t = record { verdicts = t.verdicts; judged = Judged-weaker P Q (hear offer phase.Flags (own h k)).answers t.verdicts f t.judged; exact = t.exact }
 
 -- what follows from the verdicts' fact follows of each
@@ -73,9 +71,10 @@ ran_on a b offer hub hub' h events replies e r keeps o o' l is x p q =
     let now = q g x.1 in
     let R : Offer → Type 0 = λ z. Replies z g e r in
     let T : Offer → Type 0 = λ z. AllTold (Given b) z (g ++ step_of e r ∷ []) in
-    let I : List Step → Type 0 = λ z. IsAfter b hub' z in
-    (each_at (Given b) offer h events replies e r l is (each_later a b offer h events replies keeps x.0) (subst R o (p g x.1)) (subst T (o' ∙ o) now.told),
-     subst I (append_assoc h (steps events replies) (step_of e r ∷ []) ∙ ap (λ z. h ++ z) (sym (steps_at events replies e r l is))) now)
+    let I : List Step → Type 0 = λ z. IsAfter b hub' z in (
+      each_at (Given b) offer h events replies e r l is (each_later a b offer h events replies keeps x.0) (subst R o (p g x.1)) (subst T (o' ∙ o) now.told),
+      subst I (append_assoc h (steps events replies) (step_of e r ∷ []) ∙ ap (λ z. h ++ z) (sym (steps_at events replies e r l is))) now,
+    )
 
 -- one event, by its outcome
 

@@ -1,5 +1,5 @@
 -- One more step at the end of a history.
-use Rattle.std.proofs.Common.{◌≡◌, ◌+◌, ℕ, zero, suc, false, true, Bool, ◌||◌, nat_eq, if◌then◌else◌, List, [], ◌∷◌, ◌++◌, refl, sym, ap, ◌∙◌, arith, append_assoc, append-nil}
+use Rattle.std.proofs.Common.{◌≡◌, ◌+◌, ℕ, false, true, Bool, ◌||◌, List, [], ◌∷◌, ◌++◌, refl, sym, ap, ◌∙◌, arith, append_assoc, append-nil}
 use Rattle.nbd_hub.specs.History.{Step, Opening, Feeding, Ending, Refusal, Taken, Nothing, Takes, Starves, taken, goes_on, own, is_starves, starved, said, output, opens, opened, closes, closed, ends, ended}
 
 -- the piece that is taken

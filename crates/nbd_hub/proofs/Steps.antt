@@ -1,6 +1,6 @@
 -- What stays true of one session when a history goes on by one step.
-use Rattle.std.proofs.Common.{◌≡◌, ◌≢◌, ◌↔◌, ◌<◌, ◌≤◌, ◌+◌, ℕ, zero, suc, false, true, Bool, ◌||◌, nat_eq, if◌then◌else◌, List, [], ◌∷◌, ◌++◌, Option, Some, None, length, inl, inr, refl, sym, ap, ◌∙◌, subst, arith, append-nil, eq-eqb}
-use Rattle.std.proofs.lemmas.Bool.{cases_Bool, cases_eq, cases_lt, ne_eqb}
+use Rattle.std.proofs.Common.{◌≡◌, ◌<◌, ◌≤◌, ◌+◌, ℕ, false, true, ◌||◌, List, [], ◌∷◌, ◌++◌, Option, Some, None, inl, inr, refl, sym, ap, ◌∙◌, subst, arith, append-nil, eq-eqb}
+use Rattle.std.proofs.lemmas.Bool.{cases_Bool, cases_lt}
 use Rattle.nbd_session.specs.declared.status.Status.{Status}
 use Rattle.nbd_session.specs.declared.status.Status.TheVariants as status
 use Rattle.nbd_session.specs.declared.phase.Phase.TheVariants as phase
@@ -11,10 +11,10 @@ use Rattle.nbd_session.specs.Session.{State, IsAt, TalksOn, added}
 use Rattle.nbd_session.specs.Export.{Facts, Keeps, Fair}
 use Rattle.nbd_session.proofs.Hearing.{hear-append, Judged-append, Judged-weaker, talk-append}
 use Rattle.nbd_session.proofs.Moving.{Keeps-refl}
-use Rattle.nbd_hub.specs.History.{Step, Opening, Feeding, Ending, Refusal, Taken, Nothing, Takes, Starves, taken_by, taken, own, is_starves, starved, said, output, opened, closed, ends, ended, IsOpen}
+use Rattle.nbd_hub.specs.History.{Step, Opening, Feeding, Ending, Nothing, Takes, Starves, taken_by, taken, own, is_starves, starved, said, output, opened, ends, ended, IsOpen}
 use Rattle.nbd_hub.specs.Sessions.{HubState, lookup}
-use Rattle.nbd_hub.specs.After.{Given, IsTold, IsStatus, Stands, IsFresh, IsAfter}
-use Rattle.nbd_hub.proofs.Snoc.{piece_of, own-awake, own-starved, starved-snoc, ended-snoc, output-snoc, opened-append, closed-append, or_false, or_true}
+use Rattle.nbd_hub.specs.After.{Given, IsTold, Stands, IsFresh, IsAfter}
+use Rattle.nbd_hub.proofs.Snoc.{piece_of, own-awake, own-starved, starved-snoc, ended-snoc, output-snoc, opened-append, or_false, or_true}
 
 pub Given-later : (a b : Facts) → Keeps a b → (o l : ℕ) (v : Verdict) → Given a o l v → Given b o l v
 Given-later a b k o l (Bytes bytes) f = (f.0, k.serve o bytes f.1)
@@ -36,9 +36,9 @@ pub record Same (h h' : List Step) (k : ℕ) : Type 0 where
 pub same : (h : List Step) (s : Step) (k : ℕ) → taken s k ≡ Nothing → said s k ≡ [] → ends s k ≡ false → Same h (h ++ s ∷ []) k
 same h s k t o n = record {
   own_is = elim (cases_Bool (starved h k)) [
-      inl x ↦ own-starved h s k x
+    | inl x ↦ own-starved h s k x
     | inr x ↦ own-awake h s k x ∙ ap (λ x. own h k ++ piece_of x) t ∙ append-nil (own h k)
-    ];
+  ];
   output_is = output-snoc h s k ∙ ap (λ x. output h k ++ x) o ∙ append-nil (output h k);
   starved_is = starved-snoc h s k ∙ ap (λ x. starved h k || is_starves x) t ∙ or_false (starved h k);
   ended_is = ended-snoc h s k ∙ ap (λ x. ended h k || x) n ∙ or_false (ended h k);
@@ -77,9 +77,9 @@ knows_same a b offer h h' k o keeps s f g x = record {
   stands = stands_same h h' k o s f g x.stands;
   told = λ y. told_same a b offer h h' k keeps s.own_is s.output_is (x.told (f y));
   fresh = λ y.
-    let q : opened h ≤ k = first_le (opened h) (opened h') k g y in
-    let n = x.fresh q in
-    record { own_none = s.own_is ∙ n.own_none; output_none = s.output_is ∙ n.output_none; awake = s.starved_is ∙ n.awake; lasts = s.ended_is ∙ n.lasts };
+      let q : opened h ≤ k = first_le (opened h) (opened h') k g y in
+      let n = x.fresh q in
+      record { own_none = s.own_is ∙ n.own_none; output_none = s.output_is ∙ n.output_none; awake = s.starved_is ∙ n.awake; lasts = s.ended_is ∙ n.lasts };
 }
 
 -- a piece that starves the session, or comes after one that did
@@ -92,20 +92,22 @@ knows_starved a b offer h id piece bytes before after keeps n s stays x =
     let t : taken e id ≡ Starves = rw (eq-eqb id id refl) refl in
     let o : said e id ≡ bytes = rw (eq-eqb id id refl) refl in
     let own_is : own (h ++ e ∷ []) id ≡ own h id = elim (cases_Bool (starved h id)) [
-        inl y ↦ own-starved h e id y
+      | inl y ↦ own-starved h e id y
       | inr y ↦ own-awake h e id y ∙ ap (λ z. own h id ++ piece_of z) t ∙ append-nil (own h id)
-      ] in
+    ] in
     let output_is : output (h ++ e ∷ []) id ≡ output h id = output-snoc h e id ∙ ap (λ z. output h id ++ z) (o ∙ n) ∙ append-nil (output h id) in
     let starved_is : starved (h ++ e ∷ []) id ≡ true = starved-snoc h e id ∙ ap (λ z. starved h id || is_starves z) t ∙ or_true (starved h id) in
     let ended_is : ended (h ++ e ∷ []) id ≡ ended h id = ended-snoc h e id ∙ or_false (ended h id) in
     let m : opened (h ++ e ∷ []) ≡ opened h + 0 = opened-append h (e ∷ []) in
     let w = x.stands.0.0 in
-    let P : List ℕ → Type 0 = λ y. IsAt after y in
-    (record {
-      stands = ((omega arith, ended_is ∙ x.stands.0.1), s ∙ sym starved_is, subst P (sym own_is) (stays (own h id) x.stands.2));
-      told = λ y. told_same a b offer h (h ++ e ∷ []) id keeps own_is output_is (x.told w);
-      fresh = λ y. absurd (omega arith);
-    }, starved_is)
+    let P : List ℕ → Type 0 = λ y. IsAt after y in (
+      record {
+        stands = ((omega arith, ended_is ∙ x.stands.0.1), s ∙ sym starved_is, subst P (sym own_is) (stays (own h id) x.stands.2));
+        told = λ y. told_same a b offer h (h ++ e ∷ []) id keeps own_is output_is (x.told w);
+        fresh = λ y. absurd (omega arith);
+      },
+      starved_is,
+    )
 
 -- a piece that an awake session takes in
 pub knows_fed : (a b : Facts) (offer : Offer) (h : List Step) (id : ℕ) (piece bytes : List ℕ) (s : Status) (before after : State) → Keeps a b
@@ -133,17 +135,20 @@ knows_fed a b offer h id piece bytes s before after keeps tk awake awake' at tal
     let J : Heard → Type 0 = λ y. Judged (Given b) y.answers vs in
     let K : List ℕ → Type 0 = λ y. Judged (Given b) (hear offer phase.Flags y).answers vs in
     let judged : Judged (Given b) (hear offer phase.Flags (input ++ piece)).answers vs =
-      subst J (sym (hear-append offer phase.Flags input piece)) (Judged-append (Given b) heard.answers more told.verdicts talks.verdicts
-        (Judged-weaker (Given a) (Given b) heard.answers told.verdicts (Given-later a b keeps) told.judged)
-        (Judged-weaker (Fair a b) (Given b) more talks.verdicts (Fair-Given a b) talks.judged)) in
+    subst J (sym (hear-append offer phase.Flags input piece)) (Judged-append (Given b) heard.answers more told.verdicts talks.verdicts
+    (Judged-weaker (Given a) (Given b) heard.answers told.verdicts (Given-later a b keeps) told.judged)
+    (Judged-weaker (Fair a b) (Given b) more talks.verdicts (Fair-Given a b) talks.judged)) in
     let exact : output h id ++ bytes ≡ talk offer (input ++ piece) vs =
-      ap (λ y. output h id ++ y) talks.exact ∙ ap (λ y. y ++ replies more talks.verdicts) told.exact
-      ∙ sym (talk-append (Given a) offer input piece told.verdicts talks.verdicts told.judged) in
-    (record {
-      stands = ((omega arith, ended_is ∙ x.stands.0.1), awake' ∙ sym starved_is, subst P (sym own_is) at);
-      told = λ y. record { verdicts = vs; judged = subst K (sym own_is) judged; exact = output_is ∙ exact ∙ ap (λ z. talk offer z vs) (sym own_is) };
-      fresh = λ y. absurd (omega arith);
-    }, own_is, starved_is)
+    ap (λ y. output h id ++ y) talks.exact ∙ ap (λ y. y ++ replies more talks.verdicts) told.exact
+    ∙ sym (talk-append (Given a) offer input piece told.verdicts talks.verdicts told.judged) in (
+      record {
+        stands = ((omega arith, ended_is ∙ x.stands.0.1), awake' ∙ sym starved_is, subst P (sym own_is) at);
+        told = λ y. record { verdicts = vs; judged = subst K (sym own_is) judged; exact = output_is ∙ exact ∙ ap (λ z. talk offer z vs) (sym own_is) };
+        fresh = λ y. absurd (omega arith);
+      },
+      own_is,
+      starved_is,
+    )
 
 -- the first bytes of a session
 pub knows_opened : (a : Facts) (offer : Offer) (h : List Step) (id : ℕ) (session : State) (o : Option State)
@@ -171,9 +176,9 @@ pub knows_ended : (a : Facts) (offer : Offer) (h : List Step) (id : ℕ) (o : Op
 knows_ended a offer h id o was x =
     let e : Step = Ending id in
     let own_is : own (h ++ e ∷ []) id ≡ own h id = elim (cases_Bool (starved h id)) [
-        inl y ↦ own-starved h e id y
+      | inl y ↦ own-starved h e id y
       | inr y ↦ own-awake h e id y ∙ append-nil (own h id)
-      ] in
+    ] in
     let output_is : output (h ++ e ∷ []) id ≡ output h id = output-snoc h e id ∙ append-nil (output h id) in
     let ended_is : ended (h ++ e ∷ []) id ≡ true = ended-snoc h e id ∙ ap (λ z. ended h id || z) (eq-eqb id id refl) ∙ or_true (ended h id) in
     let m : opened (h ++ e ∷ []) ≡ opened h + 0 = opened-append h (e ∷ []) in

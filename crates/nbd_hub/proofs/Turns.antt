@@ -1,15 +1,15 @@
 -- A stream, turn after turn.
-use Rattle.std.proofs.Common.{◌≡◌, ◌↔◌, ◌⊎◌, ◌≤◌, ◌<◌, ◌+◌, ℕ, Bool, true, false, nat_eq, if◌then◌else◌, List, [], ◌∷◌, ◌++◌, length, Option, Some, None, Result, Ok, Err, is_err, OnErr, OnOk, inl, inr, refl, sym, ap, ◌∙◌, subst, arith, append_assoc, append-nil, length-append}
+use Rattle.std.proofs.Common.{◌≡◌, ◌↔◌, ℕ, Bool, true, false, List, [], ◌∷◌, ◌++◌, Option, Some, Result, Ok, Err, is_err, OnErr, OnOk, inl, inr, refl, sym, ap, ◌∙◌, subst, arith, append_assoc, append-nil}
 use Rattle.std.proofs.lemmas.Bool.{cases_eq, eq-eqb, ne_eqb}
-use Rattle.std.specs.Io.KnownBytes.{Consumes, Appends, IsAtEnd}
-use Rattle.std.proofs.KnownBytes.{Appends-trans, Consumes-trans, Appends-nil, Consumes-nil}
+use Rattle.std.specs.Io.KnownBytes.{Consumes, Appends}
+use Rattle.std.proofs.KnownBytes.{Appends-trans, Consumes-trans}
 use Rattle.nbd_session.specs.declared.phase.Phase.TheVariants as phase
 use Rattle.nbd_session.specs.declared.offer.Offer.{Offer}
 use Rattle.nbd_session.specs.declared.status.Status.{Status}
 use Rattle.nbd_session.specs.Handshake.{greeting}
 use Rattle.nbd_session.specs.Talk.{hear}
 use Rattle.nbd_session.specs.Session.{State, IsAt, TalksOn, Talked, Feeds}
-use Rattle.nbd_session.specs.Export.{Facts, Keeps, Fair, Counted}
+use Rattle.nbd_session.specs.Export.{Facts, Keeps, Fair}
 use Rattle.nbd_session.proofs.Hearing.{Judged-weaker}
 use Rattle.nbd_session.proofs.Moving.{Fair-later, Keeps-refl, counted_none}
 use Rattle.nbd_session.proofs.Feeding.{talked_on}
@@ -18,7 +18,7 @@ use Rattle.nbd_hub.specs.declared.fault.ServeFault.TheVariants as fault
 use Rattle.nbd_hub.specs.Sessions.{Entry, HubState, lookup, SetsOnly}
 use Rattle.nbd_hub.specs.History.{Step, Opening, Feeding, Ending, Refusal}
 use Rattle.nbd_hub.specs.After.{IsAfter, FedAfter}
-use Rattle.nbd_hub.specs.Stream.{HasEnded, Reaches, Ends, Moved, Served, Answers, Exchanged, AllFeed, TurnedAfter}
+use Rattle.nbd_hub.specs.Stream.{HasEnded, Ends, Moved, Served, Answers, Exchanged, AllFeed, TurnedAfter}
 use Rattle.nbd_hub.proofs.Outcomes.{phase_is}
 
 pub talked_first : (a : Facts) (offer : Offer) → Talked a a offer [] greeting
@@ -50,8 +50,8 @@ open_if over offer s input e a at i f h = let t : over ≡ true = i.1 (phase_is 
 pub sets_on : (first mid last : List Entry) (id : ℕ) (s t : Option State) → SetsOnly first mid id s → SetsOnly mid last id t → SetsOnly first last id t
 sets_on first mid last id s t f g j =
     elim (cases_eq j id) [
-      inl h ↦ g j ∙ rw (eq-eqb j id h) refl
-    | inr h ↦ g j ∙ rw (ne_eqb j id h) (f j ∙ rw (ne_eqb j id h) refl)
+      | inl h ↦ g j ∙ rw (eq-eqb j id h) refl
+      | inr h ↦ g j ∙ rw (ne_eqb j id h) (f j ∙ rw (ne_eqb j id h) refl)
     ]
 
 pub sets_at : (first mid : List Entry) (id : ℕ) (s : Option State) → SetsOnly first mid id s → lookup id mid ≡ s
@@ -60,8 +60,8 @@ sets_at first mid id s f = f id ∙ rw (eq-eqb id id refl) refl
 pub sets_none : (first : List Entry) (id : ℕ) (s : Option State) → lookup id first ≡ s → SetsOnly first first id s
 sets_none first id s e j =
     elim (cases_eq j id) [
-      inl h ↦ ap (λ k. lookup k first) h ∙ e ∙ sym (rw (eq-eqb j id h) refl)
-    | inr h ↦ sym (rw (ne_eqb j id h) refl)
+      | inl h ↦ ap (λ k. lookup k first) h ∙ e ∙ sym (rw (eq-eqb j id h) refl)
+      | inr h ↦ sym (rw (ne_eqb j id h) refl)
     ]
 
 pub some_is : (s t : State) → Some s ≡ Some t → s ≡ t
@@ -80,14 +80,21 @@ pub served_err : (a b c : Facts) (offer : Offer) (before after : State) (r r' r'
     → Moved (record { reader = r; reader' = r'; writer = w; writer' = w' }) input wrote → Talked a b offer input wrote → IsAt before input → Consumes r' r'' piece
     → Exchanged b c before after piece w' w'' (Err f) → Served a c offer (record { reader = r; reader' = r''; writer = w; writer' = w'' }) limit (Err f)
 served_err a b c offer before after r r' r'' w w' w'' limit input wrote piece fault.Write k l o m t at x e =
-    let d = e.3 input at in
-    (input ++ piece, wrote ++ e.0, e.1, moved_on r r' r'' w w' w'' input wrote piece e.0 m x e.2,
-     (let P : List ℕ → Type 0 = λ y. Talked a c offer (input ++ piece) y in
-      subst P (sym (append_assoc wrote e.0 e.1)) (talked_on a b c offer input piece wrote (e.0 ++ e.1) k l t (talks_at b c before.offer offer input piece (e.0 ++ e.1) o d.1))))
-served_err a b c offer before after r r' r'' w w' w'' limit input wrote piece fault.Starved k l o m t at x e =
-    (input, piece, wrote,
-     (let P : List ℕ → Type 0 = λ y. Moved (record { reader = r; reader' = r''; writer = w; writer' = w'' }) (input ++ piece) y in subst P (append-nil wrote) (moved_on r r' r'' w w' w'' input wrote piece [] m x e)),
-     talked_later a b c offer input wrote l t)
+    let d = e.3 input at in (
+      input ++ piece,
+      wrote ++ e.0,
+      e.1,
+      moved_on r r' r'' w w' w'' input wrote piece e.0 m x e.2,
+      (let P : List ℕ → Type 0 = λ y. Talked a c offer (input ++ piece) y in
+          subst P (sym (append_assoc wrote e.0 e.1)) (talked_on a b c offer input piece wrote (e.0 ++ e.1) k l t (talks_at b c before.offer offer input piece (e.0 ++ e.1) o d.1))),
+    )
+served_err a b c offer before after r r' r'' w w' w'' limit input wrote piece fault.Starved k l o m t at x e = (
+  input,
+  piece,
+  wrote,
+  (let P : List ℕ → Type 0 = λ y. Moved (record { reader = r; reader' = r''; writer = w; writer' = w'' }) (input ++ piece) y in subst P (append-nil wrote) (moved_on r r' r'' w w' w'' input wrote piece [] m x e)),
+  talked_later a b c offer input wrote l t,
+)
 served_err a b c offer before after r r' r'' w w' w'' limit input wrote piece fault.Read k l o m t at x e = absurd e
 served_err a b c offer before after r r' r'' w w' w'' limit input wrote piece fault.Turns k l o m t at x e = absurd e
 served_err a b c offer before after r r' r'' w w' w'' limit input wrote piece (fault.Hub f) k l o m t at x e = absurd e

@@ -11,7 +11,6 @@ use Rattle.nbd_session.specs.Session.{State, IsAt}
 use Rattle.nbd_session.specs.Export.{Facts}
 use Rattle.nbd_hub.specs.declared.events.Event.{Event}
 use Rattle.nbd_hub.specs.declared.events.Event.TheVariants as event
-use Rattle.nbd_hub.specs.declared.fault.HubFault.{HubFault}
 use Rattle.nbd_hub.specs.declared.fault.HubFault.TheVariants as fault
 use Rattle.nbd_hub.specs.declared.events.HubReply.{HubReply}
 use Rattle.nbd_hub.specs.declared.events.HubReply.TheVariants as reply

@@ -90,7 +90,13 @@ impl<E: Export, A: Allocator + Copy> Sessions<E, A> {
             return Err(HubFault::NoMemory);
         }
         let name = self.offer.name.copied();
-        match Session::open(self.allocator(), name, self.offer.size, self.offer.block, out) {
+        match Session::open(
+            self.allocator(),
+            name,
+            self.offer.size,
+            self.offer.block,
+            out,
+        ) {
             Ok(session) => {
                 let number = self.next;
                 match self.open.push(Numbered::new(number, session)) {

@@ -71,10 +71,19 @@ const INPUT: &[u8] = b"\x00\x00\x00\x03\
 
 /// Where each message of the input is whole, and what is then said.
 const REPLIES: [(usize, &[u8]); 3] = [
-    (20, b"\x00\x03\xe8\x89\x04\x55\x65\xa9\x00\x00\x00\x08\x80\x00\x00\x01\x00\x00\x00\x00"),
-    (42, b"\x00\x03\xe8\x89\x04\x55\x65\xa9\x00\x00\x00\x07\x00\x00\x00\x03\x00\x00\x00\x0c\x00\x00\x00\x00\x00\x00\x00\x00\x22\x00\x00\x03\
-        \x00\x03\xe8\x89\x04\x55\x65\xa9\x00\x00\x00\x07\x00\x00\x00\x01\x00\x00\x00\x00"),
-    (70, b"\x67\x44\x66\x98\x00\x00\x00\x00\x01\x02\x03\x04\x05\x06\x07\x08\x5a"),
+    (
+        20,
+        b"\x00\x03\xe8\x89\x04\x55\x65\xa9\x00\x00\x00\x08\x80\x00\x00\x01\x00\x00\x00\x00",
+    ),
+    (
+        42,
+        b"\x00\x03\xe8\x89\x04\x55\x65\xa9\x00\x00\x00\x07\x00\x00\x00\x03\x00\x00\x00\x0c\x00\x00\x00\x00\x00\x00\x00\x00\x22\x00\x00\x03\
+        \x00\x03\xe8\x89\x04\x55\x65\xa9\x00\x00\x00\x07\x00\x00\x00\x01\x00\x00\x00\x00",
+    ),
+    (
+        70,
+        b"\x67\x44\x66\x98\x00\x00\x00\x00\x01\x02\x03\x04\x05\x06\x07\x08\x5a",
+    ),
 ];
 
 /// What is to be said to so many bytes of the input.
@@ -94,8 +103,16 @@ fn an_input_cut_after_each_byte(rt: HostRuntime) -> Result<(), Fail> {
         let mut hub = make_sessions(rt.alloc())?;
         let mut reader = &INPUT[..len];
         let mut said = Vec::new(rt.alloc());
-        assert_eq!(rt; serve(&mut hub, &mut reader, &mut said, 100), Ok(()), "cut at {len}");
-        assert_eq!(rt; said.as_slice(), expected(rt.alloc(), len)?.as_slice(), "cut at {len}");
+        assert_eq!(rt;
+            serve(&mut hub, &mut reader, &mut said, 100),
+            Ok(()),
+            "cut at {len}"
+        );
+        assert_eq!(rt;
+            said.as_slice(),
+            expected(rt.alloc(), len)?.as_slice(),
+            "cut at {len}"
+        );
     }
     Ok(())
 }

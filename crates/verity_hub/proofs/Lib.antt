@@ -1,7 +1,2 @@
-pub mod Lookup
-pub mod Snoc
-pub mod Steps
-pub mod Outcomes
-pub mod Runs
-pub mod Turns
 pub mod VolumeLaws
+pub mod Saying

@@ -1,36 +1,25 @@
 -- What reads leave of a verifier's facts, and what its answers say as an export's.
-use Rattle.std.proofs.Common.{◌≡◌, ◌≢◌, ◌⊎◌, ◌<◌, ◌≤◌, ◌+◌, ◌*◌, ℕ, zero, suc, List, length, take, drop, inl, inr, refl, sym, ap, ◌∙◌, subst, arith}
-use Rattle.std.specs.List.{concat}
-use Rattle.verity_store.specs.Stores.{IsOnlyRead}
+use Rattle.std.proofs.Common.{◌≡◌, ◌≢◌, ◌⊎◌, ◌<◌, ◌≤◌, ◌+◌, ◌*◌, ℕ, true, List, length, take, drop, inl, inr, sym, ap, ◌∙◌, subst, arith}
+use Rattle.verity_digest.specs.Tree.{tree}
 use Rattle.verity_store.specs.declared.store.BlockStore as store
-use Rattle.verity_store.specs.declared.fault.Which.TheVariants as stores
-use Rattle.verity_check.specs.declared.fault.Place.TheVariants as places
 use Rattle.verity_check.specs.declared.fault.CheckFault.{CheckFault}
 use Rattle.verity_check.specs.declared.fault.CheckFault.TheVariants as faults
-use Rattle.verity_check.specs.Table.{Table, IsTable, height, row_len, path_index}
-use Rattle.verity_check.specs.Chain.{Given, AreSized, WrongAt}
-use Rattle.verity_check.specs.Finding.{Held, Tells}
-use Rattle.verity_check.specs.Right.{Fits, own, Clash, AreRight}
-use Rattle.verity_check.specs.Range.{ServesBytes, Wrong, Touches}
+use Rattle.verity_check.specs.Table.{Table, hashing_of, path_index}
+use Rattle.verity_check.specs.Right.{Fits, AreRight}
+use Rattle.verity_check.specs.Range.{ServesBytes, Wrong}
 use Rattle.verity_check.specs.Refusal.{Refuses}
 use Rattle.verity_check.specs.Stores.{given_in}
 use Rattle.verity_check.specs.Holds.{Holds}
-use Rattle.verity_check.specs.Verifier.{Verifying, given_to, held_for, IsOnlyReading, IsVerifier, DataFailed, HashFailed, HasFailed, MayServe, MayRefuse}
+use Rattle.verity_check.specs.Verifier.{Verifying, given_to, IsOnlyReading, IsVerifier, DataFailed, HashFailed, MayServe, MayRefuse}
 use Rattle.verity_check.proofs.WalkLemmas.{Grows, given_in-grows, WrongAt-grows}
-use Rattle.verity_check.proofs.RangeLemmas.{Served-grows, below_blocks}
+use Rattle.verity_check.proofs.RangeLemmas.{Served-grows}
 use Rattle.verity_check.proofs.RangeLaw.{bytes_right}
-use Rattle.verity_check.proofs.FindingLaws.{no_wrong}
-use Rattle.verity_check.proofs.TableLaws.{path_below}
-use Rattle.verity_check.proofs.VerifierLemmas.{sized, tells_all, verifier_after}
-use Rattle.verity_check.proofs.HoldsLaws.{holds_own}
-use Rattle.nbd_session.specs.Export.{Facts, Keeps, Served, Failed}
+use Rattle.verity_check.proofs.VerifierLemmas.{sized, verifier_after}
+use Rattle.verity_check.proofs.HoldsLaws.{bytes_exact, refusal_failed}
+use Rattle.nbd_session.specs.Export.{Keeps, Served, Failed}
 use Rattle.nbd_session.specs.Talk.{Verdict, Bytes, Refused}
-use Rattle.verity_hub.specs.After.{Given as GivenBy}
-use Rattle.verity_hub.specs.Volume.{HoldsFor, IsContent, facts_of, IsRightFor}
-
--- a block that a range of the volume touches is one of the volume's
-within : (t : Table) (offset len n : ℕ) → offset + len ≤ t.data_blocks * t.data_block_size → Touches t offset len n → n < t.data_blocks
-within t offset len n range touch = let b = touch.begins in below_blocks n t.data_block_size 1 t.data_blocks (omega arith) (omega arith)
+use Rattle.nbd_hub.specs.After.{Given as GivenBy}
+use Rattle.verity_hub.specs.Volume.{HoldsFor, failures_of, facts_of, IsRightFor}
 
 module _ {D H : Type 0} (data_facts : store.Ghosts D) (hash_facts : store.Ghosts H) where
   module _ (v w : Verifying D H) (reads : IsOnlyReading data_facts hash_facts v w) where
@@ -51,8 +40,12 @@ module _ {D H : Type 0} (data_facts : store.Ghosts D) (hash_facts : store.Ghosts
     refuses : (offset len : ℕ) → MayRefuse data_facts hash_facts v offset len → MayRefuse data_facts hash_facts w offset len
     refuses offset len (inl x) =
         let P : Table → Type 0 = λ t. Wrong t (given_in data_facts hash_facts t w.data_store w.hash_store) offset len in
-        inl (subst P (sym reads.table) (x.0, x.1, x.2,
-          WrongAt-grows v.table (given_in data_facts hash_facts v.table v.data_store v.hash_store) (given_in data_facts hash_facts v.table w.data_store w.hash_store) given_grows x.1 (path_index v.table x.0 x.1) x.3))
+        inl (subst P (sym reads.table) (
+          x.0,
+          x.1,
+          x.2,
+          WrongAt-grows v.table (given_in data_facts hash_facts v.table v.data_store v.hash_store) (given_in data_facts hash_facts v.table w.data_store w.hash_store) given_grows x.1 (path_index v.table x.0 x.1) x.3,
+        ))
     refuses offset len (inr (inl f)) = let m = reads.data_mark in let l = reads.data_store.later.failures in inr (inl (omega arith))
     refuses offset len (inr (inr f)) = let m = reads.hash_mark in let l = reads.hash_store.later.failures in inr (inr (omega arith))
 
@@ -64,7 +57,7 @@ module _ {D H : Type 0} (data_facts : store.Ghosts D) (hash_facts : store.Ghosts
           hash_tell = reads.hash_store.later.tells ∙ h.hash_tell;
           fits = h.fits;
           data_begins = ap (take (length image)) reads.data_store.content ∙ h.data_begins;
-          tree_begins = ap (λ c. take _ (drop v.table.hash_start_block c)) reads.hash_store.content ∙ h.tree_begins;
+          tree_begins = ap (λ c. take (length (tree (hashing_of v.table) image)) (drop v.table.hash_start_block c)) reads.hash_store.content ∙ h.tree_begins;
         })
 
     pub facts_keep : Keeps (facts_of data_facts hash_facts v) (facts_of data_facts hash_facts w)
@@ -77,6 +70,12 @@ module _ {D H : Type 0} (data_facts : store.Ghosts D) (hash_facts : store.Ghosts
       steady = λ content c. (c.0, holds c.0 c.1, c.2);
       failures = let d = reads.data_store.later.failures in let h = reads.hash_store.later.failures in omega arith;
     }
+
+  -- what stores hold that tell, and are known by their contents
+  pub holds_at : (v : Verifying D H) (image : List (List ℕ)) → data_facts.tells v.data_store ≡ true → hash_facts.tells v.hash_store ≡ true → data_facts.content v.data_store ≡ image
+      → Holds v.table true image true (hash_facts.content v.hash_store) image → HoldsFor data_facts hash_facts v image
+  holds_at v image data_tell hash_tell content h =
+      record { data_tell = data_tell; hash_tell = hash_tell; fits = h.fits; data_begins = ap (take (length image)) content ∙ h.data_begins; tree_begins = h.tree_begins }
 
   module _ (data_sized : (s : D) (n : ℕ) (b : List ℕ) → data_facts.gave s n b → length b ≡ data_facts.size s) (hash_sized : (s : H) (n : ℕ) (b : List ℕ) → hash_facts.gave s n b → length b ≡ hash_facts.size s) where
     -- bytes that a verifier served are right for each image that fits its table line
@@ -94,57 +93,35 @@ module _ {D H : Type 0} (data_facts : store.Ghosts D) (hash_facts : store.Ghosts
     given_right v ok image fits offset len (Refused error) (inl e) = inl e.0
     given_right v ok image fits offset len (Refused error) (inr e) = inr e
 
-    module _ (v : Verifying D H) (ok : IsVerifier data_facts hash_facts v) (image : List (List ℕ)) (h : HoldsFor data_facts hash_facts v image) where
-      tells : Tells (given_to data_facts hash_facts v) (held_for data_facts hash_facts v)
-      tells = tells_all data_facts hash_facts v (h.data_tell, h.hash_tell)
+  module _ (v w : Verifying D H) (was : IsVerifier data_facts hash_facts v) (reads : IsOnlyReading data_facts hash_facts v w) where
+    ok : IsVerifier data_facts hash_facts w
+    ok = verifier_after data_facts hash_facts v w reads was
 
-      owns : (r i : ℕ) → r ≤ height v.table → i < row_len v.table r → held_for data_facts hash_facts v r i ≡ own v.table image r i
-      owns = holds_own v.table ok.table (data_facts.tells v.data_store) (data_facts.content v.data_store) (hash_facts.tells v.hash_store) (hash_facts.content v.hash_store) image h
+    -- an answer, as an export's
+    pub served : (offset len : ℕ) (bytes : List ℕ) → ServesBytes w.table (given_to data_facts hash_facts w) offset len bytes → Served (facts_of data_facts hash_facts v) (facts_of data_facts hash_facts w) offset len bytes
+    served offset len bytes s =
+        let P : ℕ → Type 0 = λ n. ServesBytes w.table (given_to data_facts hash_facts w) offset n bytes in
+        record {
+          exact = s.whole;
+          given = subst P (sym s.whole) s;
+          content = λ content c. bytes_exact data_facts hash_facts w.table ok.table w.data_store w.hash_store c.0 (holds v w reads c.0 c.1) offset len bytes s ∙ ap (λ x. take len (drop offset x)) (sym c.2);
+        }
 
-      -- stores that hold the image make no clash
-      no_clash : Clash v.table (given_to data_facts hash_facts v) image → ⊥
-      no_clash c = c.2.differs (tells c.0 c.1 c.2.y c.2.gave ∙ owns c.0 c.1 c.2.row c.2.index)
+    either_rose : DataFailed data_facts hash_facts v w ⊎ HashFailed data_facts hash_facts v w → failures_of data_facts hash_facts v < failures_of data_facts hash_facts w
+    either_rose (inl f) = let l = reads.hash_store.later.failures in omega arith
+    either_rose (inr f) = let l = reads.data_store.later.failures in omega arith
 
-      right_exact : (offset len : ℕ) (bytes : List ℕ) → AreRight v.table (given_to data_facts hash_facts v) image offset len bytes → bytes ≡ take len (drop offset (concat image))
-      right_exact offset len bytes (inl e) = e
-      right_exact offset len bytes (inr c) = absurd (no_clash c)
+    -- where the stores hold an image, a range is refused only after a failure
+    rose : (image : List (List ℕ)) → HoldsFor data_facts hash_facts v image → (offset len : ℕ) → offset + len ≤ w.table.data_blocks * w.table.data_block_size → (fault : CheckFault) → fault ≢ faults.NoMemory
+        → Refuses w.table (given_to data_facts hash_facts w) (DataFailed data_facts hash_facts v w) (HashFailed data_facts hash_facts v w) offset len fault
+        → failures_of data_facts hash_facts v < failures_of data_facts hash_facts w
+    rose image h offset len range fault not why =
+        either_rose (refusal_failed data_facts hash_facts w.table ok.table w.data_store w.hash_store image (holds v w reads image h) (DataFailed data_facts hash_facts v w) (HashFailed data_facts hash_facts v w) offset len fault range why not)
 
-      pub serves_exact : (offset len : ℕ) (bytes : List ℕ) → ServesBytes v.table (given_to data_facts hash_facts v) offset len bytes → bytes ≡ take len (drop offset (concat image))
-      serves_exact offset len bytes s = right_exact offset len bytes (serves_right v ok image h.fits offset len bytes s)
-
-      pub none_wrong : (n r : ℕ) → n < v.table.data_blocks → WrongAt v.table (given_to data_facts hash_facts v) r (path_index v.table n r) → ⊥
-      none_wrong n r below w = no_wrong v.table image ok.table h.fits (given_to data_facts hash_facts v) (held_for data_facts hash_facts v) tells owns r (path_index v.table n r) (path_below v.table ok.table n r below) w
-
-    module _ (v w : Verifying D H) (was : IsVerifier data_facts hash_facts v) (reads : IsOnlyReading data_facts hash_facts v w) where
-      ok : IsVerifier data_facts hash_facts w
-      ok = verifier_after data_facts hash_facts v w reads was
-
-      -- an answer, as an export's
-      pub served : (offset len : ℕ) (bytes : List ℕ) → ServesBytes w.table (given_to data_facts hash_facts w) offset len bytes → Served (facts_of data_facts hash_facts v) (facts_of data_facts hash_facts w) offset len bytes
-      served offset len bytes s =
-          let P : ℕ → Type 0 = λ n. ServesBytes w.table (given_to data_facts hash_facts w) offset n bytes in
-          record {
-            exact = s.whole;
-            given = subst P (sym s.whole) s;
-            content = λ content c. serves_exact w ok c.0 (holds v w reads c.0 c.1) offset len bytes s ∙ ap (λ x. take len (drop offset x)) (sym c.2);
-          }
-
-      -- where the stores hold an image, a range is refused only after a failure
-      rose : (image : List (List ℕ)) → HoldsFor data_facts hash_facts v image → (offset len : ℕ) → offset + len ≤ w.table.data_blocks * w.table.data_block_size → (fault : CheckFault) → fault ≢ faults.NoMemory
-          → Refuses w.table (given_to data_facts hash_facts w) (DataFailed data_facts hash_facts v w) (HashFailed data_facts hash_facts v w) offset len fault
-          → (facts_of data_facts hash_facts v).failures < (facts_of data_facts hash_facts w).failures
-      rose image h offset len range (faults.Mismatch (places.Data m)) not why = absurd (none_wrong w ok image (holds v w reads image h) why.0 0 (within w.table offset len why.0 range why.1) why.2.1)
-      rose image h offset len range (faults.Mismatch (places.Hash level index)) not why =
-          let P : ℕ → Type 0 = λ i. WrongAt w.table (given_to data_facts hash_facts w) (suc level) i in
-          absurd (none_wrong w ok image (holds v w reads image h) why.0 (suc level) (within w.table offset len why.0 range why.1) (subst P why.2.1 why.2.2))
-      rose image h offset len range (faults.Store stores.Data) not why = let f : data_facts.failures v.data_store < data_facts.failures w.data_store = why.2 in let l = reads.hash_store.later.failures in omega arith
-      rose image h offset len range (faults.Store stores.Hash) not why = let f : hash_facts.failures v.hash_store < hash_facts.failures w.hash_store = why.2 in let l = reads.data_store.later.failures in omega arith
-      rose image h offset len range faults.NoMemory not why = absurd (not refl)
-      rose image h offset len range faults.Lengths not why = absurd why.2
-      rose image h offset len range faults.CacheSize not why = absurd why.2
-
-      -- a refusal, as an export's
-      pub failed : (offset len : ℕ) → offset + len ≤ w.table.data_blocks * w.table.data_block_size → (fault : CheckFault) → fault ≢ faults.NoMemory
-          → Refuses w.table (given_to data_facts hash_facts w) (DataFailed data_facts hash_facts v w) (HashFailed data_facts hash_facts v w) offset len fault
-          → MayRefuse data_facts hash_facts w offset len → Failed (facts_of data_facts hash_facts v) (facts_of data_facts hash_facts w) offset len
-      failed offset len range fault not why may = record { leave = may; failure = λ content c. rose c.0 c.1 offset len range fault not why }
+    -- a refusal, as an export's
+    pub failed : (offset len : ℕ) → offset + len ≤ v.table.data_blocks * v.table.data_block_size → (fault : CheckFault) → fault ≢ faults.NoMemory
+        → Refuses w.table (given_to data_facts hash_facts w) (DataFailed data_facts hash_facts v w) (HashFailed data_facts hash_facts v w) offset len fault
+        → MayRefuse data_facts hash_facts w offset len → Failed (facts_of data_facts hash_facts v) (facts_of data_facts hash_facts w) offset len
+    failed offset len range fault not why may =
+        let inside : offset + len ≤ w.table.data_blocks * w.table.data_block_size = subst (λ (t : Table). offset + len ≤ t.data_blocks * t.data_block_size) (sym reads.table) range in
+        record { leave = may; failure = λ content c. rose c.0 c.1 offset len inside fault not why }

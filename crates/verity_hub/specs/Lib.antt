@@ -1,7 +1,2 @@
-pub mod Texts
-pub mod Sessions
-pub mod History
-pub mod After
-pub mod Stream
 pub mod Volume
 pub mod Reading

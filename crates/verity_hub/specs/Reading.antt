@@ -1,5 +1,5 @@
 -- Reads of a verifier after reads are reads.
-use Rattle.std.specs.Prelude.{◌≡◌, refl}
+use Rattle.std.specs.Prelude.{refl}
 use Rattle.std.proofs.Common.{◌∙◌}
 use Rattle.verity_store.specs.declared.store.BlockStore as store
 use Rattle.verity_store.proofs.StoreLemmas.{only_read_same, only_read_then}

@@ -128,10 +128,10 @@ impl<D: BlockStore, H: BlockStore, A: Allocator + Copy + Drop> Hub<D, H, A> {
         // Whatever was done since it was made, and for every image that fits the table line.
         ensures ran { (added : List (HubReply A)) × (replies.new.items ≡ replies.old.items ++ added) × (length added ≤ length events.now)
             × ((history : List Step) → IsAfter (facts_of D.BlockStore H.BlockStore self.old.1) self.old.0 history
-                → EachAfter (Given (facts_of D.BlockStore H.BlockStore self.new.1)) self.old.0.offer history events.now added
-                × ((image : List (List ℕ)) → Fits self.old.1.table image
-                    → EachAfter (IsRightFor D.BlockStore H.BlockStore self.new.1 image) self.old.0.offer history events.now added)
-                × IsAfter (facts_of D.BlockStore H.BlockStore self.new.1) self.new.0 (history ++ steps events.now added)) }
+            → EachAfter (Given (facts_of D.BlockStore H.BlockStore self.new.1)) self.old.0.offer history events.now added
+            × ((image : List (List ℕ)) → Fits self.old.1.table image
+            → EachAfter (IsRightFor D.BlockStore H.BlockStore self.new.1 image) self.old.0.offer history events.now added)
+            × IsAfter (facts_of D.BlockStore H.BlockStore self.new.1) self.new.0 (history ++ steps events.now added)) }
     {
         let result = self.sessions.run(events, replies);
         self.sessions.export().check();

@@ -18,12 +18,12 @@ use verity_store::BlockStore;
 
 /// Whatever was done with a hub since it was made, and whatever its stores returned: for every image that fits the table
 /// line, each session's output is the talk of its own input, by verdicts that are right.
-pub fn outputs_are_right<D: BlockStore, H: BlockStore, A: Allocator + Copy + Drop>(hub: &Hub<D, H, A>)
-    ensures {
-        (history : List Step) → IsAfter (facts_of D.BlockStore H.BlockStore hub.now.1) hub.now.0 history
-            → (image : List (List ℕ)) → Fits hub.now.1.table image
-            → (k : ℕ) → k < opened history → IsTold (IsRightFor D.BlockStore H.BlockStore hub.now.1 image) hub.now.0.offer history k
-    }
+pub fn outputs_are_right<D: BlockStore, H: BlockStore, A: Allocator + Copy + Drop>(
+    hub: &Hub<D, H, A>,
+)
+    ensures { (history : List Step) → IsAfter (facts_of D.BlockStore H.BlockStore hub.now.1) hub.now.0 history
+        → (image : List (List ℕ)) → Fits hub.now.1.table image
+        → (k : ℕ) → k < opened history → IsTold (IsRightFor D.BlockStore H.BlockStore hub.now.1 image) hub.now.0.offer history k }
 {
     hub.sessions.export().check();
 }
@@ -32,13 +32,11 @@ pub fn outputs_are_right<D: BlockStore, H: BlockStore, A: Allocator + Copy + Dro
 /// in front, hold the image for each verifier over them whose table line is one of the device. So [`crate::serve_stream`]
 /// carries what was built or committed.
 pub fn serves_what_was_built<D: BlockStore, H: BlockStore>()
-    ensures {
-        (p : Params) (image front : List (List ℕ)) (v : Verifying _ _) → IsProfile p (length image)
-            → AllSized p.data_block_size image → AllSized p.hash_block_size front → AllSized p.hash_block_size (H.content v.hash_store)
-            → D.tells v.data_store ≡ true → H.tells v.hash_store ≡ true → D.content v.data_store ≡ image
-            → concat (H.content v.hash_store) ≡ hash_image p image front → IsLineOf p image (length front) v.table
-            → HoldsFor D.BlockStore H.BlockStore v image
-    }
+    ensures { (p : Params) (image front : List (List ℕ)) (v : Verifying _ _) → IsProfile p (length image)
+        → AllSized p.data_block_size image → AllSized p.hash_block_size front → AllSized p.hash_block_size (H.content v.hash_store)
+        → D.tells v.data_store ≡ true → H.tells v.hash_store ≡ true → D.content v.data_store ≡ image
+        → concat (H.content v.hash_store) ≡ hash_image p image front → IsLineOf p image (length front) v.table
+        → HoldsFor D.BlockStore H.BlockStore v image }
 {
     verity_check::laws::device_holds();
 }

@@ -26,8 +26,6 @@
 mod hub;
 pub mod laws;
 mod stream;
-#[cfg(test)]
-mod tests;
 mod volume;
 
 pub use hub::Hub;

@@ -1,6 +1,6 @@
-use Rattle.std.proofs.Common.{◌≡◌, ◌<◌, length, nat_eq, get_or, arith, sym, ◌∙◌, ap, subst, add-one, ℕ}
+use Rattle.std.proofs.Common.{◌≡◌, length, arith, sym, ◌∙◌, ap, subst, add-one, ℕ}
 use Rattle.std.proofs.lemmas.Bool.{ne_eqb}
-use Rattle.nbd_hub.specs.Sessions.{Entry, Passed, Place}
+use Rattle.nbd_hub.specs.Sessions.{Entry, Passed}
 use Rattle.nbd_hub.proofs.Lookup.{Passed-more, Place-of, lookup-passed}
 use Rattle.nbd_hub.proofs.numbered.find.Goals as goal
 
@@ -11,7 +11,7 @@ returns-then-number-id g c =
 pub loop-i-preserved : goal.loop-i-preserved
 loop-i-preserved g c =
     rw add-one (Passed-more c.args.id c.args.sessions.now c.loop-i.i c.index-sessions-i.result c.loop-i.invariant (omega arith)
-      (ne_eqb _ c.args.id (λ q. c.if-number-id.false (c.number.ensures ∙ ap (λ (n : Entry). n.number) c.index-sessions-i.is ∙ q))))
+    (ne_eqb _ c.args.id (λ q. c.if-number-id.false (c.number.ensures ∙ ap (λ (n : Entry). n.number) c.index-sessions-i.is ∙ q))))
 
 pub returns : goal.returns
 returns g c =

@@ -1,4 +1,4 @@
-use Rattle.std.proofs.Common.{◌≡◌, ◌++◌, List, [], ℕ, sym, ap, ◌∙◌, subst, refl}
+use Rattle.std.proofs.Common.{◌++◌, List, ℕ, sym, ◌∙◌, subst, refl}
 use Rattle.std.specs.Io.KnownBytes.{Appends}
 use Rattle.nbd_hub.proofs.Turns.{feeds_from, turned_fed}
 use Rattle.nbd_hub.proofs.stream.exchange.Goals as goal
@@ -21,9 +21,21 @@ returns-in-Ok-write_out g c =
       later = c.in-Ok.ensures.later;
       next = o.next;
       count = o.count;
-      exchanged = (o.before, o.after, o.found, o.offers, d.offer ∙ o.offers, o.sets, (out, subst P c.deref.ensures.value c.in-Ok-write_out.ensures.ok,
-        (λ input at. (d.at n input at, d.talks n input at)),
-        ((λ x. i.0 (k.0 x)), λ x. k.1 (i.1 x)), d.awake n));
+      exchanged = (
+        o.before,
+        o.after,
+        o.found,
+        o.offers,
+        d.offer ∙ o.offers,
+        o.sets,
+        (
+          out,
+          subst P c.deref.ensures.value c.in-Ok-write_out.ensures.ok,
+          (λ input at. (d.at n input at, d.talks n input at)),
+          ((λ x. i.0 (k.0 x)), λ x. k.1 (i.1 x)),
+          d.awake n,
+        ),
+      );
       after = λ history x. turned_fed b c.feed.new.self.0 history c.args.id c.args.piece.now c.clear.new.self.items out c.in-Ok.status (c.in-Ok.ensures.after history x);
     }
 

@@ -1,10 +1,9 @@
-use Rattle.std.proofs.Common.{◌≡◌, ◌≤◌, ◌+◌, ◌-◌, ◌++◌, List, [], ℕ, Option, Some, true, false, take, length, inl, inr, sym, ap, ◌∙◌, subst, refl, arith, Ok, Err, length-append}
-use Rattle.std.specs.Io.KnownBytes.{Appends, Consumes}
-use Rattle.std.proofs.KnownBytes.{Appends-nil, Consumes-nil}
+use Rattle.std.proofs.Common.{◌≡◌, ◌++◌, List, [], ℕ, Some, take, inr, sym, ◌∙◌, subst, refl, arith, length-append}
+use Rattle.std.specs.Io.KnownBytes.{Appends}
+use Rattle.std.proofs.KnownBytes.{Consumes-nil}
 use Rattle.nbd_session.specs.Session.{State, IsAt, Talked}
 use Rattle.nbd_session.specs.Handshake.{greeting}
 use Rattle.nbd_session.proofs.Moving.{Keeps-refl, Keeps-trans}
-use Rattle.nbd_hub.specs.Stream.{Moved}
 use Rattle.nbd_hub.proofs.Turns.{talked_first, sets_none, sets_on, sets_at, some_is, on_err, on_ok, turned, served_err, ended_if, open_if, turned_first, turned_on}
 use Rattle.nbd_hub.proofs.stream.turns.Goals as goal
 
@@ -32,9 +31,19 @@ loop-turn-init g c =
       next = refl;
       count = refl;
       after = λ history x. turned_first (f c.args.hub.now.1) c.args.hub.now.0 history c.args.id x;
-      ran = ([], greeting, o.0,
+      ran = (
+        [],
+        greeting,
+        o.0,
         record { reads = Consumes-nil (g.R.Read.remaining c.args.reader.now); writes = subst P (c.deref.ensures.value ∙ c.requires.greets) w },
-        talked_first (f c.args.hub.now.1) c.args.hub.now.0.offer, o.2, o.3, o.4, sets_none c.args.hub.now.0.sessions c.args.id (Some o.0) o.1, omega arith, λ e. let z : ⊥ = cc in z);
+        talked_first (f c.args.hub.now.1) c.args.hub.now.0.offer,
+        o.2,
+        o.3,
+        o.4,
+        sets_none c.args.hub.now.0.sessions c.args.id (Some o.0) o.1,
+        omega arith,
+        λ e. let z : ⊥ = cc in z,
+      );
     }
 
 pub returns-then-over-clause-keeps : goal.returns-then-over-clause-keeps
@@ -82,7 +91,7 @@ returns-in-Err-exchange-clause-served g c =
     let A : State → Type 0 = λ s. IsAt s n.0 in
     let at : IsAt x.0 n.0 = subst A (some_is n.2 x.0 (sym (sets_at c.args.hub.now.0.sessions c.loop-turn.hub.0.sessions c.args.id (Some n.2) n.8) ∙ x.2)) n.5 in
     served_err (f c.args.hub.now.1) (f c.loop-turn.hub.1) (f c.exchange.new.hub.1) c.args.hub.now.0.offer x.0 x.1 (R c.args.reader.now) (R c.loop-turn.reader) (R c.read.new.self)
-      (W c.args.writer.now) (W c.loop-turn.writer) (W c.exchange.new.writer) c.args.limit n.0 n.1 piece c.in-Err-exchange.fault i.keeps e.keeps (x.3 ∙ i.offer) n.3 n.4 at c.in-Ok.ensures.bytes.0 x.6
+    (W c.args.writer.now) (W c.loop-turn.writer) (W c.exchange.new.writer) c.args.limit n.0 n.1 piece c.in-Err-exchange.fault i.keeps e.keeps (x.3 ∙ i.offer) n.3 n.4 at c.in-Ok.ensures.bytes.0 x.6
 
 pub returns-then-over-clause-served : goal.returns-then-over-clause-served
 returns-then-over-clause-served g c =
@@ -98,15 +107,20 @@ returns-then-over-clause-served g c =
     let A : State → Type 0 = λ s. IsAt s n.0 in
     let at : IsAt x.0 n.0 = subst A (some_is n.2 x.0 (sym (sets_at c.args.hub.now.0.sessions c.loop-turn.hub.0.sessions c.args.id (Some n.2) n.8) ∙ x.2)) n.5 in
     let t = turned (f c.args.hub.now.1) (f c.loop-turn.hub.1) (f c.exchange.new.hub.1) c.args.hub.now.0.offer x.0 x.1 (R c.args.reader.now) (R c.loop-turn.reader) (R c.read.new.self)
-      (W c.args.writer.now) (W c.loop-turn.writer) (W c.exchange.new.writer) n.0 n.1 piece y.0 i.keeps e.keeps (x.3 ∙ i.offer) n.3 n.4 at c.in-Ok.ensures.bytes.0 y.1 y.2 in
-    (n.0 ++ piece, n.1 ++ y.0, t.moved, t.talked, inr (record {
-      front = n.0;
-      piece = piece;
-      parts = refl;
-      short = omega (arith, c.in-Ok.ensures.bound.0, c.in-Ok.ensures.bound.1);
-      before = n.10;
-      after = ended_if c.in-Ok-exchange.over c.args.hub.now.0.offer x.1 (n.0 ++ piece) (x.4 ∙ i.offer) y.4 t.at y.3 c.if-over.true;
-    }))
+    (W c.args.writer.now) (W c.loop-turn.writer) (W c.exchange.new.writer) n.0 n.1 piece y.0 i.keeps e.keeps (x.3 ∙ i.offer) n.3 n.4 at c.in-Ok.ensures.bytes.0 y.1 y.2 in (
+      n.0 ++ piece,
+      n.1 ++ y.0,
+      t.moved,
+      t.talked,
+      inr (record {
+        front = n.0;
+        piece = piece;
+        parts = refl;
+        short = omega (arith, c.in-Ok.ensures.bound.0, c.in-Ok.ensures.bound.1);
+        before = n.10;
+        after = ended_if c.in-Ok-exchange.over c.args.hub.now.0.offer x.1 (n.0 ++ piece) (x.4 ∙ i.offer) y.4 t.at y.3 c.if-over.true;
+      }),
+    )
 
 pub loop-turn-preserved : goal.loop-turn-preserved
 loop-turn-preserved g c =
@@ -122,7 +136,7 @@ loop-turn-preserved g c =
     let A : State → Type 0 = λ s. IsAt s n.0 in
     let at : IsAt x.0 n.0 = subst A (some_is n.2 x.0 (sym (sets_at c.args.hub.now.0.sessions c.loop-turn.hub.0.sessions c.args.id (Some n.2) n.8) ∙ x.2)) n.5 in
     let t = turned (f c.args.hub.now.1) (f c.loop-turn.hub.1) (f c.exchange.new.hub.1) c.args.hub.now.0.offer x.0 x.1 (R c.args.reader.now) (R c.loop-turn.reader) (R c.read.new.self)
-      (W c.args.writer.now) (W c.loop-turn.writer) (W c.exchange.new.writer) n.0 n.1 piece y.0 i.keeps e.keeps (x.3 ∙ i.offer) n.3 n.4 at c.in-Ok.ensures.bytes.0 y.1 y.2 in
+    (W c.args.writer.now) (W c.loop-turn.writer) (W c.exchange.new.writer) n.0 n.1 piece y.0 i.keeps e.keeps (x.3 ∙ i.offer) n.3 n.4 at c.in-Ok.ensures.bytes.0 y.1 y.2 in
     record {
       offer = e.offer ∙ i.offer;
       keeps = Keeps-trans (f c.args.hub.now.1) (f c.loop-turn.hub.1) (f c.exchange.new.hub.1) i.keeps e.keeps;
@@ -130,10 +144,19 @@ loop-turn-preserved g c =
       next = e.next ∙ i.next;
       count = e.count ∙ i.count;
       after = λ history x. turned_on (f c.loop-turn.hub.1) (f c.exchange.new.hub.1) c.loop-turn.hub.0 c.exchange.new.hub.0 history c.args.id (i.after history x) e.after;
-      ran = (n.0 ++ piece, n.1 ++ y.0, x.1, t.moved, t.talked, t.at, y.4, x.4 ∙ i.offer,
+      ran = (
+        n.0 ++ piece,
+        n.1 ++ y.0,
+        x.1,
+        t.moved,
+        t.talked,
+        t.at,
+        y.4,
+        x.4 ∙ i.offer,
         sets_on c.args.hub.now.0.sessions c.loop-turn.hub.0.sessions c.exchange.new.hub.0.sessions c.args.id (Some n.2) (Some x.1) n.8 x.5,
         omega (arith, length-append n.0 piece, c.in-Ok.ensures.bound.1, n.9, c.if-taken-eq0.false),
-        open_if c.in-Ok-exchange.over c.args.hub.now.0.offer x.1 (n.0 ++ piece) (x.4 ∙ i.offer) y.4 t.at y.3 c.if-over.false);
+        open_if c.in-Ok-exchange.over c.args.hub.now.0.offer x.1 (n.0 ++ piece) (x.4 ∙ i.offer) y.4 t.at y.3 c.if-over.false,
+      );
     }
 
 pub returns-then-is_err-clause-later : goal.returns-then-is_err-clause-later

@@ -1,4 +1,4 @@
-use Rattle.std.proofs.Common.{◌≡◌, ◌≤◌, ◌+◌, ◌-◌, ◌++◌, List, ℕ, length, take, drop, sym, ap, ◌∙◌, subst, arith, append_assoc, length-take, length-drop}
+use Rattle.std.proofs.Common.{◌≡◌, ◌-◌, ◌++◌, List, ℕ, length, take, drop, sym, ap, ◌∙◌, subst, arith, append_assoc, length-take, length-drop}
 use Rattle.std.proofs.lemmas.List.{take_rest, take-append-drop}
 use Rattle.std.proofs.KnownBytes.{Appends-trans, Appends-kept}
 use Rattle.std.specs.Io.KnownBytes.{Appends}
@@ -15,16 +15,22 @@ returns-in-Ok-eq0-clause-err g c =
     let bytes = c.args.bytes.now in
     let d = c.loop-done.done in
     let n = c.in-Ok-eq0.field-0 in
-    let s = take (length bytes - d) (drop d bytes) in
-    (take d bytes ++ take n s, drop n s, parts bytes d n,
-     Appends-trans (g.W.Write.contents c.args.writer.now) (g.W.Write.contents c.loop-done.writer) (g.W.Write.contents c.write.new.self) (take d bytes) (take n s) c.loop-done.invariant.wrote c.in-Ok-eq0.ensures.bytes)
+    let s = take (length bytes - d) (drop d bytes) in (
+      take d bytes ++ take n s,
+      drop n s,
+      parts bytes d n,
+      Appends-trans (g.W.Write.contents c.args.writer.now) (g.W.Write.contents c.loop-done.writer) (g.W.Write.contents c.write.new.self) (take d bytes) (take n s) c.loop-done.invariant.wrote c.in-Ok-eq0.ensures.bytes,
+    )
 
 pub returns-in-Err-clause-err : goal.returns-in-Err-clause-err
 returns-in-Err-clause-err g c =
     let bytes = c.args.bytes.now in
-    let d = c.loop-done.done in
-    (take d bytes, drop d bytes, sym (take-append-drop d bytes),
-     Appends-kept (g.W.Write.contents c.args.writer.now) (g.W.Write.contents c.loop-done.writer) (g.W.Write.contents c.write.new.self) (take d bytes) c.loop-done.invariant.wrote c.in-Err.ensures.bytes)
+    let d = c.loop-done.done in (
+      take d bytes,
+      drop d bytes,
+      sym (take-append-drop d bytes),
+      Appends-kept (g.W.Write.contents c.args.writer.now) (g.W.Write.contents c.loop-done.writer) (g.W.Write.contents c.write.new.self) (take d bytes) c.loop-done.invariant.wrote c.in-Err.ensures.bytes,
+    )
 
 pub loop-done-preserved : goal.loop-done-preserved
 loop-done-preserved g c =

@@ -16,4 +16,4 @@ returns-clause-after g c = λ history x.
 pub returns-in-Ok-feed-clause-after : goal.returns-in-Ok-feed-clause-after
 returns-in-Ok-feed-clause-after g c = λ history x.
     fed_steps g.row.A.Denot (g.E.Export.facts c.feed.new.self.1) c.feed.new.self.0 history c.in-Feed.id c.in-Feed.piece c.as_slice.result.now c.new-out.result.items c.feed.new.out.items c.new-in-Ok-feed.result
-      c.in-Ok-feed.status c.args.event.now c.in-Feed.is c.as_slice.ensures c.new-out.ensures.items c.new-in-Ok-feed.ensures (c.in-Ok-feed.ensures.after history x)
+    c.in-Ok-feed.status c.args.event.now c.in-Feed.is c.as_slice.ensures c.new-out.ensures.items c.new-in-Ok-feed.ensures (c.in-Ok-feed.ensures.after history x)

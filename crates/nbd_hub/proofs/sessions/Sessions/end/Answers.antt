@@ -1,7 +1,6 @@
-use Rattle.std.proofs.Common.{◌≡◌, ◌<◌, ◌≤◌, ◌+◌, ℕ, nat_eq, if◌then◌else◌, List, [], ◌∷◌, ◌++◌, Option, Some, None, length, get_or, refl, sym, ap, ◌∙◌, subst, arith}
-use Rattle.std.specs.List.{remove}
+use Rattle.std.proofs.Common.{◌≡◌, ℕ, nat_eq, if◌then◌else◌, List, Option, None, length, get_or, sym, ap, ◌∙◌, subst, arith}
 use Rattle.nbd_session.specs.Session.{State}
-use Rattle.nbd_hub.specs.Sessions.{Entry, HubState, IsSound, lookup, Place, EndsOne}
+use Rattle.nbd_hub.specs.Sessions.{Entry, IsSound, lookup, Place}
 use Rattle.nbd_hub.proofs.Lookup.{Place-within, lookup-at, lookup-remove, Rising-remove, AllOffer-remove, length-remove_at}
 use Rattle.nbd_hub.proofs.Outcomes.{after_ended, keeps_at}
 use Rattle.nbd_hub.proofs.sessions.Sessions.end.Goals as goal
@@ -52,4 +51,4 @@ pub returns-clause-after : goal.returns-clause-after
 returns-clause-after g c =
     let f = g.E.Export.facts in
     λ history x. after_ended (f c.args.self.now.1) (f c.self.inside.export) c.args.self.now.0 _ history c.args.id (keeps_at f c.args.self.now.1 c.self.inside.export (ap (λ p. p.1) (sym c.self.view_is)))
-      (returns-clause-ends g c) x
+    (returns-clause-ends g c) x

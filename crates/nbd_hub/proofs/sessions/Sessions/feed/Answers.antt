@@ -1,8 +1,7 @@
-use Rattle.std.proofs.Common.{◌≡◌, ◌<◌, ◌≤◌, ◌+◌, ℕ, nat_eq, if◌then◌else◌, List, [], ◌∷◌, ◌++◌, Option, Some, None, length, get_or, set, refl, sym, ap, ◌∙◌, subst, arith, length-set}
+use Rattle.std.proofs.Common.{◌≡◌, ℕ, nat_eq, if◌then◌else◌, List, Option, Some, length, sym, ap, ◌∙◌, subst, arith, length-set}
 use Rattle.nbd_session.specs.Session.{State, Feeds}
-use Rattle.nbd_session.specs.Export.{Facts}
 use Rattle.nbd_session.specs.declared.offer.Offer.{Offer}
-use Rattle.nbd_hub.specs.Sessions.{Entry, HubState, IsSound, lookup, Place, FeedsOne}
+use Rattle.nbd_hub.specs.Sessions.{Entry, lookup, Place}
 use Rattle.nbd_hub.proofs.Lookup.{Place-within, lookup-at, number-at, lookup-set, Rising-set, AllOffer-set, AllOffer-at}
 use Rattle.nbd_hub.proofs.Outcomes.{after_fed}
 use Rattle.nbd_hub.proofs.sessions.Sessions.feed.Goals as goal
@@ -20,7 +19,7 @@ feed-requires g c =
     let P : List Entry → Type 0 = λ l. Place c.args.id l c.in-Some.at in
     let p : Place c.args.id ns c.in-Some.at = subst P c.deref.ensures.value c.in-Some.ensures in
     ap (λ (n : Entry). n.session.offer.size) c.index_mut-one.ensures.value
-      ∙ ap (λ (o : Offer). o.size) (AllOffer-at h.offer c.args.id ns c.in-Some.at c.index_mut-one.result.now c.self.invariant.offers p) ∙ c.self.invariant.size
+    ∙ ap (λ (o : Offer). o.size) (AllOffer-at h.offer c.args.id ns c.in-Some.at c.index_mut-one.result.now c.self.invariant.offers p) ∙ c.self.invariant.size
 
 pub invariant_of-self : goal.invariant_of-self
 invariant_of-self g c =
@@ -76,4 +75,4 @@ pub returns-clause-after : goal.returns-clause-after
 returns-clause-after g c =
     let f = g.E.Export.facts in
     λ history x. after_fed (f c.args.self.now.1) (f c.feed.new.export) c.args.self.now.0 _ history c.args.id c.args.piece.now c.args.out.now.items c.feed.new.out.items c.feed.result
-      (returns-clause-feeds g c) x
+    (returns-clause-feeds g c) x

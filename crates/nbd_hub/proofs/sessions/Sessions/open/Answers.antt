@@ -1,7 +1,6 @@
-use Rattle.std.proofs.Common.{◌≡◌, ◌<◌, ◌≤◌, ◌+◌, ℕ, nat_eq, if◌then◌else◌, List, [], ◌∷◌, ◌++◌, Some, None, length, refl, sym, ap, ◌∙◌, subst, arith, length-append}
-use Rattle.nbd_session.specs.Session.{State}
+use Rattle.std.proofs.Common.{◌≡◌, ◌+◌, ℕ, nat_eq, if◌then◌else◌, List, [], ◌∷◌, ◌++◌, Some, length, refl, sym, ap, ◌∙◌, subst, arith, length-append}
 use Rattle.nbd_session.specs.declared.offer.Offer.{Offer}
-use Rattle.nbd_hub.specs.Sessions.{Entry, HubState, IsSound, lookup, OpensOne}
+use Rattle.nbd_hub.specs.Sessions.{Entry, IsSound, lookup}
 use Rattle.nbd_hub.proofs.Lookup.{lookup-push, Rising-push, AllOffer-push}
 use Rattle.nbd_hub.proofs.Outcomes.{after_opened, keeps_at}
 use Rattle.nbd_hub.proofs.sessions.Sessions.open.Goals as goal
@@ -57,4 +56,4 @@ pub returns-in-Ok-push-clause-after : goal.returns-in-Ok-push-clause-after
 returns-in-Ok-push-clause-after g c =
     let f = g.E.Export.facts in
     λ history x. after_opened (f c.args.self.now.1) (f c.self.inside.export) c.args.self.now.0 _ history c.self.inside.next (keeps_at f c.args.self.now.1 c.self.inside.export (ap (λ p. p.1) (sym c.self.view_is)))
-      (returns-in-Ok-push-clause-opens g c) x
+    (returns-in-Ok-push-clause-opens g c) x

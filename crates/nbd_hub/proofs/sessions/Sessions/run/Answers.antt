@@ -1,5 +1,4 @@
-use Rattle.std.proofs.Common.{◌≡◌, ◌≤◌, ◌<◌, ◌+◌, ◌++◌, length, List, [], ◌∷◌, ℕ, refl, ap, sym, ◌∙◌, subst, arith, append_assoc, append-nil, length-append, get_or}
-use Rattle.nbd_hub.specs.declared.events.Event.{Event}
+use Rattle.std.proofs.Common.{◌≡◌, ◌<◌, ◌++◌, length, List, [], ◌∷◌, ℕ, refl, ap, sym, ◌∙◌, subst, arith, append_assoc, append-nil, length-append, get_or}
 use Rattle.nbd_hub.specs.declared.events.HubReply.{HubReply}
 use Rattle.nbd_session.proofs.Moving.{Keeps-refl, Keeps-trans}
 use Rattle.nbd_hub.specs.History.{Step}
@@ -14,9 +13,14 @@ loop-event-init g c =
       offer = refl;
       keeps = Keeps-refl (f c.args.self.now.1);
       later = g.met.E.Export.later_same c.args.self.now.1;
-      ran = ([], sym (append-nil c.args.replies.now.items), refl, λ history x.
-        let I : List Step → Type 0 = λ z. IsAfter (f c.args.self.now.1) c.args.self.now.0 z in
-        (tt, subst I (sym (append-nil history)) x));
+      ran = (
+        [],
+        sym (append-nil c.args.replies.now.items),
+        refl,
+        λ history x.
+            let I : List Step → Type 0 = λ z. IsAfter (f c.args.self.now.1) c.args.self.now.0 z in
+            (tt, subst I (sym (append-nil history)) x),
+      );
     }
 
 pub loop-event-preserved : goal.loop-event-preserved
@@ -35,9 +39,11 @@ loop-event-preserved g c =
       offer = a.ensures.offer ∙ i.offer;
       keeps = Keeps-trans (f c.args.self.now.1) (f c.loop-event.self.1) (f a.new.self.1) i.keeps a.ensures.keeps;
       later = g.met.E.Export.later_on c.args.self.now.1 c.loop-event.self.1 a.new.self.1 i.later a.ensures.later;
-      ran = (r.0 ++ one,
+      ran = (
+        r.0 ++ one,
         c.in-Ok.ensures.items ∙ ap (λ x. x ++ one) (c.reserve.ensures.items ∙ r.1) ∙ append_assoc c.args.replies.now.items r.0 one,
         omega (arith, length-append r.0 one, n),
         λ history x. ran_on (f c.loop-event.self.1) (f a.new.self.1) c.args.self.now.0.offer c.loop-event.self.0 a.new.self.0 history events r.0 c.event-item.result a.result
-          a.ensures.keeps i.offer a.ensures.offer l is (r.3 history x) a.ensures.replies a.ensures.after);
+            a.ensures.keeps i.offer a.ensures.offer l is (r.3 history x) a.ensures.replies a.ensures.after,
+      );
     }

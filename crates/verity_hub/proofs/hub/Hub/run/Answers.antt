@@ -1,0 +1,37 @@
+use Rattle.std.proofs.Common.{◌++◌, List, sym, subst}
+use Rattle.nbd_hub.specs.History.{Step, steps}
+use Rattle.nbd_hub.specs.Sessions.{HubState}
+use Rattle.nbd_hub.specs.After.{EachAfter, Given, IsAfter}
+use Rattle.nbd_hub.proofs.Runs.{each_weaker}
+use Rattle.verity_check.specs.Table.{Table}
+use Rattle.verity_check.specs.Right.{Fits}
+use Rattle.verity_check.specs.Verifier.{Verifying, IsOnlyReading, IsVerifier}
+use Rattle.verity_hub.specs.Volume.{facts_of, IsRightFor}
+use Rattle.verity_hub.proofs.VolumeLaws.{given_right}
+use Rattle.verity_hub.proofs.hub.Hub.run.Goals as goal
+
+pub returns-clause-ran : goal.returns-clause-ran
+returns-clause-ran g c =
+    let D = g.D.BlockStore in
+    let H = g.H.BlockStore in
+    let events = c.args.events.now in
+    let v : HubState × Verifying g.row.D.Denot g.row.H.Denot = c.args.self.now in
+    let w : HubState × Verifying g.row.D.Denot g.row.H.Denot = c.run-result.new.self in
+    let r = c.run-result.ensures.ran in
+    let ran : (history : List Step) → IsAfter (facts_of D H v.1) v.0 history
+    → EachAfter (Given (facts_of D H w.1)) v.0.offer history events r.0 × IsAfter (facts_of D H w.1) w.0 (history ++ steps events r.0) =
+    subst (λ (x : HubState × Verifying g.row.D.Denot g.row.H.Denot). (history : List Step) → IsAfter (facts_of D H x.1) x.0 history
+    → EachAfter (Given (facts_of D H w.1)) x.0.offer history events r.0 × IsAfter (facts_of D H w.1) w.0 (history ++ steps events r.0)) c.self.view_is r.3 in
+    let keeps : IsOnlyReading D H v.1 w.1 = subst (λ (x : HubState × Verifying g.row.D.Denot g.row.H.Denot). IsOnlyReading D H x.1 w.1) c.self.view_is c.run-result.ensures.later in
+    let ok : IsVerifier D H w.1 = subst (λ x. IsVerifier D H x) c.export.ensures c.check.ensures in (
+      r.0,
+      r.1,
+      r.2,
+      λ history after.
+          let e = ran history after in (
+            e.0,
+            (λ image fits. each_weaker (Given (facts_of D H w.1)) (IsRightFor D H w.1 image) v.0.offer history events r.0
+                (given_right D H g.met.D.BlockStore.gave_sized g.met.H.BlockStore.gave_sized w.1 ok image (subst (λ (t : Table). Fits t image) (sym keeps.table) fits)) e.0),
+            e.1,
+          ),
+    )
