@@ -132,7 +132,11 @@ fn a_flipped_bit_is_eio(rt: HostRuntime) -> Result<(), Fail> {
     let mut want = Vec::from_slice(alloc, WELCOME_17)?;
     add_reply(&mut want, 2048, EIO, b"")?;
     add_reply(&mut want, 2048, 0, &[4; 512])?;
-    let said = served(alloc, &mut hub, &client(alloc, &[(2048, 1536), (2048, 512)])?)?;
+    let said = served(
+        alloc,
+        &mut hub,
+        &client(alloc, &[(2048, 1536), (2048, 512)])?,
+    )?;
     assert_eq!(rt; said.as_slice(), want.as_slice());
 
     let bad_level = store(flipped(hash, 512))?;
@@ -206,10 +210,18 @@ fn only_the_read_that_meets_a_failure_is_eio(rt: HostRuntime) -> Result<(), Fail
         let mut hub = make_hub(alloc, 17, 0, ROOT_17, data, store(hash.clone()?)?)?;
         let said = served(alloc, &mut hub, &input)?;
         let first = said.get(32..36);
-        assert_eq!(rt; first, Some(errors[0].to_be_bytes().as_slice()), "call {call}");
+        assert_eq!(rt;
+            first,
+            Some(errors[0].to_be_bytes().as_slice()),
+            "call {call}"
+        );
         let next = if errors[0] == 0 { 44 + 1536 } else { 44 };
         let second = said.get(next + 4..next + 8);
-        assert_eq!(rt; second, Some(errors[1].to_be_bytes().as_slice()), "call {call}");
+        assert_eq!(rt;
+            second,
+            Some(errors[1].to_be_bytes().as_slice()),
+            "call {call}"
+        );
     }
     Ok(())
 }

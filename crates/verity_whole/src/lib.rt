@@ -40,10 +40,8 @@ pub fn build_and_serve<D: BlockStore + Drop, H: BlockStore + Drop, R: Read, W: W
     writer: &mut W,
     limit: u64,
 ) -> Result<Result<(), ServeFault>, Refusal>
-    ensures {
-        D.tells data_store ≡ true → H.tells hash_store ≡ true → IfOk result (λ served. Carries D.BlockStore H.BlockStore name (D.size data_store) (D.content data_store)
-            (record { reader = R.remaining reader.old; reader' = R.remaining reader.new; writer = W.contents writer.old; writer' = W.contents writer.new }) limit served)
-    }
+    ensures { D.tells data_store ≡ true → H.tells hash_store ≡ true → IfOk result (λ served. Carries D.BlockStore H.BlockStore data_store hash_store name
+        (record { reader = R.remaining reader.old; reader' = R.remaining reader.new; writer = W.contents writer.old; writer' = W.contents writer.new }) limit served) }
 {
     let Ok(root) = build(alloc, &mut data_store, &mut hash_store, params) else {
         return Err(Refusal::Build);
@@ -56,7 +54,9 @@ pub fn build_and_serve<D: BlockStore + Drop, H: BlockStore + Drop, R: Read, W: W
     let Ok(salt) = Salt::new(alloc, params.salt().bytes()) else {
         return Err(Refusal::Line);
     };
-    let Ok(table) = Table::new(alloc, "data", "hash", data_size, hash_size, blocks, 1, root, salt) else {
+    let Ok(table) = Table::new(
+        alloc, "data", "hash", data_size, hash_size, blocks, 1, root, salt,
+    ) else {
         return Err(Refusal::Line);
     };
     let Ok(verifier) = Verifier::new(alloc, table, data_store, hash_store, 1024) else {

@@ -20,23 +20,49 @@ const SAID: &[u8] = b"NBDMAGICIHAVEOPT\x00\x03\x00\x00\x00\x00\x00\x00\x22\x00\x
 #[test]
 fn what_was_built_is_served(rt: HostRuntime) -> Result<(), Fail> {
     let alloc = rt.alloc();
-    let params = Params::new(Salt::new(alloc, b"\x00\xff")?, Uuid::from_bytes([7; 16]), Algorithm::Sha512);
+    let params = Params::new(
+        Salt::new(alloc, b"\x00\xff")?,
+        Uuid::from_bytes([7; 16]),
+        Algorithm::Sha512,
+    );
     let data = MemStore::new(vec![in alloc; 0x5a; 8_704]?, 512)?;
     let hash = MemStore::zeroed(alloc, 512, 0)?;
     let mut reader = CLIENT;
     let mut said = Vec::new(alloc);
     let name = ExportName::new(b"vol")?;
-    let served = build_and_serve(alloc, data, hash, &params, name, &mut reader, &mut said, 100);
+    let served = build_and_serve(
+        alloc,
+        data,
+        hash,
+        &params,
+        name,
+        &mut reader,
+        &mut said,
+        100,
+    );
     assert_eq!(rt; served, Ok(Ok(())));
     let mut want = Vec::from_slice(alloc, SAID)?;
     want.extend_from_slice(&[0x5a; 512])?;
     assert_eq!(rt; said.as_slice(), want.as_slice());
 
-    let params = Params::new(Salt::new(alloc, b"")?, Uuid::from_bytes([7; 16]), Algorithm::Sha256);
+    let params = Params::new(
+        Salt::new(alloc, b"")?,
+        Uuid::from_bytes([7; 16]),
+        Algorithm::Sha256,
+    );
     let none = MemStore::zeroed(alloc, 512, 0)?;
     let hash = MemStore::zeroed(alloc, 512, 0)?;
     let name = ExportName::new(b"vol")?;
-    let served = build_and_serve(alloc, none, hash, &params, name, &mut reader, &mut said, 100);
+    let served = build_and_serve(
+        alloc,
+        none,
+        hash,
+        &params,
+        name,
+        &mut reader,
+        &mut said,
+        100,
+    );
     assert_eq!(rt; served, Err(Refusal::Build));
     Ok(())
 }
