@@ -1,8 +1,8 @@
 //! Clients of volumes whose data blocks and hash blocks have 512 bytes, without a salt, and whose data blocks are filled
 //! with their numbers. Their root hashes are those of an independent program; the replies stand in the protocol's tables.
 
-use crate::{Event, Hub, HubFault, HubReply, Piece, serve_stream};
-use nbd_session::{ExportName, Status};
+use crate::{Event, Hub, HubReply, Piece, ServeFault, serve_stream};
+use nbd_session::ExportName;
 use std::alloc::{AllocError, Global};
 use std::test::Fail;
 use verity_check::Verifier;
@@ -91,14 +91,19 @@ fn make_hub<D: BlockStore + Drop, H: BlockStore + Drop>(
     Ok(Hub::new(alloc, verifier, ExportName::new(b"vol")?))
 }
 
-/// A client that greets and asks for these ranges; each cookie is the offset.
+/// Adds a READ whose cookie is its offset.
+fn add_read(bytes: &mut Vec<u8>, offset: u64, len: u32) -> Result<(), AllocError> {
+    bytes.extend_from_slice(b"\x25\x60\x95\x13\x00\x00\x00\x00")?;
+    bytes.extend_from_slice(&offset.to_be_bytes())?;
+    bytes.extend_from_slice(&offset.to_be_bytes())?;
+    bytes.extend_from_slice(&len.to_be_bytes())
+}
+
+/// A client that greets and asks for these ranges.
 fn client(alloc: Global, ranges: &[(u64, u32)]) -> Result<Vec<u8>, AllocError> {
     let mut bytes = Vec::from_slice(alloc, HELLO)?;
     for (offset, len) in ranges {
-        bytes.extend_from_slice(b"\x25\x60\x95\x13\x00\x00\x00\x00")?;
-        bytes.extend_from_slice(&offset.to_be_bytes())?;
-        bytes.extend_from_slice(&offset.to_be_bytes())?;
-        bytes.extend_from_slice(&len.to_be_bytes())?;
+        add_read(&mut bytes, *offset, *len)?;
     }
     Ok(bytes)
 }
@@ -111,146 +116,195 @@ fn add_reply(said: &mut Vec<u8>, offset: u64, error: u32, data: &[u8]) -> Result
     said.extend_from_slice(data)
 }
 
-/// What is said to a client.
-fn served<D: BlockStore, H: BlockStore>(
-    alloc: Global,
-    hub: &mut Hub<D, H>,
-    input: &[u8],
-) -> Result<Vec<u8>, Fail> {
-    let mut reader = input;
-    let mut said = Vec::new(alloc);
-    serve_stream(hub, &mut reader, &mut said, 1000)?;
-    Ok(said)
+/// Serves one client by a hub, whose end it is.
+fn serve_once<D: BlockStore + Drop, H: BlockStore + Drop>(
+    mut hub: Hub<D, H>,
+    mut input: &[u8],
+    said: &mut Vec<u8>,
+) -> Result<(), ServeFault> {
+    serve_stream(&mut hub, &mut input, said, 1000)
+}
+
+/// Does events with a hub, whose end it is.
+fn run_once<D: BlockStore + Drop, H: BlockStore + Drop>(
+    mut hub: Hub<D, H>,
+    events: &[Event],
+    replies: &mut Vec<HubReply>,
+) -> Result<(), AllocError> {
+    hub.run(events, replies)
+}
+
+/// What sessions 0 and 1 said.
+fn said_by_two(
+    events: &[Event],
+    replies: &[HubReply],
+    first: &mut Vec<u8>,
+    second: &mut Vec<u8>,
+) -> Result<(), AllocError> {
+    for (event, reply) in events.iter().zip(replies) {
+        match (event, reply) {
+            (Event::Open, HubReply::Opened(0, piece)) => first.extend_from_slice(piece.as_slice())?,
+            (Event::Open, HubReply::Opened(1, piece)) => second.extend_from_slice(
+                piece.as_slice(),
+            )?,
+            (Event::Feed(0, _), HubReply::Fed(_, piece)) => first.extend_from_slice(
+                piece.as_slice(),
+            )?,
+            (Event::Feed(1, _), HubReply::Fed(_, piece)) => second.extend_from_slice(
+                piece.as_slice(),
+            )?,
+            _ => {}
+        }
+    }
+    Ok(())
 }
 
 #[test]
 fn a_flipped_bit_is_eio(rt: HostRuntime) -> Result<(), Fail> {
     let alloc = rt.alloc();
-    let hash = tree(alloc, b"", &image(alloc, 17)?)?;
-    let data = store(flipped(image(alloc, 17)?, 2567))?;
-    let mut hub = make_hub(alloc, 17, 0, ROOT_17, data, store(hash.clone()?)?)?;
+    let input = client(alloc, &[(2048, 1536), (2048, 512)])?;
     let mut want = Vec::from_slice(alloc, WELCOME_17)?;
     add_reply(&mut want, 2048, EIO, b"")?;
     add_reply(&mut want, 2048, 0, &[4; 512])?;
-    let said = served(
-        alloc,
-        &mut hub,
-        &client(alloc, &[(2048, 1536), (2048, 512)])?,
+    let mut said = Vec::new(alloc);
+    let hash = store(tree(alloc, b"", &image(alloc, 17)?)?)?;
+    let data = store(flipped(image(alloc, 17)?, 2567))?;
+    serve_once(
+        make_hub(alloc, 17, 0, ROOT_17, data, hash)?,
+        &input,
+        &mut said,
     )?;
-    assert_eq!(rt; said.as_slice(), want.as_slice());
-
-    let bad_level = store(flipped(hash, 512))?;
-    let mut hub = make_hub(alloc, 17, 0, ROOT_17, store(image(alloc, 17)?)?, bad_level)?;
-    let mut want = Vec::from_slice(alloc, WELCOME_17)?;
-    add_reply(&mut want, 0, EIO, b"")?;
-    add_reply(&mut want, 8191, EIO, b"")?;
-    add_reply(&mut want, 0, 0, b"")?;
-    add_reply(&mut want, 8192, 0, &[16; 512])?;
-    let input = client(alloc, &[(0, 1), (8191, 2), (0, 0), (8192, 512)])?;
-    let said = served(alloc, &mut hub, &input)?;
     assert_eq!(rt; said.as_slice(), want.as_slice());
     Ok(())
 }
 
 #[test]
-fn a_second_read_is_checked_again(rt: HostRuntime) -> Result<(), Fail> {
+fn a_flipped_bit_of_a_level_is_eio(rt: HostRuntime) -> Result<(), Fail> {
     let alloc = rt.alloc();
-    let hash = tree(alloc, b"", &image(alloc, 17)?)?;
+    let input = client(alloc, &[(0, 1), (8191, 2), (0, 0), (8192, 512)])?;
+    let mut want = Vec::from_slice(alloc, WELCOME_17)?;
+    add_reply(&mut want, 0, EIO, b"")?;
+    add_reply(&mut want, 8191, EIO, b"")?;
+    add_reply(&mut want, 0, 0, b"")?;
+    add_reply(&mut want, 8192, 0, &[16; 512])?;
+    let mut said = Vec::new(alloc);
+    let hash = store(flipped(tree(alloc, b"", &image(alloc, 17)?)?, 512))?;
+    let data = store(image(alloc, 17)?)?;
+    serve_once(
+        make_hub(alloc, 17, 0, ROOT_17, data, hash)?,
+        &input,
+        &mut said,
+    )?;
+    assert_eq!(rt; said.as_slice(), want.as_slice());
+    Ok(())
+}
+
+/// A byte to feed.
+fn one(alloc: Global, byte: u8) -> Result<Piece, AllocError> {
+    Ok(Piece::new(Vec::from_slice(alloc, &[byte])?))
+}
+
+/// Two sessions that are fed the same READ byte by byte in turn, and the first of them once more.
+fn two_in_turn(alloc: Global) -> Result<Vec<Event>, AllocError> {
+    let mut events = Vec::new(alloc);
+    events.push(Event::Open)?;
+    events.push(Event::Open)?;
+    for byte in client(alloc, &[(1536, 512)])? {
+        events.push(Event::Feed(0, one(alloc, byte)?))?;
+        events.push(Event::Feed(1, one(alloc, byte)?))?;
+    }
+    let mut again = Vec::new(alloc);
+    add_read(&mut again, 1536, 512)?;
+    events.push(Event::Feed(0, Piece::new(again)))?;
+    Ok(events)
+}
+
+/// A data store that gives the right block 3, then a wrong one, then the right one again.
+fn changing(alloc: Global) -> Result<ScriptStore, Fail> {
     let mut answers = Vec::new(alloc);
     for byte in [3, 4, 3] {
         answers.push(Answer::Block(Block::new(vec![in alloc; byte; 512]?)))?;
     }
-    let data = ScriptStore::new(alloc, 512, 17, answers)?;
-    let mut hub = make_hub(alloc, 17, 0, ROOT_17, data, store(hash)?)?;
+    Ok(ScriptStore::new(alloc, 512, 17, answers)?)
+}
+
+#[test]
+fn a_second_read_is_checked_again(rt: HostRuntime) -> Result<(), Fail> {
+    let alloc = rt.alloc();
+    let events = two_in_turn(alloc)?;
+    let mut replies = Vec::new(alloc);
+    let hash = store(tree(alloc, b"", &image(alloc, 17)?)?)?;
+    let data = changing(alloc)?;
+    run_once(
+        make_hub(alloc, 17, 0, ROOT_17, data, hash)?,
+        &events,
+        &mut replies,
+    )?;
     let mut first = Vec::new(alloc);
     let mut second = Vec::new(alloc);
-    assert_eq!(rt; hub.open(&mut first), Ok(0));
-    assert_eq!(rt; hub.open(&mut second), Ok(1));
-    for byte in client(alloc, &[(1536, 512)])? {
-        assert_eq!(rt; hub.feed(0, &[byte], &mut first), Ok(Status::Open));
-        assert_eq!(rt; hub.feed(1, &[byte], &mut second), Ok(Status::Open));
-    }
+    said_by_two(&events, &replies, &mut first, &mut second)?;
     let mut carried = Vec::from_slice(alloc, WELCOME_17)?;
+    add_reply(&mut carried, 1536, 0, &[3; 512])?;
     add_reply(&mut carried, 1536, 0, &[3; 512])?;
     let mut refused = Vec::from_slice(alloc, WELCOME_17)?;
     add_reply(&mut refused, 1536, EIO, b"")?;
     assert_eq!(rt; first.as_slice(), carried.as_slice());
     assert_eq!(rt; second.as_slice(), refused.as_slice());
-    let again = served(alloc, &mut hub, &client(alloc, &[(1536, 512)])?)?;
-    assert_eq!(rt; again.as_slice(), carried.as_slice());
     Ok(())
 }
 
 #[test]
 fn the_table_line_alone_counts(rt: HostRuntime) -> Result<(), Fail> {
     let alloc = rt.alloc();
+    let input = client(alloc, &[(0, 16384)])?;
     let data = image(alloc, 32)?;
-    let hash = tree(alloc, &[2; 512], &data)?;
-    let mut hub = make_hub(alloc, 32, 1, ROOT_32, store(data.clone()?)?, store(hash)?)?;
     let mut want = Vec::from_slice(alloc, WELCOME_32)?;
     add_reply(&mut want, 0, 0, &data)?;
-    let said = served(alloc, &mut hub, &client(alloc, &[(0, 16384)])?)?;
+    let mut said = Vec::new(alloc);
+    let hash = store(tree(alloc, &[2; 512], &data)?)?;
+    serve_once(
+        make_hub(alloc, 32, 1, ROOT_32, store(data)?, hash)?,
+        &input,
+        &mut said,
+    )?;
     assert_eq!(rt; said.as_slice(), want.as_slice());
     Ok(())
 }
 
-#[test]
-fn only_the_read_that_meets_a_failure_is_eio(rt: HostRuntime) -> Result<(), Fail> {
-    let alloc = rt.alloc();
+/// What is said to two READs of 1,536 bytes each, where the data store fails at its call of this number.
+fn said_with_failure(alloc: Global, call: u64) -> Result<Vec<u8>, Fail> {
     let input = client(alloc, &[(2048, 1536), (512, 1536)])?;
-    let hash = tree(alloc, b"", &image(alloc, 17)?)?;
-    for (call, errors) in [
-        (1, [EIO, 0]),
-        (3, [EIO, 0]),
-        (4, [0, EIO]),
-        (6, [0, EIO]),
-        (7, [0, 0]),
-    ] {
-        let data = FailStore::at(store(image(alloc, 17)?)?, call);
-        let mut hub = make_hub(alloc, 17, 0, ROOT_17, data, store(hash.clone()?)?)?;
-        let said = served(alloc, &mut hub, &input)?;
-        let first = said.get(32..36);
-        assert_eq!(rt;
-            first,
-            Some(errors[0].to_be_bytes().as_slice()),
-            "call {call}"
-        );
-        let next = if errors[0] == 0 { 44 + 1536 } else { 44 };
-        let second = said.get(next + 4..next + 8);
-        assert_eq!(rt;
-            second,
-            Some(errors[1].to_be_bytes().as_slice()),
-            "call {call}"
-        );
-    }
-    Ok(())
+    let mut said = Vec::new(alloc);
+    let hash = store(tree(alloc, b"", &image(alloc, 17)?)?)?;
+    let data = FailStore::at(store(image(alloc, 17)?)?, call);
+    serve_once(
+        make_hub(alloc, 17, 0, ROOT_17, data, hash)?,
+        &input,
+        &mut said,
+    )?;
+    Ok(said)
 }
 
 #[test]
-fn each_event_has_a_reply(rt: HostRuntime) -> Result<(), Fail> {
-    let alloc = rt.alloc();
-    let data = image(alloc, 17)?;
-    let hash = tree(alloc, b"", &data)?;
-    let mut hub = make_hub(alloc, 17, 0, ROOT_17, store(data)?, store(hash)?)?;
-    let mut events = Vec::new(alloc);
-    events.push(Event::Open)?;
-    events.push(Event::Feed(0, Piece::new(client(alloc, &[])?)))?;
-    events.push(Event::End(0))?;
-    events.push(Event::End(0))?;
-    let mut replies = Vec::new(alloc);
-    hub.run(&events, &mut replies)?;
-    let mut said = Vec::new(alloc);
-    let mut refusals = 0;
-    for reply in &replies {
-        match reply {
-            HubReply::Opened(_, piece) | HubReply::Fed(Status::Open, piece) => {
-                said.extend_from_slice(piece.as_slice())?;
-            }
-            HubReply::Refused(HubFault::Unknown) => refusals += 1,
-            _ => {}
-        }
+fn only_the_read_that_meets_a_failure_is_eio(rt: HostRuntime) -> Result<(), Fail> {
+    for (call, first, second, next) in [
+        (1, EIO, 0, 44),
+        (3, EIO, 0, 44),
+        (4, 0, EIO, 1580),
+        (6, 0, EIO, 1580),
+        (7, 0, 0, 1580),
+    ] {
+        let said = said_with_failure(rt.alloc(), call)?;
+        assert_eq!(rt;
+            said.get(32..36),
+            Some(first.to_be_bytes().as_slice()),
+            "call {call}"
+        );
+        assert_eq!(rt;
+            said.get(next + 4..next + 8),
+            Some(second.to_be_bytes().as_slice()),
+            "call {call}"
+        );
     }
-    assert_eq!(rt; said.as_slice(), WELCOME_17);
-    assert_eq!(rt; (replies.len(), refusals), (4, 1));
     Ok(())
 }
