@@ -48,7 +48,6 @@ impl<A: Allocator + Copy> Tree<A> {
         ensures { IfOk result (λ t. t ≡ table) }
     {
         let _start = table.hash_start_block();
-<<<<<<< HEAD
         let _sizes = (
             table.data_block_size(),
             table.hash_block_size(),
@@ -62,13 +61,6 @@ impl<A: Allocator + Copy> Tree<A> {
                     geometry,
                     hasher,
                 })
-=======
-        let _sizes = (table.data_block_size(), table.hash_block_size(), table.data_blocks());
-        match Salt::new(alloc, table.salt().bytes()) {
-            Ok(salt) => {
-                let hasher = Hasher::new(salt, table.algorithm());
-                Ok(Tree { table, geometry, hasher })
->>>>>>> hub
             }
             Err(_) => Err(AllocError),
         }
@@ -109,15 +101,7 @@ impl<A: Allocator> Tree<A> {
         requires within { n < self.now.data_blocks }
         ensures { result ≡ path_index self.now n row }
     {
-<<<<<<< HEAD
         if row == 0 { n } else { self.above(row - 1, n) }
-=======
-        if row == 0 {
-            n
-        } else {
-            self.above(row - 1, n)
-        }
->>>>>>> hub
     }
 
     /// The number in the hash store of a block of a level.
