@@ -9,8 +9,6 @@ mod building;
 #[cfg(test)]
 mod checking;
 #[cfg(test)]
-mod editing;
-#[cfg(test)]
 mod failures;
 #[cfg(test)]
 mod heaps;
