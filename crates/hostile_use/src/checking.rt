@@ -10,7 +10,13 @@ use verity_store::{FailStore, MemStore, Which};
 
 fn verifier(alloc: Global, cache: usize) -> Result<Verifier<MemStore, MemStore>, Fail> {
     let (hash_store, root) = device(alloc)?;
-    Ok(Verifier::new(alloc, table(alloc, root)?, numbered(alloc, 17)?, hash_store, cache)?)
+    Ok(Verifier::new(
+        alloc,
+        table(alloc, root)?,
+        numbered(alloc, 17)?,
+        hash_store,
+        cache,
+    )?)
 }
 
 #[test]
