@@ -1,18 +1,17 @@
 -- An editor, as a contract sees it.
-use Rattle.std.specs.Prelude.{◌≡◌, ℕ, ◌+◌, ◌-◌, ◌^◌, ◌<◌, ◌≤◌, Bool, true, false, List, [], ◌∷◌, ◌++◌, length, take, drop, slice_index_or}
+use Rattle.std.specs.Prelude.{◌≡◌, ℕ, ◌+◌, ◌-◌, ◌^◌, ◌<◌, ◌≤◌, Bool, true, false, List, [], length, take, drop, slice_index_or}
 use Rattle.std.specs.List.{concat}
 use Rattle.verity_digest.specs.Hash.{Salted, size_of}
 use Rattle.verity_digest.specs.Tree.{Hashing, root, tree}
 use Rattle.verity_geometry.specs.Geometry.{digests_per_block, total_of}
 use Rattle.verity_store.specs.declared.store.BlockStore as store
-use Rattle.verity_superblock.specs.Superblock.{Params, Volume, salted}
+use Rattle.verity_superblock.specs.Superblock.{Volume, salted}
 use Rattle.verity_superblock.specs.Image.{hash_blocks, hash_image}
 use Rattle.verity_edit.specs.declared.command.Committed.{Committed}
 use Rattle.verity_edit.specs.Edits.{Edits}
-use Rattle.verity_edit.specs.Touched.{bound, touched_count}
+use Rattle.verity_edit.specs.Touched.{bound}
 use Rattle.verity_edit.specs.Draft.{Draft, edits_of}
 use Rattle.verity_edit.specs.After.{State}
-use Rattle.verity_edit.specs.Levels.{KeepsFront}
 use Rattle.verity_edit.specs.Standing.{BeginsWith}
 use Rattle.verity_edit.specs.Planning.{volume_shape, volume_hashing}
 

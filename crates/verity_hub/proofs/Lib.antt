@@ -1,2 +1,3 @@
 pub mod VolumeLaws
 pub mod Saying
+pub mod Answering

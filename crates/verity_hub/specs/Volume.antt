@@ -1,5 +1,5 @@
 -- A verifier as an export, and the verdicts that are right under its table line. The facts of a store of the type S are S.BlockStore.
-use Rattle.std.specs.Prelude.{◌≡◌, ℕ, ◌+◌, ◌*◌, ◌≤◌, ◌⊎◌, List, length}
+use Rattle.std.specs.Prelude.{◌≡◌, ℕ, ◌+◌, ◌*◌, ◌≤◌, ◌⊎◌, List, length, Result, Ok, Err}
 use Rattle.std.specs.List.{concat}
 use Rattle.verity_store.specs.declared.store.BlockStore as store
 use Rattle.verity_check.specs.Right.{AreRight, bytes_of}
@@ -10,6 +10,16 @@ use Rattle.nbd_session.specs.declared.phase.Phase.TheVariants.{Flags}
 use Rattle.nbd_session.specs.Protocol.{nbd_eio, nbd_enomem}
 use Rattle.nbd_session.specs.Talk.{Verdict, Bytes, Refused, Judged, hear, talk}
 use Rattle.nbd_session.specs.Export.{Facts, eios}
+use Rattle.nbd_session.specs.declared.export.ExportFault.{ExportFault}
+use Rattle.nbd_session.specs.declared.export.ExportFault.TheVariants as export
+use Rattle.verity_check.specs.declared.fault.CheckFault.{CheckFault}
+use Rattle.verity_check.specs.declared.fault.CheckFault.TheVariants as check
+
+-- an answer as a session takes it: a refusal is want of memory, or else Io
+abbrev pub answer_of : Result (Unit {0}) CheckFault → Result (Unit {0}) ExportFault
+answer_of (Ok x) = Ok x
+answer_of (Err check.NoMemory) = Err export.NoMemory
+answer_of (Err fault) = Err export.Io
 
 -- The verdict is the image's own bytes; or want of memory; or EIO.
 abbrev pub IsExactFor : (image : List (List ℕ)) → (offset len : ℕ) → Verdict → Type 0

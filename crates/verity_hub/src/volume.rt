@@ -1,8 +1,8 @@
 //! A verifier as what sessions read from.
 
-ghost use Rattle.std.specs.Prelude.{◌≡◌, ◌↔◌};
+ghost use Rattle.std.specs.Prelude.{◌≡◌};
 ghost use Rattle.verity_check.specs.Verifier.{IsOnlyReading, IsVerifier};
-ghost use Rattle.verity_hub.specs.Volume.{facts_of};
+ghost use Rattle.verity_hub.specs.Volume.{answer_of, facts_of};
 
 use nbd_session::{Export, ExportFault};
 use std::alloc::{Allocator, Global};
@@ -40,16 +40,19 @@ impl<D: BlockStore, H: BlockStore, A: Allocator> Volume<D, H, A> {
     }
 }
 
-/// A refusal as a session takes it: want of memory, or else Io.
-fn export_fault(fault: CheckFault) -> ExportFault
-    ensures { (result ≡ ExportFault.NoMemory) ↔ (fault ≡ CheckFault.NoMemory) }
+/// An answer as a session takes it: a refusal is want of memory, or else Io.
+fn export_answer(answer: Result<(), CheckFault>) -> Result<(), ExportFault>
+    ensures { result ≡ answer_of answer }
 {
-    match fault {
-        CheckFault::NoMemory => ExportFault::NoMemory,
-        CheckFault::Mismatch(_)
-        | CheckFault::Store(_)
-        | CheckFault::Lengths
-        | CheckFault::CacheSize => ExportFault::Io,
+    match answer {
+        Ok(()) => Ok(()),
+        Err(CheckFault::NoMemory) => Err(ExportFault::NoMemory),
+        Err(
+            CheckFault::Mismatch(_)
+            | CheckFault::Store(_)
+            | CheckFault::Lengths
+            | CheckFault::CacheSize,
+        ) => Err(ExportFault::Io),
     }
 }
 
@@ -74,10 +77,8 @@ impl<D: BlockStore, H: BlockStore, A: Allocator + Copy + Drop> Export for Volume
         out: &mut Vec<u8, B>,
     ) -> Result<(), ExportFault> {
         self.check();
-        match self.verifier.read_at(offset, len, out) {
-            Ok(()) => Ok(()),
-            Err(fault) => Err(export_fault(fault)),
-        }
+        let answer = self.verifier.read_at(offset, len, out);
+        export_answer(answer)
     }
 
     ghost use Rattle.verity_hub.specs.Reading.{reading_same, reading_on};

@@ -1,11 +1,12 @@
 //! One client of a device that was built a moment before.
 
-use crate::{Refusal, build_and_serve};
+use crate::{Refusal, build_and_serve, commit_and_serve};
 use nbd_session::ExportName;
 use std::test::Fail;
 use uuid::Uuid;
-use verity_build::Params;
+use verity_build::{Params, build};
 use verity_digest::{Algorithm, Salt};
+use verity_edit::Editor;
 use verity_store::MemStore;
 
 /// Client flags, EXPORT_NAME with the empty name, READ of the last block of 17, and DISC.
@@ -64,5 +65,32 @@ fn what_was_built_is_served(rt: HostRuntime) -> Result<(), Fail> {
         100,
     );
     assert_eq!(rt; served, Err(Refusal::Build));
+    Ok(())
+}
+
+#[test]
+fn what_was_committed_is_served(rt: HostRuntime) -> Result<(), Fail> {
+    let alloc = rt.alloc();
+    let mut want = Vec::from_slice(alloc, SAID)?;
+    want.extend_from_slice(&[0x11; 512])?;
+    let params = Params::new(
+        Salt::new(alloc, b"")?,
+        Uuid::from_bytes([7; 16]),
+        Algorithm::Sha256,
+    );
+    let mut data = MemStore::new(vec![in alloc; 0x5a; 8_192]?, 512)?;
+    let mut hash = MemStore::zeroed(alloc, 512, 0)?;
+    build(alloc, &mut data, &mut hash, &params)?;
+    let mut reader = CLIENT;
+    let mut said = Vec::new(alloc);
+    let name = ExportName::new(b"vol")?;
+    let mut served = None;
+    if let Ok(mut editor) = Editor::open(alloc, data, hash) {
+        editor.grow(17)?;
+        editor.write(16, &[0x11; 512])?;
+        served = Some(commit_and_serve(alloc, editor, name, &mut reader, &mut said, 100));
+    }
+    assert_eq!(rt; served, Some(Ok(Ok(()))));
+    assert_eq!(rt; said.as_slice(), want.as_slice());
     Ok(())
 }

@@ -1,4 +1,4 @@
-use Rattle.std.proofs.Common.{◌≡◌, ℕ, ◌+◌, ◌-◌, ◌*◌, ◌/◌, ◌<◌, ◌≤◌, List, [], length, drop, take, get_or, arith, subst, sym, ap, ◌∙◌, true, refl}
+use Rattle.std.proofs.Common.{◌≡◌, ℕ, List, arith, subst, sym, ◌∙◌}
 use Rattle.verity_superblock.specs.Superblock.{Volume}
 use Rattle.verity_edit.specs.declared.tree.Change.{Change}
 use Rattle.verity_edit.specs.Draft.{Draft}

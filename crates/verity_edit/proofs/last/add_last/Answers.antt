@@ -1,6 +1,6 @@
-use Rattle.std.proofs.Common.{◌≡◌, ℕ, ◌+◌, ◌-◌, ◌*◌, ◌/◌, ◌%◌, ◌<◌, ◌≤◌, List, [], ◌∷◌, ◌++◌, length, take, drop, get_or, arith, subst, sym, ap, ◌∙◌}
+use Rattle.std.proofs.Common.{◌≡◌, ℕ, ◌+◌, ◌-◌, ◌*◌, ◌/◌, ◌%◌, ◌<◌, [], ◌∷◌, ◌++◌, length, take, drop, get_or, arith, subst, sym, ap, ◌∙◌}
 use Rattle.verity_digest.specs.Hash.{size_of}
-use Rattle.verity_digest.specs.Tree.{Hashing, per_block, slot}
+use Rattle.verity_digest.specs.Tree.{per_block}
 use Rattle.verity_digest.specs.Shape.{level_count, level_len, place}
 use Rattle.verity_geometry.specs.Geometry.{Shape, digests_per_block}
 use Rattle.verity_geometry.proofs.Shapes.{branching, some}

@@ -1,9 +1,9 @@
-use Rattle.std.proofs.Common.{◌≡◌, ℕ, ◌+◌, ◌*◌, ◌/◌, ◌<◌, ◌≤◌, List, [], length, get_or, arith, rules, subst, sym, ap, ◌∙◌, refl}
+use Rattle.std.proofs.Common.{◌≡◌, ℕ, ◌*◌, ◌/◌, ◌<◌, ◌≤◌, [], length, get_or, arith, subst, sym, ap, ◌∙◌}
 use Rattle.std.specs.Prelude.{IfSome}
 use Rattle.std.specs.Int.{div_ceil}
 use Rattle.std.specs.Fork.{slice_chunk}
 use Rattle.verity_digest.specs.Tree.{Hashing, per_block, pack, hash_block}
-use Rattle.verity_digest.specs.Hash.{hashing, size_of}
+use Rattle.verity_digest.specs.Hash.{hashing}
 use Rattle.verity_digest.proofs.Sha.{length-digest_of}
 use Rattle.verity_digest.proofs.Packing.{get_or-pack}
 use Rattle.verity_edit.specs.Level.{Renews}

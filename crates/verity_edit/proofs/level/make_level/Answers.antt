@@ -1,4 +1,4 @@
-use Rattle.std.proofs.Common.{◌≡◌, ℕ, ◌+◌, ◌*◌, ◌<◌, ◌≤◌, ◌++◌, ◌∷◌, List, [], length, take, map, get_or, arith, subst, sym, ap, ◌∙◌}
+use Rattle.std.proofs.Common.{◌≡◌, ℕ, ◌+◌, ◌<◌, ◌≤◌, ◌++◌, ◌∷◌, List, [], length, take, map, get_or, arith, subst, sym, ap, ◌∙◌}
 use Rattle.std.proofs.lemmas.List.{take_all, map_more, append_assoc, take_more}
 use Rattle.verity_digest.specs.Tree.{Hashing, pack}
 use Rattle.verity_digest.specs.Hash.{hashing, size_of}

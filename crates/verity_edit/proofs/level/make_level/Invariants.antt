@@ -1,4 +1,4 @@
-use Rattle.std.proofs.Common.{◌≡◌, ℕ, ◌+◌, ◌<◌, ◌≤◌, ◌++◌, true, List, [], length, map, take}
+use Rattle.std.proofs.Common.{◌≡◌, ℕ, ◌+◌, ◌≤◌, ◌++◌, true, List, length, map, take}
 use Rattle.verity_digest.specs.Hash.{hashing}
 use Rattle.verity_edit.specs.Slots.{AreSized}
 use Rattle.verity_edit.specs.Level.{Holds, Renews}

@@ -1,5 +1,5 @@
-use Rattle.std.proofs.Common.{◌≡◌, ℕ, ◌+◌, ◌<◌, ◌≤◌, arith, ◌∙◌, ap, sym, subst}
-use Rattle.verity_geometry.specs.Geometry.{digests_per_block, levels_of, len_of, start_of}
+use Rattle.std.proofs.Common.{ℕ, ◌+◌, ◌<◌, arith, ◌∙◌, subst}
+use Rattle.verity_geometry.specs.Geometry.{levels_of, len_of, start_of}
 use Rattle.verity_geometry.proofs.OfShape.{starts_rise}
 use Rattle.verity_store.specs.Moves.{IsMoved, ChangesWithin}
 use Rattle.verity_edit.proofs.LevelMoves.{moved_apart, rest_apart, KeepsFront-then, KeepsFront-within}

@@ -1,5 +1,5 @@
-use Rattle.std.proofs.Common.{◌≡◌, ℕ, ◌+◌, ◌<◌, ◌≤◌, true, List, [], length, get_or}
-use Rattle.verity_geometry.specs.Geometry.{digests_per_block, levels_of, len_of, start_of}
+use Rattle.std.proofs.Common.{◌≡◌, ℕ, ◌+◌, ◌<◌, ◌≤◌, true, [], length, get_or}
+use Rattle.verity_geometry.specs.Geometry.{levels_of, len_of, start_of}
 use Rattle.verity_edit.specs.Levels.{KeepsFront}
 use Rattle.verity_edit.proofs.levels.move_together.Given as goal
 

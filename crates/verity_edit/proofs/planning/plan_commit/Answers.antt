@@ -1,17 +1,16 @@
-use Rattle.std.proofs.Common.{◌≡◌, ℕ, ◌+◌, ◌-◌, ◌*◌, ◌/◌, ◌<◌, ◌≤◌, List, [], length, drop, replicate, get_or, arith, subst, sym, ap, ◌∙◌, true, refl}
+use Rattle.std.proofs.Common.{◌≡◌, ℕ, length, drop, replicate, arith, subst, sym, ap, ◌∙◌}
 use Rattle.verity_digest.specs.Hash.{hashing, size_of}
 use Rattle.verity_digest.specs.Tree.{Hashing, root, tree}
-use Rattle.verity_geometry.specs.Geometry.{Shape, IsShape, digests_per_block, levels_of, total_of}
-use Rattle.verity_superblock.specs.Superblock.{Params, Volume, salted}
+use Rattle.verity_geometry.specs.Geometry.{Shape, digests_per_block, levels_of, total_of}
+use Rattle.verity_superblock.specs.Superblock.{Volume}
 use Rattle.verity_superblock.specs.Image.{superblock_block}
-use Rattle.verity_edit.specs.declared.tree.Change.{Change}
 use Rattle.verity_edit.specs.Draft.{Draft, edits_of}
 use Rattle.verity_edit.specs.Touched.{touched_count, bound}
 use Rattle.verity_edit.specs.Plan.{ArePlanned}
 use Rattle.verity_edit.specs.Making.{touched_blocks}
 use Rattle.verity_edit.specs.Carried.{AreInTree}
 use Rattle.verity_edit.specs.Standing.{BeginsWith}
-use Rattle.verity_edit.specs.Planning.{volume_shape, volume_hashing, change_of, IsPlan, IsRight, ReadsTouched}
+use Rattle.verity_edit.specs.Planning.{volume_shape, volume_hashing}
 use Rattle.verity_edit.proofs.planning.plan_commit.Goals as goal
 
 pub returns-in_err-tree-clause-reads : goal.returns-in_err-tree-clause-reads

@@ -1,7 +1,7 @@
-use Rattle.std.proofs.Common.{◌≡◌, ℕ, ◌+◌, ◌-◌, ◌*◌, ◌/◌, ◌<◌, ◌≤◌, List, [], length, drop, get_or, arith, subst, sym, ap, ◌∙◌, true, refl}
-use Rattle.std.proofs.lemmas.List.{length-map, length-replicate}
-use Rattle.verity_digest.specs.Hash.{hashing, size_of}
-use Rattle.verity_digest.specs.Tree.{Hashing, IsHashing, per_block, root, tree}
+use Rattle.std.proofs.Common.{◌≡◌, ℕ, ◌≤◌, List, [], length, drop, get_or, arith, subst, sym, ap, ◌∙◌}
+use Rattle.std.proofs.lemmas.List.{length-map}
+use Rattle.verity_digest.specs.Hash.{hashing}
+use Rattle.verity_digest.specs.Tree.{Hashing, IsHashing, root, tree}
 use Rattle.verity_digest.proofs.Sha.{IsHashing-hashing}
 use Rattle.verity_profile.proofs.Bounds.{block_size_low}
 use Rattle.verity_geometry.specs.Geometry.{Shape, IsShape, digests_per_block, levels_of}
@@ -10,10 +10,10 @@ use Rattle.verity_edit.specs.declared.plan.Child.{Child}
 use Rattle.verity_edit.specs.declared.tree.Change.{Change}
 use Rattle.verity_edit.specs.Edits.{Edits}
 use Rattle.verity_edit.specs.Draft.{Draft, IsDraft, edits_of}
-use Rattle.verity_edit.specs.Touched.{changed_blocks, touched_count, bound}
+use Rattle.verity_edit.specs.Touched.{changed_blocks}
 use Rattle.verity_edit.specs.Slots.{AreNamed}
-use Rattle.verity_edit.specs.Plan.{ArePlanned, numbers_of}
-use Rattle.verity_edit.specs.Making.{IsEdited, IsChange, StandsFor, touched_blocks}
+use Rattle.verity_edit.specs.Plan.{ArePlanned}
+use Rattle.verity_edit.specs.Making.{IsEdited, StandsFor, touched_blocks}
 use Rattle.verity_edit.specs.Last.{AreEdited}
 use Rattle.verity_edit.specs.Standing.{BeginsWith}
 use Rattle.verity_edit.proofs.Drafts.{length-working, KeepsUnchanged-draft}

@@ -1,13 +1,11 @@
-use Rattle.std.proofs.Common.{◌≡◌, true, ℕ, suc, ◌+◌, ◌*◌, ◌<◌, ◌≤◌, ◌++◌, List, [], length, map, get_or, Result, Ok, Err, arith, subst, sym, ap, ◌∙◌}
-use Rattle.std.specs.Prelude.{IfOk}
-use Rattle.verity_digest.specs.Tree.{Hashing, pack}
+use Rattle.std.proofs.Common.{◌≡◌, ℕ, ◌*◌, ◌<◌, ◌++◌, List, length, get_or, arith, subst, sym, ap, ◌∙◌}
+use Rattle.verity_digest.specs.Tree.{Hashing}
 use Rattle.verity_digest.specs.Hash.{hashing, size_of}
 use Rattle.verity_digest.specs.Shape.{row_len}
 use Rattle.verity_geometry.specs.Geometry.{digests_per_block}
 use Rattle.verity_geometry.proofs.Shapes.{branching}
-use Rattle.verity_edit.specs.declared.plan.Child.{Child}
 use Rattle.verity_edit.specs.declared.level.Level.{Level}
-use Rattle.verity_edit.specs.Slots.{AreSized, AreWithin}
+use Rattle.verity_edit.specs.Slots.{AreSized}
 use Rattle.verity_edit.specs.Parents.{parents}
 use Rattle.verity_edit.specs.Plan.{numbers_of, made_blocks, made_digests}
 use Rattle.verity_edit.specs.Level.{IsLevel, AreChildren, Holds, Renews}

@@ -1,10 +1,9 @@
-use Rattle.std.proofs.Common.{◌≡◌, true, ℕ, zero, suc, ◌+◌, ◌-◌, ◌*◌, ◌/◌, ◌<◌, ◌≤◌, ◌++◌, List, [], length, map, get_or, Result, Ok, Err, arith, subst, sym, ap, ◌∙◌, refl, ⊎_elim}
+use Rattle.std.proofs.Common.{◌≡◌, ℕ, suc, ◌+◌, ◌/◌, ◌<◌, ◌≤◌, ◌++◌, List, [], length, map, get_or, arith, subst, sym, ap, ◌∙◌, refl, ⊎_elim}
 use Rattle.std.proofs.lemmas.Bool.{cases_lt}
-use Rattle.std.specs.Prelude.{IfOk}
 use Rattle.std.proofs.lemmas.List.{length-map}
-use Rattle.verity_digest.specs.Tree.{Hashing, IsHashing, per_block, pack}
+use Rattle.verity_digest.specs.Tree.{Hashing, IsHashing, per_block}
 use Rattle.verity_digest.specs.Hash.{hashing, size_of}
-use Rattle.verity_digest.specs.Shape.{row_len, level_start, level_count}
+use Rattle.verity_digest.specs.Shape.{row_len, level_count}
 use Rattle.verity_digest.specs.Rows.{row}
 use Rattle.verity_digest.proofs.Sha.{IsHashing-hashing}
 use Rattle.verity_digest.proofs.Rows.{length-row}
@@ -14,13 +13,13 @@ use Rattle.verity_geometry.specs.Geometry.{digests_per_block, levels_of, start_o
 use Rattle.verity_geometry.proofs.Shapes.{branching}
 use Rattle.verity_edit.specs.declared.plan.Child.{Child}
 use Rattle.verity_edit.specs.Edits.{Edits}
-use Rattle.verity_edit.specs.Touched.{touched, touched_count}
+use Rattle.verity_edit.specs.Touched.{touched}
 use Rattle.verity_edit.specs.Slots.{child_at, AreNamed, AreSized, AreWithin}
 use Rattle.verity_edit.specs.Parents.{parents}
 use Rattle.verity_edit.specs.Digests.{digests_of}
 use Rattle.verity_edit.specs.Plan.{numbers_of, places, ArePlanned, made_blocks, made_digests}
 use Rattle.verity_edit.specs.Level.{Holds, Renews}
-use Rattle.verity_edit.specs.Making.{IsChange, renewed, level_of, touched_below, touched_places, touched_blocks, IsEdited, StandsFor}
+use Rattle.verity_edit.specs.Making.{IsChange, level_of, touched_below, touched_places, touched_blocks, IsEdited}
 use Rattle.verity_edit.proofs.MakingLemmas.{parents-renewed, touched_below-more, touched_below-mono, ready_change, named_next, named_leaves, finish, renewed-more, touched_blocks-more, touched_places-more}
 use Rattle.verity_edit.proofs.tree.make_tree.Goals as goal
 

@@ -1,4 +1,4 @@
-use Rattle.std.proofs.Common.{◌≡◌, ℕ, ◌+◌, ◌≤◌, true, List, [], length, get_or}
+use Rattle.std.proofs.Common.{◌≡◌, ◌+◌, ◌≤◌, true, [], length, get_or}
 use Rattle.verity_digest.specs.Hash.{hashing, size_of}
 use Rattle.verity_digest.specs.Shape.{row_len}
 use Rattle.verity_geometry.specs.Geometry.{digests_per_block}

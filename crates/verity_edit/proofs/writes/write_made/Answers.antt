@@ -1,8 +1,7 @@
-use Rattle.std.proofs.Common.{◌≡◌, ℕ, ◌+◌, ◌<◌, ◌≤◌, List, [], length, get_or, set, arith, rules, subst, sym, ap, ◌∙◌}
+use Rattle.std.proofs.Common.{◌≡◌, ℕ, ◌<◌, List, length, set, arith, subst, sym, ap, ◌∙◌}
 use Rattle.std.proofs.lemmas.List.{get_or_read}
 use Rattle.verity_store.specs.Blocks.{ChangesAt}
 use Rattle.verity_edit.specs.Plan.{Planned, planned_at, nothing_planned}
-use Rattle.verity_edit.specs.Written.{AreWritten}
 use Rattle.verity_edit.proofs.WriteLemmas.{AreWritten-more, OnlyPlanned-more}
 use Rattle.verity_edit.proofs.writes.write_made.Goals as goal
 

@@ -1,4 +1,4 @@
-use Rattle.std.proofs.Common.{◌≡◌, ℕ, ◌+◌, ◌<◌, ◌≤◌, true, List, [], length}
+use Rattle.std.proofs.Common.{◌≡◌, ◌≤◌, true, length}
 use Rattle.verity_edit.specs.Written.{AreWritten, OnlyPlanned}
 use Rattle.verity_edit.proofs.writes.write_made.Given as goal
 

@@ -1,15 +1,15 @@
-use Rattle.std.proofs.Common.{◌≡◌, ℕ, ◌+◌, ◌-◌, ◌*◌, ◌/◌, ◌<◌, ◌≤◌, Bool, true, false, List, [], length, drop, take, get_or, arith, subst, sym, ap, ◌∙◌, refl}
+use Rattle.std.proofs.Common.{◌≡◌, ℕ, ◌+◌, ◌≤◌, false, List, length, drop, arith, subst, sym, ap, ◌∙◌, refl}
 use Rattle.verity_digest.specs.Hash.{size_of}
 use Rattle.verity_digest.specs.Tree.{root, tree}
-use Rattle.verity_geometry.specs.Geometry.{digests_per_block, total_of}
+use Rattle.verity_geometry.specs.Geometry.{total_of}
 use Rattle.verity_superblock.specs.Superblock.{Volume, salted}
 use Rattle.verity_edit.specs.declared.command.Committed.{Committed}
 use Rattle.verity_edit.specs.Edits.{Edits}
 use Rattle.verity_edit.specs.Draft.{Draft, edits_of}
-use Rattle.verity_edit.specs.Touched.{touched_count, bound}
+use Rattle.verity_edit.specs.Touched.{touched_count}
 use Rattle.verity_edit.specs.Standing.{BeginsWith}
 use Rattle.verity_edit.specs.Planning.{volume_shape, volume_hashing}
-use Rattle.verity_edit.specs.Editing.{Editing, Commits, Stays, FitsStores, Stands, edits_in, width_in}
+use Rattle.verity_edit.specs.Editing.{Editing, Commits, Stays, edits_in, width_in}
 use Rattle.verity_edit.proofs.DeviceLemmas.{device_begins, device_bytes}
 use Rattle.verity_edit.proofs.editor.Editor.commit.Goals as goal
 
