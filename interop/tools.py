@@ -3,6 +3,7 @@ import os
 import shutil
 import subprocess
 import sys
+import time
 
 TOP = os.path.dirname(os.path.dirname(os.path.abspath(__file__)))
 UUID = "01234567-89ab-cdef-0123-456789abcdef"
@@ -27,9 +28,12 @@ def program():
 
 
 def install(packages):
-    """Installs from Debian's packages, by tool, what is missing."""
+    """Installs from Debian's packages, by tool, what is missing. A registry that does not answer is asked again."""
     missing = sorted({package for tool, package in packages.items() if not shutil.which(tool)})
-    if missing:
-        subprocess.run(["apt-get", "update"], check=True, **QUIET)
-        subprocess.run(["apt-get", "install", "-y", "--no-install-recommends", *missing], check=True,
-                       env={**os.environ, "DEBIAN_FRONTEND": "noninteractive"}, **QUIET)
+    env = {**os.environ, "DEBIAN_FRONTEND": "noninteractive"}
+    for attempt in range(3):
+        if not missing or all(subprocess.run(words, env=env, **QUIET).returncode == 0 for words in (
+                ["apt-get", "update"], ["apt-get", "install", "-y", "--no-install-recommends", *missing])):
+            return
+        time.sleep(10 * attempt)
+    sys.exit(f"not installed: {' '.join(missing)}")
