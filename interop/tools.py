@@ -33,7 +33,7 @@ def install(packages):
     env = {**os.environ, "DEBIAN_FRONTEND": "noninteractive"}
     for attempt in range(3):
         if not missing or all(subprocess.run(words, env=env, **QUIET).returncode == 0 for words in (
-                ["apt-get", "update"], ["apt-get", "install", "-y", "--no-install-recommends", *missing])):
+                ["apt-get", "update"], ["apt-get", "install", "-y", *missing])):
             return
         time.sleep(10 * attempt)
     sys.exit(f"not installed: {' '.join(missing)}")
