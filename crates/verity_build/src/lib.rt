@@ -27,8 +27,6 @@ mod open_block;
 mod open_tree;
 mod params;
 mod prepare;
-#[cfg(test)]
-mod tests;
 
 pub use building::{build, build_at};
 pub use compared::Compared;

@@ -26,8 +26,6 @@ mod finding;
 pub mod laws;
 mod range;
 mod report;
-#[cfg(test)]
-mod tests;
 mod tree;
 mod verifier;
 mod walk;

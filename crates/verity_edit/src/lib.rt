@@ -36,8 +36,6 @@ mod pending;
 mod plan;
 mod planning;
 mod running;
-#[cfg(test)]
-mod tests;
 mod tree;
 mod writes;
 

@@ -31,6 +31,3 @@ mod volume;
 pub use hub::Hub;
 pub use nbd_hub::{Event, HubFault, HubReply, Piece, ServeFault};
 pub use stream::serve_stream;
-
-#[cfg(test)]
-mod tests;

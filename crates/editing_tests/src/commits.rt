@@ -1,11 +1,11 @@
 //! Volumes that are edited and committed, beside the same volumes made from scratch.
-use crate::{Command, Committed, EditFault, Editor, Reply};
 use std::alloc::Global;
 use std::process::Abort;
 use std::test::Fail;
 use uuid::Uuid;
 use verity_build::{Params, build_at};
 use verity_digest::{Algorithm, Digest, Salt};
+use verity_edit::{Command, Committed, EditFault, Editor, Reply};
 use verity_store::{Block, BlockStore, FailStore, MemStore, Which};
 use verity_superblock::SuperFault;
 

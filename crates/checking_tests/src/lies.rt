@@ -1,9 +1,9 @@
 //! Stores that answer otherwise the second time. No contract can see whether a mismatch is read again.
-use super::volumes::*;
-use crate::{CheckFault, Place};
+use crate::volumes::*;
 use std::alloc::Global;
 use std::process::Abort;
 use std::test::Fail;
+use verity_check::{CheckFault, Place};
 use verity_digest::Algorithm;
 use verity_store::{Answer, Block, ScriptStore};
 

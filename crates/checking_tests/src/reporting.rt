@@ -1,9 +1,9 @@
 //! What reports list.
-use super::volumes::*;
-use crate::{Place, Verdict, Verifier};
+use crate::volumes::*;
 use std::alloc::Global;
 use std::process::Abort;
 use std::test::Fail;
+use verity_check::{Place, Verdict, Verifier};
 use verity_digest::{Algorithm, Digest};
 use verity_store::FailStore;
 

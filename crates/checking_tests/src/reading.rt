@@ -1,9 +1,9 @@
 //! What reads answer.
-use super::volumes::*;
-use crate::{CheckFault, Place, Verdict, Verifier};
+use crate::volumes::*;
 use std::alloc::Global;
 use std::process::Abort;
 use std::test::Fail;
+use verity_check::{CheckFault, Place, Verdict, Verifier};
 use verity_digest::{Algorithm, Digest};
 use verity_store::{FailStore, MemStore, Which};
 

@@ -1,8 +1,8 @@
-use crate::{BuildFault, Compared, Params, build, build_at, compare, compare_at};
 use std::alloc::Global;
 use std::process::Abort;
 use std::test::Fail;
 use uuid::Uuid;
+use verity_build::{BuildFault, Compared, Params, build, build_at, compare, compare_at};
 use verity_digest::{Algorithm, Hasher, Salt};
 use verity_geometry::GeometryFault;
 use verity_store::{BlockStore, FailStore, MemStore, Which};

@@ -1,12 +1,12 @@
 //! Clients of volumes whose data blocks and hash blocks have 512 bytes, without a salt, and whose data blocks are filled
 //! with their numbers. Their root hashes are those of an independent program; the replies stand in the protocol's tables.
 
-use crate::{Event, Hub, HubReply, Piece, ServeFault, serve_stream};
 use nbd_session::ExportName;
 use std::alloc::{AllocError, Global};
 use std::test::Fail;
 use verity_check::Verifier;
 use verity_digest::{Algorithm, Digest, Hasher, Salt};
+use verity_hub::{Event, Hub, HubReply, Piece, ServeFault, serve_stream};
 use verity_store::{Answer, Block, BlockStore, FailStore, MemStore, ScriptStore};
 use verity_superblock::Table;
 

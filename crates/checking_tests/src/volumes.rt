@@ -1,35 +1,35 @@
 //! The volumes of the tests: data blocks and hash blocks of 512 bytes, no salt, data blocks that are filled with their
 //! numbers. Their root hashes are those of an independent program.
-use crate::{CheckFault, Place, Verdict, Verifier};
 use std::alloc::Global;
 use std::test::Fail;
+use verity_check::{CheckFault, Place, Verdict, Verifier};
 use verity_digest::{Algorithm, Digest, Hasher, Salt};
 use verity_store::{BlockStore, MemStore};
 use verity_superblock::Table;
 
-pub(crate) const ROOT_1: [u8; 32] = [
+pub const ROOT_1: [u8; 32] = [
     0x07, 0x6a, 0x27, 0xc7, 0x9e, 0x5a, 0xce, 0x2a, 0x3d, 0x47, 0xf9, 0xdd, 0x2e, 0x83, 0xe4, 0xff,
     0x6e, 0xa8, 0x87, 0x2b, 0x3c, 0x22, 0x18, 0xf6, 0x6c, 0x92, 0xb8, 0x9b, 0x55, 0xf3, 0x65, 0x60,
 ];
 
-pub(crate) const ROOT_17: [u8; 32] = [
+pub const ROOT_17: [u8; 32] = [
     0x21, 0xf0, 0xc0, 0x06, 0x3b, 0x9f, 0x39, 0x86, 0x27, 0xb7, 0xe5, 0xc7, 0x4a, 0x49, 0x72, 0x12,
     0x33, 0x3d, 0xb1, 0xc4, 0x84, 0x31, 0xed, 0xdc, 0x6e, 0x0d, 0xc5, 0x04, 0x80, 0x73, 0x87, 0xf8,
 ];
 
-pub(crate) const ROOT_32: [u8; 32] = [
+pub const ROOT_32: [u8; 32] = [
     0x5f, 0xbf, 0x36, 0xd6, 0x5d, 0x9e, 0x1a, 0x42, 0xf4, 0x15, 0x24, 0xe9, 0xfd, 0x2b, 0xe6, 0x9c,
     0xc5, 0x3f, 0xb9, 0x14, 0x94, 0x0b, 0x23, 0xb6, 0xdd, 0xd5, 0x6c, 0x5d, 0xf3, 0x41, 0xb6, 0x38,
 ];
 
-pub(crate) const WIDE_ROOT_17: [u8; 64] = [
+pub const WIDE_ROOT_17: [u8; 64] = [
     0xc7, 0x5d, 0x60, 0x0c, 0xba, 0xd6, 0x62, 0x21, 0x29, 0xa3, 0x30, 0x17, 0xc8, 0xee, 0x3e, 0x0a,
     0x5c, 0x47, 0x2b, 0x9d, 0x7b, 0x53, 0xb1, 0x87, 0x93, 0x86, 0x33, 0x95, 0x69, 0xd0, 0xfb, 0x41,
     0xc1, 0x56, 0x81, 0xf8, 0x6c, 0xcb, 0xaa, 0xcf, 0x76, 0x1d, 0x7d, 0xa1, 0x1e, 0x9a, 0x79, 0x1d,
     0xa5, 0xea, 0x1f, 0x0c, 0x7e, 0xdb, 0xb2, 0xf2, 0x1d, 0x75, 0x32, 0x7f, 0x0f, 0xf6, 0xba, 0xcd,
 ];
 
-pub(crate) fn image(alloc: Global, blocks: usize) -> Result<Vec<u8>, Fail> {
+pub fn image(alloc: Global, blocks: usize) -> Result<Vec<u8>, Fail> {
     let mut bytes = Vec::new(alloc);
     for n in 0..blocks {
         for _ in 0..512 {
@@ -40,7 +40,7 @@ pub(crate) fn image(alloc: Global, blocks: usize) -> Result<Vec<u8>, Fail> {
 }
 
 // The hash blocks that hold the digests of these blocks.
-pub(crate) fn packed(alloc: Global, hasher: &mut Hasher, blocks: &[u8]) -> Result<Vec<u8>, Fail> {
+pub fn packed(alloc: Global, hasher: &mut Hasher, blocks: &[u8]) -> Result<Vec<u8>, Fail> {
     let mut bytes = Vec::new(alloc);
     for block in blocks.chunks(512) {
         bytes.extend_from_slice(hasher.digest(block).bytes())?;
@@ -54,7 +54,7 @@ pub(crate) fn packed(alloc: Global, hasher: &mut Hasher, blocks: &[u8]) -> Resul
 }
 
 // A tree of two levels, without a superblock in front.
-pub(crate) fn tree(alloc: Global, algorithm: Algorithm, image: &[u8]) -> Result<Vec<u8>, Fail> {
+pub fn tree(alloc: Global, algorithm: Algorithm, image: &[u8]) -> Result<Vec<u8>, Fail> {
     let mut hasher = Hasher::new(Salt::new(alloc, b"")?, algorithm);
     let leaves = packed(alloc, &mut hasher, image)?;
     let mut bytes = packed(alloc, &mut hasher, &leaves)?;
@@ -62,14 +62,14 @@ pub(crate) fn tree(alloc: Global, algorithm: Algorithm, image: &[u8]) -> Result<
     Ok(bytes)
 }
 
-pub(crate) fn root_17(algorithm: Algorithm) -> Digest {
+pub fn root_17(algorithm: Algorithm) -> Digest {
     match algorithm {
         Algorithm::Sha256 => Digest::from_bytes(ROOT_17),
         Algorithm::Sha512 => Digest::from_wide(WIDE_ROOT_17),
     }
 }
 
-pub(crate) fn table(alloc: Global, blocks: u64, start: u64, root: Digest) -> Result<Table, Fail> {
+pub fn table(alloc: Global, blocks: u64, start: u64, root: Digest) -> Result<Table, Fail> {
     Ok(Table::new(
         alloc,
         "d",
@@ -83,18 +83,18 @@ pub(crate) fn table(alloc: Global, blocks: u64, start: u64, root: Digest) -> Res
     )?)
 }
 
-pub(crate) fn store(bytes: Vec<u8>) -> Result<MemStore, Fail> {
+pub fn store(bytes: Vec<u8>) -> Result<MemStore, Fail> {
     Ok(MemStore::new(bytes, 512)?)
 }
 
-pub(crate) fn flip(bytes: &mut Vec<u8>, at: usize) {
+pub fn flip(bytes: &mut Vec<u8>, at: usize) {
     if at < bytes.len() {
         bytes[at] ^= 1;
     }
 }
 
 // A verifier of 17 data blocks over these stores, whose tree begins at hash block 0.
-pub(crate) fn over<D: BlockStore + Drop, H: BlockStore + Drop>(
+pub fn over<D: BlockStore + Drop, H: BlockStore + Drop>(
     alloc: Global,
     algorithm: Algorithm,
     data: D,
@@ -111,16 +111,16 @@ pub(crate) fn over<D: BlockStore + Drop, H: BlockStore + Drop>(
 }
 
 // The data and the tree of 17 data blocks.
-pub(crate) fn volume(alloc: Global, algorithm: Algorithm) -> Result<(Vec<u8>, Vec<u8>), Fail> {
+pub fn volume(alloc: Global, algorithm: Algorithm) -> Result<(Vec<u8>, Vec<u8>), Fail> {
     let data = image(alloc, 17)?;
     let hash = tree(alloc, algorithm, &data)?;
     Ok((data, hash))
 }
 
-pub(crate) const NOWHERE: usize = usize::MAX;
+pub const NOWHERE: usize = usize::MAX;
 
 // A verifier of 17 data blocks where a bit of the data and a bit of the tree are flipped, if they are there.
-pub(crate) fn flipped(
+pub fn flipped(
     alloc: Global,
     algorithm: Algorithm,
     data_at: usize,
@@ -133,7 +133,7 @@ pub(crate) fn flipped(
 }
 
 // What a read of a range answers; V1, which no read answers, where it isn't inside.
-pub(crate) fn range<D: BlockStore, H: BlockStore>(
+pub fn range<D: BlockStore, H: BlockStore>(
     verifier: &mut Verifier<D, H>,
     offset: u64,
     len: u32,
@@ -148,7 +148,7 @@ pub(crate) fn range<D: BlockStore, H: BlockStore>(
 }
 
 // Whether a range is served, with these bytes at its ends.
-pub(crate) fn serves<D: BlockStore, H: BlockStore>(
+pub fn serves<D: BlockStore, H: BlockStore>(
     alloc: Global,
     verifier: &mut Verifier<D, H>,
     offset: u64,
@@ -163,7 +163,7 @@ pub(crate) fn serves<D: BlockStore, H: BlockStore>(
 }
 
 // Whether a read of a range answers this fault and appends nothing.
-pub(crate) fn refuses<D: BlockStore, H: BlockStore>(
+pub fn refuses<D: BlockStore, H: BlockStore>(
     alloc: Global,
     verifier: &mut Verifier<D, H>,
     offset: u64,
@@ -175,7 +175,7 @@ pub(crate) fn refuses<D: BlockStore, H: BlockStore>(
 }
 
 // Whether a block is served, filled with its number.
-pub(crate) fn serves_block<D: BlockStore, H: BlockStore>(
+pub fn serves_block<D: BlockStore, H: BlockStore>(
     alloc: Global,
     verifier: &mut Verifier<D, H>,
     n: u64,
@@ -188,7 +188,7 @@ pub(crate) fn serves_block<D: BlockStore, H: BlockStore>(
 }
 
 // Whether a read of a block answers this fault and appends nothing.
-pub(crate) fn refuses_block<D: BlockStore, H: BlockStore>(
+pub fn refuses_block<D: BlockStore, H: BlockStore>(
     alloc: Global,
     verifier: &mut Verifier<D, H>,
     n: u64,
@@ -199,7 +199,7 @@ pub(crate) fn refuses_block<D: BlockStore, H: BlockStore>(
 }
 
 // Whether a report lists these faults and counts so many places as unchecked.
-pub(crate) fn reports<D: BlockStore, H: BlockStore>(
+pub fn reports<D: BlockStore, H: BlockStore>(
     verifier: &mut Verifier<D, H>,
     faults: &[(Place, Verdict)],
     unchecked: u64,
@@ -210,14 +210,14 @@ pub(crate) fn reports<D: BlockStore, H: BlockStore>(
     }
 }
 
-pub(crate) const TOP: Place = Place::Hash { level: 1, index: 0 };
+pub const TOP: Place = Place::Hash { level: 1, index: 0 };
 
-pub(crate) const FIRST: Place = Place::Hash { level: 0, index: 0 };
+pub const FIRST: Place = Place::Hash { level: 0, index: 0 };
 
-pub(crate) const SECOND: Place = Place::Hash { level: 0, index: 1 };
+pub const SECOND: Place = Place::Hash { level: 0, index: 1 };
 
 // The superblock of a volume of two data blocks.
-pub(crate) fn superblock() -> [u8; 512] {
+pub fn superblock() -> [u8; 512] {
     let mut block = [0; 512];
     block[..6].copy_from_slice(b"verity");
     block[8] = 1;
@@ -230,7 +230,7 @@ pub(crate) fn superblock() -> [u8; 512] {
 }
 
 // A hash device of 32 data blocks whose superblock is that of two.
-pub(crate) fn altered(alloc: Global) -> Result<Vec<u8>, Fail> {
+pub fn altered(alloc: Global) -> Result<Vec<u8>, Fail> {
     let blocks = tree(alloc, Algorithm::Sha256, &image(alloc, 32)?)?;
     let mut hash = superblock().to_vec(alloc)?;
     hash.extend_from_slice(&blocks)?;
