@@ -50,6 +50,7 @@ pub fn add_last<H: BlockStore, A: Allocator>(
     ensures added { OnOk result (AddsLast (size_of algorithm) (change.now.new.blocks - 1) leaves.old.items leaves.new.items) }
     ensures named { OnOk result (H.tells hash_store.old ≡ true → NamesLast change.now (H.content hash_store.old) leaves.old.items leaves.new.items) }
     ensures error { IfErr result (λ fault. (fault ≡ EditFault.NoMemory) ⊎ ((fault ≡ EditFault.Store Which.Hash) × (H.failures hash_store.old < H.failures hash_store.new))) }
+    ensures unfailed { OnOk result (H.failures hash_store.new ≡ H.failures hash_store.old) }
     ensures failures { H.failures hash_store.old ≤ H.failures hash_store.new }
     ensures reads { H.reads hash_store.new ≤ H.reads hash_store.old + 1 }
     ensures content { H.content hash_store.new ≡ H.content hash_store.old }
@@ -97,6 +98,7 @@ pub fn add_fallen<H: BlockStore, A: Allocator + Copy>(
     ensures edited_sized { OnOk result (AreSized (size_of algorithm) leaves.new.items) }
     ensures edited_within { OnOk result (AreWithin change.now.new.blocks leaves.new.items) }
     ensures error { IfErr result (λ fault. (fault ≡ EditFault.NoMemory) ⊎ ((fault ≡ EditFault.Store Which.Hash) × (H.failures hash_store.old < H.failures hash_store.new))) }
+    ensures unfailed { OnOk result (H.failures hash_store.new ≡ H.failures hash_store.old) }
     ensures failures { H.failures hash_store.old ≤ H.failures hash_store.new }
     ensures reads { change.now.new.blocks ≡ change.now.old.blocks → H.reads hash_store.new ≡ H.reads hash_store.old }
     ensures content { H.content hash_store.new ≡ H.content hash_store.old }

@@ -53,6 +53,7 @@ fn read_old<H: BlockStore>(
     ensures first { OnOk result (level.now.old.len ≤ index → index ≡ 0
         → IfSome level.now.old.first (λ digest. slice_index_or (slots level.now.digest_size level.now.per_block block.new) 0 [] ≡ digest)) }
     ensures failed { OnErr result (H.failures hash_store.old < H.failures hash_store.new) }
+    ensures unfailed { OnOk result (H.failures hash_store.new ≡ H.failures hash_store.old) }
     ensures failures { H.failures hash_store.old ≤ H.failures hash_store.new }
     ensures reads { H.reads hash_store.new ≤ H.reads hash_store.old + 1 }
     ensures content { H.content hash_store.new ≡ H.content hash_store.old }
@@ -93,6 +94,7 @@ fn make_again<H: BlockStore, A: Allocator>(
     ensures salted { hasher.new.salted ≡ hasher.old.salted }
     ensures hashed { OnOk result (hasher.new.hashed ≡ hasher.old.hashed + 1) }
     ensures failed { OnErr result (H.failures hash_store.old < H.failures hash_store.new) }
+    ensures unfailed { OnOk result (H.failures hash_store.new ≡ H.failures hash_store.old) }
     ensures failures { H.failures hash_store.old ≤ H.failures hash_store.new }
     ensures reads { H.reads hash_store.new ≤ H.reads hash_store.old + 1 }
     ensures content { H.content hash_store.new ≡ H.content hash_store.old }
@@ -132,6 +134,7 @@ fn make_block<H: BlockStore, A: Allocator + Copy>(
     ensures salted { hasher.new.salted ≡ hasher.old.salted }
     ensures hashed { OnOk result (hasher.new.hashed ≡ hasher.old.hashed + 1) }
     ensures error { IfErr result (λ fault. (fault ≡ EditFault.NoMemory) ⊎ ((fault ≡ EditFault.Store Which.Hash) × (H.failures hash_store.old < H.failures hash_store.new))) }
+    ensures unfailed { OnOk result (H.failures hash_store.new ≡ H.failures hash_store.old) }
     ensures failures { H.failures hash_store.old ≤ H.failures hash_store.new }
     ensures reads { H.reads hash_store.new ≤ H.reads hash_store.old + 1 }
     ensures content { H.content hash_store.new ≡ H.content hash_store.old }
@@ -184,6 +187,7 @@ pub fn make_level<H: BlockStore, A: Allocator + Copy>(
     ensures salted { hasher.new.salted ≡ hasher.old.salted }
     ensures hashed { OnOk result (hasher.new.hashed ≡ hasher.old.hashed + length numbers.now) }
     ensures error { IfErr result (λ fault. (fault ≡ EditFault.NoMemory) ⊎ ((fault ≡ EditFault.Store Which.Hash) × (H.failures hash_store.old < H.failures hash_store.new))) }
+    ensures unfailed { OnOk result (H.failures hash_store.new ≡ H.failures hash_store.old) }
     ensures failures { H.failures hash_store.old ≤ H.failures hash_store.new }
     ensures reads { H.reads hash_store.new ≤ H.reads hash_store.old + length numbers.now }
     ensures content { H.content hash_store.new ≡ H.content hash_store.old }

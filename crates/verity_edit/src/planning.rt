@@ -156,6 +156,7 @@ fn plan_tree<H: BlockStore, A: Allocator + Copy>(
     ensures counted { IfOk result (λ plan. hasher.new.hashed ≡ hasher.old.hashed + plan.hashed) }
     ensures salted { hasher.new.salted ≡ hasher.old.salted }
     ensures error { IfErr result (λ fault. (fault ≡ EditFault.NoMemory) ⊎ ((fault ≡ EditFault.Store Which.Hash) × (H.failures hash_store.old < H.failures hash_store.new))) }
+    ensures unfailed { OnOk result (H.failures hash_store.new ≡ H.failures hash_store.old) }
     ensures failures { H.failures hash_store.old ≤ H.failures hash_store.new }
     ensures reads { (image : List (List ℕ)) → length image ≡ pending.now.committed → change.now.new.blocks ≡ change.now.old.blocks
         → H.reads hash_store.new ≤ H.reads hash_store.old + touched_count (digests_per_block change.now.new) (edits_of image pending.now) }
@@ -201,6 +202,7 @@ pub fn plan_commit<H: BlockStore, A: Allocator + Copy>(
     ensures counted { IfOk result (λ plan. hasher.new.hashed ≡ hasher.old.hashed + plan.hashed) }
     ensures salted { hasher.new.salted ≡ hasher.old.salted }
     ensures error { IfErr result (λ fault. (fault ≡ EditFault.NoMemory) ⊎ ((fault ≡ EditFault.Store Which.Hash) × (H.failures hash_store.old < H.failures hash_store.new))) }
+    ensures unfailed { OnOk result (H.failures hash_store.new ≡ H.failures hash_store.old) }
     ensures failures { H.failures hash_store.old ≤ H.failures hash_store.new }
     ensures reads { ReadsTouched superblock.now pending.now (H.reads hash_store.old) (H.reads hash_store.new) }
     ensures content { H.content hash_store.new ≡ H.content hash_store.old }

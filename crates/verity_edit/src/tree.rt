@@ -119,6 +119,7 @@ fn make_next<H: BlockStore, A: Allocator + Copy>(
     ensures salted { hasher.new.salted ≡ hasher.old.salted }
     ensures hashed { OnOk result (hasher.new.hashed ≡ hasher.old.hashed + length (parents (digests_per_block change.now.new) (numbers_of children.now))) }
     ensures error { IfErr result (λ fault. (fault ≡ EditFault.NoMemory) ⊎ ((fault ≡ EditFault.Store Which.Hash) × (H.failures hash_store.old < H.failures hash_store.new))) }
+    ensures unfailed { OnOk result (H.failures hash_store.new ≡ H.failures hash_store.old) }
     ensures failures { H.failures hash_store.old ≤ H.failures hash_store.new }
     ensures reads { H.reads hash_store.new ≤ H.reads hash_store.old + length (parents (digests_per_block change.now.new) (numbers_of children.now)) }
     ensures content { H.content hash_store.new ≡ H.content hash_store.old }
@@ -174,6 +175,7 @@ pub fn make_tree<H: BlockStore, A: Allocator + Copy>(
     ensures hashed { OnOk result ((e : Edits) → IsEdited e change.now.old.blocks change.now.new.blocks leaves.items
         → hasher.new.hashed ≡ hasher.old.hashed + touched_count (digests_per_block change.now.new) e) }
     ensures error { IfErr result (λ fault. (fault ≡ EditFault.NoMemory) ⊎ ((fault ≡ EditFault.Store Which.Hash) × (H.failures hash_store.old < H.failures hash_store.new))) }
+    ensures unfailed { OnOk result (H.failures hash_store.new ≡ H.failures hash_store.old) }
     ensures failures { H.failures hash_store.old ≤ H.failures hash_store.new }
     ensures reads { (e : Edits) → IsEdited e change.now.old.blocks change.now.new.blocks leaves.items
         → H.reads hash_store.new ≤ H.reads hash_store.old + touched_count (digests_per_block change.now.new) e }

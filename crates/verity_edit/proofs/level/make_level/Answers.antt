@@ -71,6 +71,7 @@ loop-index-preserved g c =
           (each_push (λ m. length m.block ≡ length c.args.block.now) nothing_planned c.loop-index.plan.items (record { at = level.start + i; block = planned.block }) (inv.planned sized) (planned.sized ∙ len));
       salted = one.salted ∙ inv.salted;
       hashed = omega arith;
+      unfailed = omega arith;
       failures = omega arith;
       reads = omega arith;
       content = one.content ∙ inv.content;

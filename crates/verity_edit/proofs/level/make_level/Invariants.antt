@@ -16,6 +16,7 @@ invariant-loop-index g l = record {
   planned : ArePlanned (length l.initial.block) l.initial.plan.items → ArePlanned (length l.initial.block) l.plan.items;
   salted : l.hasher.salted ≡ l.initial.hasher.salted;
   hashed : l.hasher.hashed ≡ l.initial.hasher.hashed + l.index-index;
+  unfailed : g.H.BlockStore.failures l.hash_store ≡ g.H.BlockStore.failures l.initial.hash_store;
   failures : g.H.BlockStore.failures l.initial.hash_store ≤ g.H.BlockStore.failures l.hash_store;
   reads : g.H.BlockStore.reads l.hash_store ≤ g.H.BlockStore.reads l.initial.hash_store + l.index-index;
   content : g.H.BlockStore.content l.hash_store ≡ g.H.BlockStore.content l.initial.hash_store;

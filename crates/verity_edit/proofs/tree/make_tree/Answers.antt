@@ -59,6 +59,7 @@ loop-level-init g c =
       planned = subst (ArePlanned (length c.args.block.now)) (sym c.requires.empty) (λ d below. absurd (omega arith));
       salted = refl;
       hashed = λ e ed. omega arith;
+      unfailed = omega arith;
       failures = omega arith;
       reads = λ e ed. omega arith;
       content = refl;
@@ -122,6 +123,7 @@ loop-level-preserved g c =
       planned = subst (λ (m : ℕ). ArePlanned m c.make_next.new.plan.items) (let e : length c.loop-level.block ≡ length c.args.block.now = omega arith in e) (one.planned (subst (λ (m : ℕ). ArePlanned m c.loop-level.plan.items) (let e : length c.args.block.now ≡ length c.loop-level.block = omega arith in e) inv.planned));
       salted = one.salted ∙ inv.salted;
       hashed = λ e ed. let more = touched_below-more k e l (l + 1) refl in let now = ap length (up e ed) in let was = inv.hashed e ed in let h = one.hashed in omega arith;
+      unfailed = omega arith;
       failures = omega arith;
       reads = λ e ed. let more = touched_below-more k e l (l + 1) refl in let now = ap length (up e ed) in let was = inv.reads e ed in let r = one.reads in omega arith;
       content = one.content ∙ inv.content;

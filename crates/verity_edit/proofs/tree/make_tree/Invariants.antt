@@ -24,6 +24,7 @@ invariant-loop-level g l = record {
   salted : l.hasher.salted ≡ l.initial.hasher.salted;
   hashed : (e : Edits) → IsEdited e l.change.old.blocks l.change.new.blocks l.fn.leaves.items
       → l.hasher.hashed ≡ l.initial.hasher.hashed + touched_below (digests_per_block l.change.new) e l.level;
+  unfailed : g.H.BlockStore.failures l.hash_store ≡ g.H.BlockStore.failures l.initial.hash_store;
   failures : g.H.BlockStore.failures l.initial.hash_store ≤ g.H.BlockStore.failures l.hash_store;
   reads : (e : Edits) → IsEdited e l.change.old.blocks l.change.new.blocks l.fn.leaves.items
       → g.H.BlockStore.reads l.hash_store ≤ g.H.BlockStore.reads l.initial.hash_store + touched_below (digests_per_block l.change.new) e l.level;
