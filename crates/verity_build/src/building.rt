@@ -46,6 +46,7 @@ fn write_done<A: Allocator, H: BlockStore>(
     ensures geometry { tree.new.geometry ≡ tree.old.geometry }
     ensures from { WritesFrom H.BlockStore start hash_store.old hash_store.new }
     ensures failed { OnErr result (H.failures hash_store.old < H.failures hash_store.new) }
+    ensures unfailed { OnOk result (H.failures hash_store.new ≡ H.failures hash_store.old) }
 {
     let last = blocks == tree.geometry.blocks();
     for level in 0..tree.geometry.levels() {
@@ -87,6 +88,8 @@ fn write_tree<A: Allocator, D: BlockStore, H: BlockStore>(
     ensures hash_store { WritesFrom H.BlockStore start hash_store.old hash_store.new }
     ensures data_failed { result ≡ Err Which.Data → D.failures data_store.old < D.failures data_store.new }
     ensures hash_failed { result ≡ Err Which.Hash → H.failures hash_store.old < H.failures hash_store.new }
+    ensures data_unfailed { OnOk result (D.failures data_store.new ≡ D.failures data_store.old) }
+    ensures hash_unfailed { OnOk result (H.failures hash_store.new ≡ H.failures hash_store.old) }
 {
     for n in 0..tree.geometry.blocks() {
         let Ok(()) = data_store.read(n, data_block) else {
@@ -116,6 +119,7 @@ fn write_superblock<H: BlockStore>(
     ensures reads { H.reads hash_store.new ≡ H.reads hash_store.old }
     ensures later { IsLater H.BlockStore hash_store.old hash_store.new }
     ensures failed { OnErr result (H.failures hash_store.old < H.failures hash_store.new) }
+    ensures unfailed { OnOk result (H.failures hash_store.new ≡ H.failures hash_store.old) }
 {
     let len = superblock.len();
     block[..len].copy_from_slice(superblock);
@@ -156,6 +160,8 @@ fn write_device<A: Allocator, D: BlockStore, H: BlockStore>(
     ensures hash_reads { H.reads hash_store.new ≡ H.reads hash_store.old }
     ensures data_failed { result ≡ Err Which.Data → D.failures data_store.old < D.failures data_store.new }
     ensures hash_failed { result ≡ Err Which.Hash → H.failures hash_store.old < H.failures hash_store.new }
+    ensures data_unfailed { OnOk result (D.failures data_store.new ≡ D.failures data_store.old) }
+    ensures hash_unfailed { OnOk result (H.failures hash_store.new ≡ H.failures hash_store.old) }
 {
     let blocks = start + tree.geometry.total();
     let Ok(()) = hash_store.set_len(blocks) else {
@@ -206,6 +212,8 @@ pub fn build<A: Allocator + Copy, P: Allocator, D: BlockStore, H: BlockStore>(
     ensures data_reads_most { D.reads data_store.new ≤ D.reads data_store.old + length (D.content data_store.old) }
     ensures hash_store { IsLater H.BlockStore hash_store.old hash_store.new }
     ensures hash_reads { H.reads hash_store.new ≡ H.reads hash_store.old }
+    ensures data_unfailed { OnOk result (D.failures data_store.new ≡ D.failures data_store.old) }
+    ensures hash_unfailed { OnOk result (H.failures hash_store.new ≡ H.failures hash_store.old) }
 {
     build_at(alloc, data_store, hash_store, params, 0)
 }
@@ -249,6 +257,8 @@ pub fn build_at<A: Allocator + Copy, P: Allocator, D: BlockStore, H: BlockStore>
     ensures data_reads_most { D.reads data_store.new ≤ D.reads data_store.old + length (D.content data_store.old) }
     ensures hash_store { IsLater H.BlockStore hash_store.old hash_store.new }
     ensures hash_reads { H.reads hash_store.new ≡ H.reads hash_store.old }
+    ensures data_unfailed { OnOk result (D.failures data_store.new ≡ D.failures data_store.old) }
+    ensures hash_unfailed { OnOk result (H.failures hash_store.new ≡ H.failures hash_store.old) }
 {
     let (start, mut tree) = prepare(alloc, data_store, hash_store, params, offset)?;
     let superblock = superblock_of(alloc, &tree.geometry, params)?;

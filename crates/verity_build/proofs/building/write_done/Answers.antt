@@ -72,4 +72,5 @@ loop-level-preserved g c =
           let later : IsLater H c.loop-level.hash_store c.write.new.self = record { tells = wrote.tells; size = wrote.size; gave = wrote.gave; failures = wrote.failures; reads = omega (arith, wrote.reads); room = omega (arith, wrote.room) } in
           writes_then H c.args.start c.args.hash_store.now c.loop-level.hash_store c.write.new.self kept.from
           (writes_one H c.args.start (c.args.start + c.place-place.result) c.loop-level.hash_store c.write.new.self (omega arith) wrote.others wrote.reads wrote.room later);
+      unfailed = wrote.unfailed ∙ kept.unfailed;
     }

@@ -17,4 +17,5 @@ invariant-loop-level g l =
       right : StaysRight h s.blocks l.fn.tree.blocks.items l.fn.tree.root l.tree.blocks.items l.tree.root;
       stored : H.tells l.fn.hash_store ≡ true → StaysStored h s l.start l.fn.tree.blocks.items l.fn.tree.root (H.content l.fn.hash_store) l.tree.blocks.items (H.content l.hash_store);
       from : WritesFrom H l.start l.fn.hash_store l.hash_store;
+      unfailed : H.failures l.hash_store ≡ H.failures l.fn.hash_store;
     }

@@ -35,6 +35,8 @@ loop-n-init g c =
       data_store = only_read_same D c.args.data_store.now;
       data_reads = omega arith;
       hash_store = writes_none H c.args.start c.args.hash_store.now;
+      data_unfailed = refl;
+      hash_unfailed = refl;
     }
 
 pub write_done-requires-clause-come : goal.write_done-requires-clause-come
@@ -97,4 +99,6 @@ loop-n-preserved g c =
       data_store = only_read_then D c.args.data_store.now c.loop-n.data_store c.read.new.self kept.data_store (record { content = read.content; room = read.room; later = later });
       data_reads = omega (arith, read.counted, kept.data_reads);
       hash_store = writes_then H c.args.start c.args.hash_store.now c.loop-n.hash_store c.write_done.new.hash_store kept.hash_store wrote.from;
+      data_unfailed = read.unfailed ∙ kept.data_unfailed;
+      hash_unfailed = wrote.unfailed ∙ kept.hash_unfailed;
     }
