@@ -13,6 +13,10 @@ mod memory;
 #[cfg(test)]
 mod reading;
 #[cfg(test)]
+mod refused;
+#[cfg(test)]
 mod reporting;
+#[cfg(test)]
+mod salted;
 #[cfg(test)]
 mod volumes;
