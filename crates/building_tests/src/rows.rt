@@ -1,15 +1,11 @@
+//! Hash devices that another program made.
+use crate::volumes::{numbered, params};
 use std::alloc::Global;
 use std::process::Abort;
 use std::test::Fail;
-use uuid::Uuid;
-use verity_build::{BuildFault, Compared, Params, build, build_at, compare, compare_at};
+use verity_build::{Compared, build, build_at, compare, compare_at};
 use verity_digest::{Algorithm, Hasher, Salt};
-use verity_geometry::GeometryFault;
-use verity_store::{BlockStore, FailStore, MemStore, Which};
-
-const UUID: [u8; 16] = [
-    0x01, 0x23, 0x45, 0x67, 0x89, 0xab, 0xcd, 0xef, 0x01, 0x23, 0x45, 0x67, 0x89, 0xab, 0xcd, 0xef,
-];
+use verity_store::{BlockStore, MemStore};
 
 // A volume whose data blocks are filled with their numbers, and what another program makes of it: the
 // root hash, and the SHA-256 digest of the whole hash device.
@@ -23,20 +19,6 @@ struct Row<'a> {
     blocks: u64,
     root: &'a str,
     device: &'a str,
-}
-
-fn numbered(alloc: Global, size: usize, count: usize) -> Result<MemStore, Fail> {
-    let mut bytes = Vec::new(alloc);
-    for n in 0..count {
-        for _ in 0..size {
-            bytes.push((n % 256) as u8)?;
-        }
-    }
-    Ok(MemStore::new(bytes, size)?)
-}
-
-fn params(alloc: Global, salt: &[u8], algorithm: Algorithm) -> Result<Params, Fail> {
-    Ok(Params::new(Salt::new(alloc, salt)?, Uuid::from_bytes(UUID), algorithm))
 }
 
 // The SHA-256 digest of a store's bytes.
@@ -207,121 +189,4 @@ fn superblock_at_an_offset(rt: HostRuntime) -> Result<(), Fail> {
         &empty,
         "5c7b593f473f6d061a3158bcc9b102d52f017412257258c67f6a7c4b0f3430f5",
     )
-}
-
-fn spoil<S: BlockStore>(rt: &impl Abort, store: &mut S, n: u64) {
-    assert!(rt; store.block_size() == 512);
-    assert!(rt; n < store.len());
-    assert!(rt; store.write(n, &[0x5a; 512]).is_ok());
-}
-
-fn cut<S: BlockStore>(rt: &impl Abort, store: &mut S, blocks: u64) {
-    assert!(rt; blocks <= 8);
-    assert!(rt; store.set_len(blocks).is_ok());
-}
-
-// The tree of 17 data blocks: hash block 1 is the top, 2 and 3 are level 0.
-#[test]
-fn first_difference(rt: HostRuntime) -> Result<(), Fail> {
-    let alloc = rt.alloc();
-    let params = params(alloc, b"", Algorithm::Sha256)?;
-    let mut data_store = numbered(alloc, 512, 17)?;
-    let differs = |level, index| Compared::Differs { level, index };
-    for (spoiled, cut_to, level, index) in [
-        ([3, 3], 4, 0, 1),
-        ([2, 3], 4, 0, 0),
-        ([2, 1], 4, 1, 0),
-        ([0, 3], 4, 0, 1),
-        ([0, 0], 3, 0, 1),
-        ([0, 0], 2, 0, 0),
-        ([0, 2], 1, 1, 0),
-    ] {
-        let mut hash_store = MemStore::zeroed(alloc, 512, 0)?;
-        build(alloc, &mut data_store, &mut hash_store, &params)?;
-        for n in spoiled {
-            spoil(&rt, &mut hash_store, n);
-        }
-        cut(&rt, &mut hash_store, cut_to);
-        let found = compare(alloc, &mut data_store, &mut hash_store, &params)?;
-        assert_eq!(rt; found, differs(level, index), "cut to {cut_to}");
-    }
-    let mut hash_store = MemStore::zeroed(alloc, 512, 0)?;
-    let root = build(alloc, &mut data_store, &mut hash_store, &params)?;
-    spoil(&rt, &mut hash_store, 0);
-    cut(&rt, &mut hash_store, 6);
-    let found = compare(alloc, &mut data_store, &mut hash_store, &params)?;
-    assert_eq!(rt; found, Compared::Same(root));
-    Ok(())
-}
-
-#[test]
-fn full_blocks_are_written_at_once(rt: HostRuntime) -> Result<(), Fail> {
-    let alloc = rt.alloc();
-    let params = params(alloc, b"", Algorithm::Sha256)?;
-    let mut whole = MemStore::zeroed(alloc, 512, 0)?;
-    build(alloc, &mut numbered(alloc, 512, 17)?, &mut whole, &params)?;
-    let mut data_store = FailStore::reads_after(numbered(alloc, 512, 17)?, 16);
-    let mut hash_store = MemStore::zeroed(alloc, 512, 0)?;
-    let fault = build(alloc, &mut data_store, &mut hash_store, &params);
-    assert_eq!(rt; fault, Err(BuildFault::Store(Which::Data)));
-    assert_eq!(rt; hash_store.bytes().len(), 2048);
-    assert_eq!(rt; whole.bytes().len(), 2048);
-    assert_eq!(rt; &hash_store.bytes()[1024..1536], &whole.bytes()[1024..1536]);
-    let mut data_store = FailStore::reads_after(numbered(alloc, 512, 17)?, 16);
-    let mut hash_store = FailStore::reads_after(whole, 0);
-    let fault = compare(alloc, &mut data_store, &mut hash_store, &params);
-    assert_eq!(rt; fault, Err(BuildFault::Store(Which::Hash)));
-    Ok(())
-}
-
-#[test]
-fn syncs_last(rt: HostRuntime) -> Result<(), Fail> {
-    let alloc = rt.alloc();
-    let params = params(alloc, b"", Algorithm::Sha256)?;
-    let mut data_store = numbered(alloc, 512, 17)?;
-    let mut faultless = FailStore::at(MemStore::zeroed(alloc, 512, 0)?, 0);
-    build(alloc, &mut data_store, &mut faultless, &params)?;
-    let mut failing = FailStore::at(MemStore::zeroed(alloc, 512, 0)?, faultless.calls());
-    let fault = build(alloc, &mut data_store, &mut failing, &params);
-    assert_eq!(rt; fault, Err(BuildFault::Store(Which::Hash)));
-    assert_eq!(rt; failing.store().bytes(), faultless.store().bytes());
-    Ok(())
-}
-
-#[test]
-fn refusals_change_nothing(rt: HostRuntime) -> Result<(), Fail> {
-    let alloc = rt.alloc();
-    let params = params(alloc, b"", Algorithm::Sha256)?;
-    let no_blocks = BuildFault::Geometry(GeometryFault::BadCount);
-    for (count, size, offset, fault) in [
-        (0, 512, 0, no_blocks),
-        (0, 1024, 512, no_blocks),
-        (1, 1024, 512, BuildFault::Offset),
-        (1, 512, 1 << 49, BuildFault::Offset),
-    ] {
-        let mut data_store = numbered(alloc, 512, count)?;
-        let mut hash_store = numbered(alloc, size, 2)?;
-        let built = build_at(alloc, &mut data_store, &mut hash_store, &params, offset);
-        assert_eq!(rt; built, Err(fault));
-        let compared = compare_at(alloc, &mut data_store, &mut hash_store, &params, offset);
-        assert_eq!(rt; compared, Err(fault));
-        let before = numbered(alloc, size, 2)?;
-        assert_eq!(rt; hash_store.bytes(), before.bytes());
-    }
-    Ok(())
-}
-
-#[test]
-fn texts(rt: HostRuntime) -> Result<(), Fail> {
-    for (fault, text) in [
-        (BuildFault::Geometry(GeometryFault::BadCount), "U1 M2"),
-        (BuildFault::Store(Which::Data), "U2 data"),
-        (BuildFault::Store(Which::Hash), "U2 hash"),
-        (BuildFault::NoMemory, "U3"),
-        (BuildFault::Offset, "U4"),
-    ] {
-        let told = format!(in rt.alloc(); "{fault}")?;
-        assert_eq!(rt; told.as_str(), text);
-    }
-    Ok(())
 }

@@ -1,13 +1,22 @@
-//! Reads and reports: values from outside, refusals, stores that answer otherwise the second time. Tests, and nothing else.
+//! Reads and reports: values from outside, refusals, stores that fail or answer otherwise the second time,
+//! memory refused. Tests, and nothing else.
 #![tactic(auto)]
 
 #[cfg(test)]
 mod borders;
 #[cfg(test)]
+mod failures;
+#[cfg(test)]
 mod lies;
+#[cfg(test)]
+mod memory;
 #[cfg(test)]
 mod reading;
 #[cfg(test)]
+mod refused;
+#[cfg(test)]
 mod reporting;
+#[cfg(test)]
+mod salted;
 #[cfg(test)]
 mod volumes;

@@ -5,7 +5,6 @@ use std::process::Abort;
 use std::test::Fail;
 use verity_check::{Place, Verdict, Verifier};
 use verity_digest::{Algorithm, Digest};
-use verity_store::FailStore;
 
 // Whether the report of a volume with these bits flipped names this place alone.
 fn names(
@@ -43,26 +42,6 @@ fn a_report_names_a_flipped_bit_under_sha512(rt: HostRuntime) -> Result<(), Fail
     );
     assert!(rt; names(alloc, Algorithm::Sha512, NOWHERE, 512, FIRST, 8)?);
     assert!(rt; names(alloc, Algorithm::Sha512, NOWHERE, 511, TOP, 20)?);
-    Ok(())
-}
-
-#[test]
-fn a_report_names_a_failed_hash_read(rt: HostRuntime) -> Result<(), Fail> {
-    let alloc = rt.alloc();
-    let (data, hash) = volume(alloc, Algorithm::Sha256)?;
-    let hash = FailStore::at(store(hash)?, 1);
-    let mut verifier = over(alloc, Algorithm::Sha256, store(data)?, hash, 1)?;
-    assert!(rt; reports(&mut verifier, &[(TOP, Verdict::Unread)], 19));
-    Ok(())
-}
-
-#[test]
-fn a_report_names_a_failed_data_read(rt: HostRuntime) -> Result<(), Fail> {
-    let alloc = rt.alloc();
-    let (data, hash) = volume(alloc, Algorithm::Sha256)?;
-    let data = FailStore::at(store(data)?, 9);
-    let mut verifier = over(alloc, Algorithm::Sha256, data, store(hash)?, 1)?;
-    assert!(rt; reports(&mut verifier, &[(Place::Data(8), Verdict::Unread)], 0));
     Ok(())
 }
 

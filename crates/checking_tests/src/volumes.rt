@@ -1,6 +1,6 @@
 //! The volumes of the tests: data blocks and hash blocks of 512 bytes, no salt, data blocks that are filled with their
 //! numbers. Their root hashes are those of an independent program.
-use std::alloc::Global;
+use std::alloc::{Allocator, Global};
 use std::test::Fail;
 use verity_check::{CheckFault, Place, Verdict, Verifier};
 use verity_digest::{Algorithm, Digest, Hasher, Salt};
@@ -133,8 +133,8 @@ pub fn flipped(
 }
 
 // What a read of a range answers; V1, which no read answers, where it isn't inside.
-pub fn range<D: BlockStore, H: BlockStore>(
-    verifier: &mut Verifier<D, H>,
+pub fn range<D: BlockStore, H: BlockStore, A: Allocator + Copy + Drop>(
+    verifier: &mut Verifier<D, H, A>,
     offset: u64,
     len: u32,
     out: &mut Vec<u8>,
@@ -148,9 +148,9 @@ pub fn range<D: BlockStore, H: BlockStore>(
 }
 
 // Whether a range is served, with these bytes at its ends.
-pub fn serves<D: BlockStore, H: BlockStore>(
+pub fn serves<D: BlockStore, H: BlockStore, A: Allocator + Copy + Drop>(
     alloc: Global,
-    verifier: &mut Verifier<D, H>,
+    verifier: &mut Verifier<D, H, A>,
     offset: u64,
     len: u32,
     ends: [u8; 2],
@@ -163,9 +163,9 @@ pub fn serves<D: BlockStore, H: BlockStore>(
 }
 
 // Whether a read of a range answers this fault and appends nothing.
-pub fn refuses<D: BlockStore, H: BlockStore>(
+pub fn refuses<D: BlockStore, H: BlockStore, A: Allocator + Copy + Drop>(
     alloc: Global,
-    verifier: &mut Verifier<D, H>,
+    verifier: &mut Verifier<D, H, A>,
     offset: u64,
     len: u32,
     fault: CheckFault,
@@ -175,9 +175,9 @@ pub fn refuses<D: BlockStore, H: BlockStore>(
 }
 
 // Whether a block is served, filled with its number.
-pub fn serves_block<D: BlockStore, H: BlockStore>(
+pub fn serves_block<D: BlockStore, H: BlockStore, A: Allocator + Copy + Drop>(
     alloc: Global,
-    verifier: &mut Verifier<D, H>,
+    verifier: &mut Verifier<D, H, A>,
     n: u64,
 ) -> bool {
     let mut out = Vec::new(alloc);
@@ -188,9 +188,9 @@ pub fn serves_block<D: BlockStore, H: BlockStore>(
 }
 
 // Whether a read of a block answers this fault and appends nothing.
-pub fn refuses_block<D: BlockStore, H: BlockStore>(
+pub fn refuses_block<D: BlockStore, H: BlockStore, A: Allocator + Copy + Drop>(
     alloc: Global,
-    verifier: &mut Verifier<D, H>,
+    verifier: &mut Verifier<D, H, A>,
     n: u64,
     fault: CheckFault,
 ) -> bool {
@@ -199,8 +199,8 @@ pub fn refuses_block<D: BlockStore, H: BlockStore>(
 }
 
 // Whether a report lists these faults and counts so many places as unchecked.
-pub fn reports<D: BlockStore, H: BlockStore>(
-    verifier: &mut Verifier<D, H>,
+pub fn reports<D: BlockStore, H: BlockStore, A: Allocator + Copy + Drop>(
+    verifier: &mut Verifier<D, H, A>,
     faults: &[(Place, Verdict)],
     unchecked: u64,
 ) -> bool {
