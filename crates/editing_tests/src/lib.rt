@@ -2,4 +2,22 @@
 #![tactic(auto)]
 
 #[cfg(test)]
-mod commits;
+mod calls;
+#[cfg(test)]
+mod counts;
+#[cfg(test)]
+mod failing;
+#[cfg(test)]
+mod heaps;
+#[cfg(test)]
+mod memory;
+#[cfg(test)]
+mod opening;
+#[cfg(test)]
+mod running;
+#[cfg(test)]
+mod scripts;
+#[cfg(test)]
+mod steps;
+#[cfg(test)]
+mod volumes;

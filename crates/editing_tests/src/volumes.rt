@@ -1,0 +1,96 @@
+//! Volumes that are opened, and the same volumes made from scratch.
+
+use std::alloc::{Allocator, Global};
+use std::test::Fail;
+use test_volumes::{Volume, make_volume, numbered, params};
+use uuid::Uuid;
+use verity_build::{Params, build_at};
+use verity_digest::{Algorithm, Salt};
+use verity_edit::Editor;
+use verity_store::MemStore;
+
+pub const SIZE: usize = 512;
+
+pub type Plain = Editor<MemStore, MemStore>;
+
+// A volume of so many data blocks.
+pub fn volume_of(alloc: Global, count: usize) -> Result<Volume, Fail> {
+    make_volume(alloc, numbered(alloc, count)?)
+}
+
+// The volume of a data store, made from scratch behind what stands in front, at a byte offset.
+pub fn volume_behind(
+    alloc: Global,
+    data_store: MemStore,
+    front: MemStore,
+    offset: u64,
+) -> Result<Volume, Fail> {
+    let mut data_store = data_store;
+    let mut hash_store = front;
+    let params = params(alloc)?;
+    let root = build_at(alloc, &mut data_store, &mut hash_store, &params, offset)?;
+    Ok(Volume {
+        data_store,
+        hash_store,
+        root,
+    })
+}
+
+// The volume of a data store, made from scratch with this algorithm.
+pub fn volume_with(
+    alloc: Global,
+    data_store: MemStore,
+    algorithm: Algorithm,
+) -> Result<Volume, Fail> {
+    let mut data_store = data_store;
+    let mut hash_store = MemStore::zeroed(alloc, SIZE, 0)?;
+    let params = Params::new(
+        Salt::new(alloc, b"salt")?,
+        Uuid::from_bytes([7; 16]),
+        algorithm,
+    );
+    let root = build_at(alloc, &mut data_store, &mut hash_store, &params, 0)?;
+    Ok(Volume {
+        data_store,
+        hash_store,
+        root,
+    })
+}
+
+pub fn opened(alloc: Global, volume: Volume) -> Result<Plain, Fail> {
+    match Editor::open(alloc, volume.data_store, volume.hash_store) {
+        Ok(editor) => Ok(editor),
+        Err(refused) => Err(refused.fault.into()),
+    }
+}
+
+// Whether both stores of an editor that isn't broken hold a volume, with its root hash.
+pub fn holds<S: Allocator, A: Allocator + Copy>(
+    editor: Editor<MemStore<S>, MemStore<S>, A>,
+    wanted: &Volume,
+) -> bool {
+    let is_right = !editor.broken() && editor.root() == wanted.root;
+    let (data_store, hash_store) = editor.close();
+    is_right && is_same(&data_store, &hash_store, wanted)
+}
+
+// Whether two stores hold a volume.
+pub fn is_same<S: Allocator>(
+    data_store: &MemStore<S>,
+    hash_store: &MemStore<S>,
+    wanted: &Volume,
+) -> bool {
+    data_store.bytes() == wanted.data_store.bytes()
+        && hash_store.bytes() == wanted.hash_store.bytes()
+}
+
+// An editor whose commit hashed at most so many blocks.
+pub fn committed(editor: Plain, most: u64) -> Option<Plain> {
+    let mut editor = editor;
+    match editor.commit() {
+        Ok(committed) if committed.hashed <= most && committed.root == editor.root() => {
+            Some(editor)
+        }
+        _ => None,
+    }
+}
