@@ -1,5 +1,18 @@
-//! NBD clients of volumes: rows of the protocol, stores that fail and lie, memory refused. Tests, and nothing else.
+//! NBD clients of volumes: rows of the protocol, sessions, streams that are left, stores that fail and lie, memory refused.
+//! Tests, and nothing else.
 #![tactic(auto)]
 
 #[cfg(test)]
+mod clients;
+#[cfg(test)]
+mod failures;
+#[cfg(test)]
+mod lies;
+#[cfg(test)]
 mod rows;
+#[cfg(test)]
+mod sessions;
+#[cfg(test)]
+mod streams;
+#[cfg(test)]
+mod volumes;
