@@ -1,9 +1,9 @@
 //! What clients send and are told, in the bytes of the protocol's tables, and the calls that end with their hub.
 
-use nbd_hub::{Event, HubReply, Piece, ServeFault};
+use nbd_session::Status;
 use std::alloc::{AllocError, Allocator, Global};
 use std::io::{Read, Write};
-use verity_hub::{Hub, serve_stream};
+use verity_hub::{Event, Hub, HubFault, HubReply, Piece, ServeFault, serve_stream};
 use verity_store::BlockStore;
 
 /// Client flags, and EXPORT_NAME with the empty name.
@@ -107,6 +107,29 @@ pub fn run_once<D: BlockStore + Drop, H: BlockStore + Drop, A: Allocator + Copy 
     replies: &mut Vec<HubReply<A>>,
 ) -> Result<(), AllocError> {
     hub.run(events, replies)
+}
+
+/// The kind of a reply, or a refusal's number, and the number that it carries.
+pub fn kind<A: Allocator>(reply: &HubReply<A>) -> (&'static str, u64) {
+    match reply {
+        HubReply::Opened(id, _) => ("opened", *id),
+        HubReply::Fed(Status::Open, _) => ("open", 0),
+        HubReply::Fed(Status::Ended, _) => ("ended", 0),
+        HubReply::Fed(Status::Starved, _) => ("starved", 0),
+        HubReply::Closed => ("closed", 0),
+        HubReply::Refused(HubFault::Full) => ("H1", 0),
+        HubReply::Refused(HubFault::NoMemory) => ("H2", 0),
+        HubReply::Refused(HubFault::Unknown) => ("H3", 0),
+        HubReply::Refused(HubFault::Spent) => ("H4", 0),
+    }
+}
+
+/// What a session says by a reply.
+pub fn words<A: Allocator>(reply: &HubReply<A>) -> &[u8] {
+    match reply {
+        HubReply::Opened(_, piece) | HubReply::Fed(_, piece) => piece.as_slice(),
+        HubReply::Closed | HubReply::Refused(_) => &[],
+    }
 }
 
 /// What sessions 0 and 1 said.

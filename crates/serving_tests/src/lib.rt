@@ -7,9 +7,13 @@ mod clients;
 #[cfg(test)]
 mod failures;
 #[cfg(test)]
+mod hub_memory;
+#[cfg(test)]
 mod lies;
 #[cfg(test)]
 mod rows;
+#[cfg(test)]
+mod session_memory;
 #[cfg(test)]
 mod sessions;
 #[cfg(test)]

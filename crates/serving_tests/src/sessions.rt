@@ -4,20 +4,7 @@ use crate::clients::*;
 use crate::volumes::*;
 use std::alloc::{AllocError, Global};
 use std::test::Fail;
-use verity_hub::{Event, HubFault, HubReply, Piece};
-
-/// The kind of a reply, and the number that it carries.
-fn kind(reply: &HubReply) -> (&'static str, u64) {
-    match reply {
-        HubReply::Opened(id, _) => ("opened", *id),
-        HubReply::Fed(_, _) => ("fed", 0),
-        HubReply::Closed => ("closed", 0),
-        HubReply::Refused(HubFault::Full) => ("H1", 0),
-        HubReply::Refused(HubFault::NoMemory) => ("H2", 0),
-        HubReply::Refused(HubFault::Unknown) => ("H3", 0),
-        HubReply::Refused(HubFault::Spent) => ("H4", 0),
-    }
-}
+use verity_hub::{Event, Piece};
 
 /// 65 sessions are opened, one is ended, the next is opened, and the ended one is fed and ended again.
 fn crowd(alloc: Global) -> Result<Vec<Event>, AllocError> {

@@ -8,7 +8,7 @@ use verity_check::Verifier;
 use verity_digest::{Algorithm, Digest, Hasher, Salt};
 use verity_hub::Hub;
 use verity_store::{BlockStore, MemStore};
-use verity_superblock::Table;
+use verity_superblock::{Table, TableFault};
 
 pub const ROOT_17: [u8; 32] = [
     0x21, 0xf0, 0xc0, 0x06, 0x3b, 0x9f, 0x39, 0x86, 0x27, 0xb7, 0xe5, 0xc7, 0x4a, 0x49, 0x72, 0x12,
@@ -71,10 +71,12 @@ pub fn line<A: Allocator + Copy>(
     blocks: u64,
     start: u64,
     root: [u8; 32],
-) -> Result<Table<A>, Fail> {
-    let salt = Salt::new(alloc, b"")?;
+) -> Result<Table<A>, TableFault> {
+    let Ok(salt) = Salt::new(alloc, b"") else {
+        return Err(TableFault::NoMemory);
+    };
     let root = Digest::from_bytes(root);
-    Ok(Table::new(alloc, "d", "h", 512, 512, blocks, start, root, salt)?)
+    Table::new(alloc, "d", "h", 512, 512, blocks, start, root, salt)
 }
 
 /// A hub over these stores, with room for so many cached blocks.
