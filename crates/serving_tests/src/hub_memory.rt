@@ -1,88 +1,13 @@
 //! Memory refused to a hub of two sessions, in turn at each request that needs more than the ones before.
 
 use crate::clients::*;
+use crate::two_sessions::*;
 use crate::volumes::*;
 use linked_list_allocator::LocalHeap;
-use nbd_session::ExportName;
-use std::alloc::{AllocError, Allocator, Global};
+use std::alloc::{Allocator, Global};
 use std::test::Fail;
 use test_volumes::STEP;
-use verity_check::Verifier;
-use verity_hub::{Event, Hub, HubReply};
-use verity_store::{BlockStore, MemStore};
-
-/// Two sessions: each asks for a block, of which the first session's request comes in two pieces.
-fn events(alloc: Global) -> Result<Vec<Event>, AllocError> {
-    let first = read(alloc, 1536, 512)?;
-    let (head, rest) = first.split_at(first.len().min(10));
-    let mut events = Vec::new(alloc);
-    events.push(Event::Open)?;
-    events.push(Event::Open)?;
-    events.push(Event::Feed(0, piece(alloc, GO)?))?;
-    events.push(Event::Feed(1, piece(alloc, GO)?))?;
-    events.push(Event::Feed(0, piece(alloc, head)?))?;
-    events.push(Event::Feed(1, piece(alloc, &read(alloc, 8192, 512)?)?))?;
-    events.push(Event::Feed(0, piece(alloc, rest)?))?;
-    events.push(Event::End(0))?;
-    events.push(Event::End(1))?;
-    Ok(events)
-}
-
-/// What is to come of an event: the reply's kind and number, what the session says, and what it says where there is no
-/// memory for a READ's bytes.
-#[derive(Drop)]
-struct Want {
-    kind: &'static str,
-    number: u64,
-    words: Vec<u8>,
-    lacking: Option<Vec<u8>>,
-}
-
-/// What is to come of an event that reads no block.
-fn want_words(
-    alloc: Global,
-    kind: &'static str,
-    number: u64,
-    words: &[u8],
-) -> Result<Want, AllocError> {
-    Ok(Want {
-        kind,
-        number,
-        words: Vec::from_slice(alloc, words)?,
-        lacking: None,
-    })
-}
-
-/// What is to come of the READ of a block.
-fn want_block(alloc: Global, n: u8) -> Result<Want, AllocError> {
-    let offset = n as u64 * 512;
-    Ok(Want {
-        kind: "open",
-        number: 0,
-        words: reply(alloc, offset, 0, &[n; 512])?,
-        lacking: Some(reply(alloc, offset, ENOMEM, b"")?),
-    })
-}
-
-/// What is to come of the events.
-fn wants(alloc: Global) -> Result<Vec<Want>, AllocError> {
-    let mut wants = Vec::new(alloc);
-    wants.push(want_words(alloc, "opened", 0, GREETING)?)?;
-    wants.push(want_words(alloc, "opened", 1, GREETING)?)?;
-    wants.push(want_words(alloc, "open", 0, GO_REPLY)?)?;
-    wants.push(want_words(alloc, "open", 0, GO_REPLY)?)?;
-    wants.push(want_words(alloc, "open", 0, b"")?)?;
-    wants.push(want_block(alloc, 16)?)?;
-    wants.push(want_block(alloc, 3)?)?;
-    wants.push(want_words(alloc, "closed", 0, b"")?)?;
-    wants.push(want_words(alloc, "closed", 0, b"")?)?;
-    Ok(wants)
-}
-
-/// Whether a reply is what is to come.
-fn is_wanted<A: Allocator>(reply: &HubReply<A>, want: &Want) -> bool {
-    kind(reply) == (want.kind, want.number) && words(reply) == want.words.as_slice()
-}
+use verity_hub::{Event, HubReply};
 
 /// What lacked memory.
 #[derive(Clone, Copy, Debug, PartialEq, Eq)]
@@ -181,18 +106,6 @@ fn stays_starved<A: Allocator>(events: &[Event], replies: &[HubReply<A>], id: u6
     true
 }
 
-/// A hub over these stores whose memory is a heap's, if the heap has room for its verifier.
-fn hub_within<'a>(
-    heap: &'a LocalHeap,
-    data_store: MemStore,
-    hash_store: MemStore,
-) -> Option<Hub<MemStore, MemStore, &'a LocalHeap>> {
-    let table = line(heap, 17, 0, ROOT_17).ok()?;
-    let verifier = Verifier::new(heap, table, data_store, hash_store, 1).ok()?;
-    let name = ExportName::new(b"vol").ok()?;
-    Some(Hub::new(heap, verifier, name))
-}
-
 /// How a run within a heap goes.
 #[derive(Clone, Copy, Debug, PartialEq, Eq)]
 enum Outcome {
@@ -240,63 +153,6 @@ fn a_hub_without_memory_says_so_and_nothing_wrong(rt: HostRuntime) -> Result<(),
             Outcome::Ran(seen) => all.join(seen),
             Outcome::Wrong => assert!(rt; false, "wrong at {steps} steps"),
         }
-    }
-    Err(Fail::from("memory was refused at every size"))
-}
-
-/// Does events with a hub, whose end it is, and where memory is refused for a reply, all that have none with other memory
-/// for replies. It tells whether that was so.
-fn run_on<D: BlockStore + Drop, H: BlockStore + Drop, C: Allocator>(
-    mut hub: Hub<D, H>,
-    events: &[Event],
-    replies: &mut Vec<HubReply, C>,
-    others: &mut Vec<HubReply>,
-) -> Result<bool, AllocError> {
-    if hub.run(events, replies).is_ok() {
-        return Ok(false);
-    }
-    let rest = events.get(replies.len()..).unwrap_or(&[]);
-    hub.run(rest, others)?;
-    Ok(true)
-}
-
-/// How many replies are made where these have so much room and the others are made with more, if all are what is to come.
-fn replies_within(
-    alloc: Global,
-    room: usize,
-    events: &[Event],
-    wants: &[Want],
-) -> Result<Option<usize>, Fail> {
-    let heap = LocalHeap::new(alloc, room)?;
-    let hub = hub_17(alloc, data_17(alloc)?, hash_17(alloc)?, 1)?;
-    let mut replies = Vec::new(&heap);
-    let mut others = Vec::new(alloc);
-    let is_refused = run_on(hub, events, &mut replies, &mut others)?;
-    let all = replies.iter().chain(others.iter());
-    let are_wanted = all.zip(wants).all(|(reply, want)| is_wanted(reply, want));
-    let are_all = replies.len() + others.len() == wants.len();
-    if are_wanted && are_all && is_refused == (replies.len() < wants.len()) {
-        Ok(Some(replies.len()))
-    } else {
-        Ok(None)
-    }
-}
-
-#[test]
-fn events_with_a_reply_were_done_and_no_other(rt: HostRuntime) -> Result<(), Fail> {
-    let alloc = rt.alloc();
-    let events = events(alloc)?;
-    let wants = wants(alloc)?;
-    let mut most = 0;
-    for steps in 1..1000 {
-        let count = replies_within(alloc, steps * STEP, &events, &wants)?;
-        assert!(rt; count.is_some(), "wrong at {steps} steps");
-        let count = count.unwrap_or(0);
-        if count == wants.len() {
-            assert!(rt; 0 < most);
-            return Ok(());
-        }
-        most = count;
     }
     Err(Fail::from("memory was refused at every size"))
 }

@@ -5,7 +5,8 @@ use crate::volumes::*;
 use std::alloc::{AllocError, Global};
 use std::io::{self, Write};
 use std::test::Fail;
-use verity_hub::ServeFault;
+use verity_hub::{Hub, HubFault, ServeFault, serve_stream};
+use verity_store::BlockStore;
 
 /// Client flags; option 8; GO without a name; READ of the last byte.
 const INPUT: &[u8] = b"\x00\x00\x00\x03\
@@ -82,6 +83,37 @@ fn a_stream_is_left_at_its_limit(rt: HostRuntime) -> Result<(), Fail> {
     assert_eq!(rt; result, Err(ServeFault::Turns));
     assert_eq!(rt; said.as_slice(), want.as_slice());
     assert_eq!(rt; reader.len(), input.len() - 84);
+    Ok(())
+}
+
+/// Opens sessions, and then serves one more over a reader and a writer by a hub, whose end it is.
+fn serve_after<D: BlockStore + Drop, H: BlockStore + Drop>(
+    mut hub: Hub<D, H>,
+    sessions: usize,
+    reader: &mut &[u8],
+    said: &mut Vec<u8>,
+) -> Result<(), ServeFault> {
+    let mut greetings = Vec::new(*said.allocator());
+    for _ in 0..sessions {
+        if let Err(fault) = hub.open(&mut greetings) {
+            return Err(ServeFault::Hub(fault));
+        }
+    }
+    serve_stream(&mut hub, reader, said, 100)
+}
+
+#[test]
+fn a_full_hub_serves_nobody(rt: HostRuntime) -> Result<(), Fail> {
+    let alloc = rt.alloc();
+    for (sessions, fault) in [(63, None), (64, Some(ServeFault::Hub(HubFault::Full)))] {
+        let hub = hub_17(alloc, data_17(alloc)?, hash_17(alloc)?, 1)?;
+        let mut said = Vec::new(alloc);
+        let mut reader = INPUT;
+        let result = serve_after(hub, sessions, &mut reader, &mut said);
+        assert_eq!(rt; result.err(), fault);
+        assert!(rt; said.is_empty() == fault.is_some());
+        assert!(rt; (reader.len() == INPUT.len()) == fault.is_some());
+    }
     Ok(())
 }
 

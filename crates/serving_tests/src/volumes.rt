@@ -1,6 +1,7 @@
 //! Volumes whose data blocks and hash blocks have 512 bytes, without a salt, and whose data blocks are filled with their
 //! numbers. Their root hashes are those of an independent program.
 
+use linked_list_allocator::LocalHeap;
 use nbd_session::ExportName;
 use std::alloc::{AllocError, Allocator, Global};
 use std::test::Fail;
@@ -100,4 +101,16 @@ pub fn hub_17<D: BlockStore + Drop, H: BlockStore + Drop>(
 ) -> Result<Hub<D, H>, Fail> {
     let table = line(alloc, 17, 0, ROOT_17)?;
     make_hub(alloc, table, data_store, hash_store, cache)
+}
+
+/// A hub over these stores whose memory is a heap's, if the heap has room for its verifier.
+pub fn hub_within<'a>(
+    heap: &'a LocalHeap,
+    data_store: MemStore,
+    hash_store: MemStore,
+) -> Option<Hub<MemStore, MemStore, &'a LocalHeap>> {
+    let table = line(heap, 17, 0, ROOT_17).ok()?;
+    let verifier = Verifier::new(heap, table, data_store, hash_store, 1).ok()?;
+    let name = ExportName::new(b"vol").ok()?;
+    Some(Hub::new(heap, verifier, name))
 }
