@@ -1,0 +1,81 @@
+//! Data stores that lie.
+
+use crate::scripts::*;
+use crate::volumes::*;
+use std::alloc::Global;
+use std::test::Fail;
+use test_volumes::image;
+
+/// Whether both sessions are told what they should where the data store lies.
+fn tells_of_data(alloc: Global, cache: usize, script: Script, reads: Reads) -> Result<bool, Fail> {
+    let mut gives = image(alloc, 17)?;
+    gives.extend_from_slice(&other_image(alloc)?)?;
+    let data = scripted(alloc, 17, &gives, script)?;
+    let hub = hub_17(alloc, data, hash_17(alloc)?, cache)?;
+    tells(alloc, hub, reads)
+}
+
+/// Lies of a data store, which has the volume's 17 blocks to give, and then those of another volume.
+const DATA_LIES: [(&str, Script, Reads); 7] = [
+    (
+        "blocks of another volume",
+        &[Some(20), Some(33), Some(20), Some(33)],
+        &[(3, false), (16, false), (3, false), (16, false)],
+    ),
+    (
+        "right blocks in swapped places",
+        &[Some(4), Some(3), Some(16), Some(0), Some(3), Some(4)],
+        &[
+            (3, false),
+            (4, false),
+            (0, false),
+            (16, false),
+            (3, true),
+            (4, true),
+        ],
+    ),
+    (
+        "the right block, then another, then the right one",
+        &[Some(3), Some(4), Some(3), Some(20)],
+        &[(3, true), (3, false), (3, true), (3, false)],
+    ),
+    (
+        "a wrong block, then the right one",
+        &[Some(20), Some(3), Some(4), Some(3)],
+        &[(3, false), (3, true), (3, false), (3, true)],
+    ),
+    (
+        "faults between right blocks",
+        &[Some(3), None, Some(16), None, Some(16), Some(3)],
+        &[
+            (3, true),
+            (16, false),
+            (16, true),
+            (3, false),
+            (16, true),
+            (3, true),
+        ],
+    ),
+    ("faults alone", &[None, None], &[(3, false), (16, false)]),
+    (
+        "one right block, and no more",
+        &[Some(3)],
+        &[(3, true), (3, false), (3, false), (3, false)],
+    ),
+];
+
+#[test]
+fn a_data_store_that_lies(rt: HostRuntime) -> Result<(), Fail> {
+    let alloc = rt.alloc();
+    for (name, script, reads) in DATA_LIES {
+        assert!(rt;
+            tells_of_data(alloc, 1, script, reads)?,
+            "{name}, cache of 1"
+        );
+        assert!(rt;
+            tells_of_data(alloc, 4, script, reads)?,
+            "{name}, cache of 4"
+        );
+    }
+    Ok(())
+}

@@ -1,0 +1,73 @@
+//! Each call of a store failing in turn.
+
+use crate::clients::*;
+use crate::volumes::*;
+use std::alloc::Global;
+use std::test::Fail;
+use test_volumes::image;
+use verity_store::FailStore;
+
+/// Two READs one after the other: the blocks 4 to 6, and 14 to 16.
+const RANGES: [(u64, u32); 2] = [(2048, 1536), (7168, 1536)];
+
+/// What is said to the two READs, of which these are refused.
+fn expected(alloc: Global, refused: [bool; 2]) -> Result<Vec<u8>, Fail> {
+    let bytes = image(alloc, 17)?;
+    let mut said = Vec::from_slice(alloc, WELCOME_17)?;
+    for ((offset, len), is_refused) in RANGES.into_iter().zip(refused) {
+        if is_refused {
+            add_reply(&mut said, offset, EIO, b"")?;
+        } else {
+            let range = bytes.iter().skip(offset as usize).take(len as usize);
+            add_reply(&mut said, offset, 0, b"")?;
+            for byte in range {
+                said.push(*byte)?;
+            }
+        }
+    }
+    Ok(said)
+}
+
+/// What is said where the data store fails at its call of this number.
+fn said_with_data_failure(alloc: Global, call: u64) -> Result<Vec<u8>, Fail> {
+    let input = client(alloc, &RANGES)?;
+    let mut said = Vec::new(alloc);
+    let data = FailStore::at(data_17(alloc)?, call);
+    let hub = hub_17(alloc, data, hash_17(alloc)?, 1)?;
+    serve_once(hub, &input, &mut said)?;
+    Ok(said)
+}
+
+/// What is said where the hash store fails at its call of this number.
+fn said_with_hash_failure(alloc: Global, call: u64) -> Result<Vec<u8>, Fail> {
+    let input = client(alloc, &RANGES)?;
+    let mut said = Vec::new(alloc);
+    let hash = FailStore::at(hash_17(alloc)?, call);
+    let hub = hub_17(alloc, data_17(alloc)?, hash, 1)?;
+    serve_once(hub, &input, &mut said)?;
+    Ok(said)
+}
+
+#[test]
+fn only_the_read_that_meets_a_data_failure_is_eio(rt: HostRuntime) -> Result<(), Fail> {
+    let alloc = rt.alloc();
+    for call in 1..8 {
+        let said = said_with_data_failure(alloc, call)?;
+        let want = expected(alloc, [call <= 3, 3 < call && call <= 6])?;
+        assert_eq!(rt; said.as_slice(), want.as_slice(), "call {call}");
+    }
+    Ok(())
+}
+
+// The first READ reads the top and the first block of level 0, which is then the one that is cached; the second reads the
+// top again and the second block of level 0.
+#[test]
+fn only_the_read_that_meets_a_hash_failure_is_eio(rt: HostRuntime) -> Result<(), Fail> {
+    let alloc = rt.alloc();
+    for call in 1..6 {
+        let said = said_with_hash_failure(alloc, call)?;
+        let want = expected(alloc, [call <= 2, 2 < call && call <= 4])?;
+        assert_eq!(rt; said.as_slice(), want.as_slice(), "call {call}");
+    }
+    Ok(())
+}
