@@ -39,11 +39,7 @@ pub fn numbered<A: Allocator + Copy>(alloc: A, count: usize) -> Result<MemStore<
 /// What the volumes are built with.
 pub fn params(alloc: Global) -> Result<Params, Fail> {
     let salt = Salt::new(alloc, b"\x00\xff")?;
-    Ok(Params::new(
-        salt,
-        Uuid::from_bytes([1; 16]),
-        Algorithm::Sha256,
-    ))
+    Ok(Params::new(salt, Uuid::from_bytes([1; 16]), Algorithm::Sha256))
 }
 
 /// The volume of a data store, built from scratch.
