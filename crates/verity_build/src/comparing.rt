@@ -51,6 +51,7 @@ fn holds<H: BlockStore>(
     ensures same { IfOk result (λ same. H.tells hash_store.old ≡ true → IsTrue same ↔ (slice_index_or (H.content hash_store.old) place [] ≡ block.now)) }
     ensures read { IsOnlyRead H.BlockStore hash_store.old hash_store.new }
     ensures failed { OnErr result (H.failures hash_store.old < H.failures hash_store.new) }
+    ensures unfailed { OnOk result (H.failures hash_store.new ≡ H.failures hash_store.old) }
 {
     if place >= hash_store.len() {
         return Ok(false);
@@ -85,6 +86,7 @@ fn compare_done<A: Allocator, H: BlockStore>(
     ensures geometry { tree.new.geometry ≡ tree.old.geometry }
     ensures read { IsOnlyRead H.BlockStore hash_store.old hash_store.new }
     ensures failed { OnErr result (H.failures hash_store.old < H.failures hash_store.new) }
+    ensures unfailed { OnOk result (H.failures hash_store.new ≡ H.failures hash_store.old) }
 {
     let mut found = found_before;
     let last = blocks == tree.geometry.blocks();
@@ -131,6 +133,8 @@ fn compare_tree<A: Allocator, D: BlockStore, H: BlockStore>(
     ensures hash_store { IsOnlyRead H.BlockStore hash_store.old hash_store.new }
     ensures data_failed { result ≡ Err Which.Data → D.failures data_store.old < D.failures data_store.new }
     ensures hash_failed { result ≡ Err Which.Hash → H.failures hash_store.old < H.failures hash_store.new }
+    ensures data_unfailed { OnOk result (D.failures data_store.new ≡ D.failures data_store.old) }
+    ensures hash_unfailed { OnOk result (H.failures hash_store.new ≡ H.failures hash_store.old) }
 {
     let mut found = None;
     for n in 0..tree.geometry.blocks() {
@@ -165,6 +169,9 @@ pub fn compare<A: Allocator + Copy, P: Allocator, D: BlockStore, H: BlockStore>(
     ensures data_reads { OnOk result (D.reads data_store.new ≡ D.reads data_store.old + length (D.content data_store.old)) }
     ensures data_reads_most { D.reads data_store.new ≤ D.reads data_store.old + length (D.content data_store.old) }
     ensures hash_store { IsOnlyRead H.BlockStore hash_store.old hash_store.new }
+    ensures data_unfailed { OnOk result (D.failures data_store.new ≡ D.failures data_store.old) }
+    ensures hash_unfailed { OnOk result (H.failures hash_store.new ≡ H.failures hash_store.old) }
+    ensures refused_unfailed { IfErr result (λ fault. fault ≢ BuildFault.Store Which.Data → fault ≢ BuildFault.Store Which.Hash → (D.failures data_store.new ≡ D.failures data_store.old) × (H.failures hash_store.new ≡ H.failures hash_store.old)) }
 {
     compare_at(alloc, data_store, hash_store, params, 0)
 }
@@ -202,6 +209,9 @@ pub fn compare_at<A: Allocator + Copy, P: Allocator, D: BlockStore, H: BlockStor
     ensures data_reads { OnOk result (D.reads data_store.new ≡ D.reads data_store.old + length (D.content data_store.old)) }
     ensures data_reads_most { D.reads data_store.new ≤ D.reads data_store.old + length (D.content data_store.old) }
     ensures hash_store { IsOnlyRead H.BlockStore hash_store.old hash_store.new }
+    ensures data_unfailed { OnOk result (D.failures data_store.new ≡ D.failures data_store.old) }
+    ensures hash_unfailed { OnOk result (H.failures hash_store.new ≡ H.failures hash_store.old) }
+    ensures refused_unfailed { IfErr result (λ fault. fault ≢ BuildFault.Store Which.Data → fault ≢ BuildFault.Store Which.Hash → (D.failures data_store.new ≡ D.failures data_store.old) × (H.failures hash_store.new ≡ H.failures hash_store.old)) }
 {
     let (start, mut tree) = prepare(alloc, data_store, hash_store, params, offset)?;
     let mut data_block = zeros(alloc, tree.geometry.data_size())?;

@@ -153,6 +153,8 @@ impl<F: RawFile> BlockStore for FileStore<F> {
 
     ghost room = { λ _. 2 ^ 41 };
 
+    ghost synced = { λ s. F.synced s.file };
+
     ghost gave_sized = { λ _ _ _ sized. sized };
 
     fn block_size(&self) -> usize {

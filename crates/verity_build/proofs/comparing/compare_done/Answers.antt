@@ -97,4 +97,5 @@ loop-level-preserved g c =
                 (sym here ∙ same.0 b.if-not-branch.false ∙ tree_block) before)
           ];
       read = only_read_then H c.args.hash_store.now c.loop-level.hash_store c.holds.new.hash_store kept.read read;
+      unfailed = c.in_ok-holds.ensures.unfailed ∙ kept.unfailed;
     }

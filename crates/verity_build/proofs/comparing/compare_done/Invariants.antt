@@ -19,4 +19,5 @@ invariant-loop-level g l =
       right : StaysRight h s.blocks l.fn.tree.blocks.items l.fn.tree.root l.tree.blocks.items l.tree.root;
       compared : H.tells l.fn.hash_store ≡ true → StaysCompared h s l.start (H.content l.fn.hash_store) l.fn.tree.blocks.items l.fn.tree.root l.fn.found_before l.tree.blocks.items l.found;
       read : IsOnlyRead H l.fn.hash_store l.hash_store;
+      unfailed : H.failures l.hash_store ≡ H.failures l.fn.hash_store;
     }

@@ -36,6 +36,8 @@ loop-n-init g c =
       data_store = only_read_same D c.args.data_store.now;
       data_reads = omega arith;
       hash_store = only_read_same H c.args.hash_store.now;
+      data_unfailed = refl;
+      hash_unfailed = refl;
     }
 
 pub compare_done-requires-clause-come : goal.compare_done-requires-clause-come
@@ -101,4 +103,6 @@ loop-n-preserved g c =
       data_store = only_read_then D c.args.data_store.now c.loop-n.data_store c.read.new.self kept.data_store (record { content = read.content; room = read.room; later = later });
       data_reads = omega (arith, read.counted, kept.data_reads);
       hash_store = only_read_then H c.args.hash_store.now c.loop-n.hash_store c.compare_done.new.hash_store kept.hash_store done.read;
+      data_unfailed = read.unfailed ∙ kept.data_unfailed;
+      hash_unfailed = done.unfailed ∙ kept.hash_unfailed;
     }

@@ -24,4 +24,6 @@ invariant-loop-n g l =
       data_store : IsOnlyRead D l.fn.data_store l.data_store;
       data_reads : D.reads l.data_store ≡ D.reads l.fn.data_store + l.n;
       hash_store : IsOnlyRead H l.fn.hash_store l.hash_store;
+      data_unfailed : D.failures l.data_store ≡ D.failures l.fn.data_store;
+      hash_unfailed : H.failures l.hash_store ≡ H.failures l.fn.hash_store;
     }
