@@ -11,7 +11,7 @@ ghost use Rattle.verity_check.specs.Right.{Fits, IsRight, AreRight, bytes_of};
 ghost use Rattle.verity_check.specs.Range.{ServesBytes, Wrong};
 ghost use Rattle.verity_check.specs.declared.finding.Finding.TheVariants.{Good};
 ghost use Rattle.verity_check.specs.Finding.{finding};
-ghost use Rattle.verity_check.specs.Stores.{given_in, hash_given, held_in, BothTell, IsDataStoreOf, IsHashStoreOf};
+ghost use Rattle.verity_check.specs.Stores.{Marks, given_in, hash_given, held_in, BothTell, IsDataStoreOf, IsHashStoreOf};
 ghost use Rattle.verity_check.specs.Holds.{Holds, IsLineOf};
 
 use verity_store::BlockStore;
@@ -19,38 +19,38 @@ use verity_store::BlockStore;
 /// A block at the end of a chain of given blocks under a table line that fits the image is the image's own, or at some
 /// place a store gave a block that differs from the image's own there and has its length and digest.
 pub fn chain_is_right<D: BlockStore, H: BlockStore>()
-    ensures { (t : Table) (d : _) (h : _) (image : List (List ℕ)) (n : ℕ) (block : List ℕ) → IsTable t
+    ensures { (t : Table) (marks : Marks) (d : _) (h : _) (image : List (List ℕ)) (n : ℕ) (block : List ℕ) → IsTable t
         → IsDataStoreOf D.BlockStore t d → IsHashStoreOf H.BlockStore t h → Fits t image → n < t.data_blocks
-        → EndsChain t (given_in D.BlockStore H.BlockStore t d h) 0 n block → IsRight t (given_in D.BlockStore H.BlockStore t d h) image n block }
+        → EndsChain t (given_in D.BlockStore H.BlockStore t marks d h) 0 n block → IsRight t (given_in D.BlockStore H.BlockStore t marks d h) image n block }
 {}
 
 /// So the bytes of a range that was served are the image's, or there is such a clash.
 pub fn bytes_are_right<D: BlockStore, H: BlockStore>()
-    ensures { (t : Table) (d : _) (h : _) (image : List (List ℕ)) (offset len : ℕ) (bytes : List ℕ) → IsTable t
+    ensures { (t : Table) (marks : Marks) (d : _) (h : _) (image : List (List ℕ)) (offset len : ℕ) (bytes : List ℕ) → IsTable t
         → IsDataStoreOf D.BlockStore t d → IsHashStoreOf H.BlockStore t h → Fits t image
-        → ServesBytes t (given_in D.BlockStore H.BlockStore t d h) offset len bytes
-        → AreRight t (given_in D.BlockStore H.BlockStore t d h) image offset len bytes }
+        → ServesBytes t (given_in D.BlockStore H.BlockStore t marks d h) offset len bytes
+        → AreRight t (given_in D.BlockStore H.BlockStore t marks d h) image offset len bytes }
 {}
 
 /// Where the stores tell, a block at the end of a chain is the one that is held at its place, and a report finds the place
 /// good. So it is with each cached block, which ends a chain of blocks that the hash store gave.
 pub fn chained_is_good<D: BlockStore, H: BlockStore>()
-    ensures chained { (t : Table) (d : _) (h : _) (row index : ℕ) (block : List ℕ) → BothTell D.BlockStore H.BlockStore d h
-        → EndsChain t (given_in D.BlockStore H.BlockStore t d h) row index block
+    ensures chained { (t : Table) (marks : Marks) (d : _) (h : _) (row index : ℕ) (block : List ℕ) → BothTell D.BlockStore H.BlockStore d h
+        → EndsChain t (given_in D.BlockStore H.BlockStore t marks d h) row index block
         → (finding t (held_in D.BlockStore H.BlockStore t d h) [] row index ≡ Good) × (block ≡ held_in D.BlockStore H.BlockStore t d h row index) }
-    ensures cached { (t : Table) (d : _) (h : _) (level index : ℕ) (block : List ℕ) → BothTell D.BlockStore H.BlockStore d h
-        → EndsChain t (hash_given H.BlockStore t h) (suc level) index block
+    ensures cached { (t : Table) (marks : Marks) (d : _) (h : _) (level index : ℕ) (block : List ℕ) → BothTell D.BlockStore H.BlockStore d h
+        → EndsChain t (hash_given H.BlockStore t marks.of_hash h) (suc level) index block
         → (finding t (held_in D.BlockStore H.BlockStore t d h) [] (suc level) index ≡ Good) × (block ≡ held_in D.BlockStore H.BlockStore t d h (suc level) index) }
 {}
 
 /// Where the stores hold the image and its tree, nothing wrong was given, and what was served is the image's.
 pub fn holds_serves<D: BlockStore, H: BlockStore>()
-    ensures right { (t : Table) (d : _) (h : _) (image : List (List ℕ)) (offset len : ℕ) → IsTable t
+    ensures right { (t : Table) (marks : Marks) (d : _) (h : _) (image : List (List ℕ)) (offset len : ℕ) → IsTable t
         → Holds t (D.tells d) (D.content d) (H.tells h) (H.content h) image
-        → offset + len ≤ t.data_blocks * t.data_block_size → Wrong t (given_in D.BlockStore H.BlockStore t d h) offset len → ⊥ }
-    ensures bytes { (t : Table) (d : _) (h : _) (image : List (List ℕ)) (offset len : ℕ) (bytes : List ℕ) → IsTable t
+        → offset + len ≤ t.data_blocks * t.data_block_size → Wrong t (given_in D.BlockStore H.BlockStore t marks d h) offset len → ⊥ }
+    ensures bytes { (t : Table) (marks : Marks) (d : _) (h : _) (image : List (List ℕ)) (offset len : ℕ) (bytes : List ℕ) → IsTable t
         → Holds t (D.tells d) (D.content d) (H.tells h) (H.content h) image
-        → ServesBytes t (given_in D.BlockStore H.BlockStore t d h) offset len bytes → bytes ≡ bytes_of image offset len }
+        → ServesBytes t (given_in D.BlockStore H.BlockStore t marks d h) offset len bytes → bytes ≡ bytes_of image offset len }
 {}
 
 /// Stores that tell, of which the data store holds the image and the hash store is the image's hash device with some

@@ -26,6 +26,7 @@ mod finding;
 pub mod laws;
 mod range;
 mod report;
+mod since;
 mod tree;
 mod verifier;
 mod walk;

@@ -1,14 +1,15 @@
 -- What a script's reads tell, as the trait asks.
-use Rattle.std.proofs.Common.{◌≡◌, refl, ℕ, ◌+◌, ◌<◌, ◌≤◌, Option, None, Some, List, length, Result, Ok, Err, IsOk, OnOk, OnErr, IfErr, sym, subst, arith}
+use Rattle.std.proofs.Common.{◌≡◌, refl, ℕ, ◌+◌, ◌<◌, ◌≤◌, Option, None, Some, List, [], ◌∷◌, ◌++◌, length, Result, Ok, Err, IsOk, OnOk, OnErr, IfErr, sym, subst, arith}
 use Rattle.std.proofs.lemmas.Bool.{false≢true}
-use Rattle.std.proofs.lemmas.List.Elements.{Contains-push, Contains-append_left}
-use Rattle.std.specs.Prelude.{Contains}
+use Rattle.verity_store.specs.Given.{GoesOn}
+use Rattle.verity_store.proofs.GivenLemmas.{goes_on_same, goes_on_push}
 use Rattle.verity_store.specs.Script.{Script, after_read}
 use Rattle.verity_store.specs.declared.fault.StoreFault.{StoreFault}
 use Rattle.verity_store.specs.declared.fault.StoreFault.TheVariants.{Device}
 
 pub record ReadTells (old new : Script) (n : ℕ) (out : List ℕ) (result : Result (Unit {0}) StoreFault) : Type 0 where
-  pub given : OnOk result ((length out ≡ new.size) × Contains new.given (n, out))
+  pub given : OnOk result (new.given ≡ old.given ++ (n, out) ∷ [])
+  pub ungiven : OnErr result (new.given ≡ old.given)
   pub error : IfErr result (λ e. e ≡ Device)
   pub failed : OnErr result (old.failures < new.failures)
   pub unfailed : OnOk result (new.failures ≡ old.failures)
@@ -16,15 +17,16 @@ pub record ReadTells (old new : Script) (n : ℕ) (out : List ℕ) (result : Res
   pub counted : new.reads ≡ old.reads + 1
   pub blocks : new.blocks ≡ old.blocks
   pub size : new.size ≡ old.size
-  pub gave : (k : ℕ) (b : List ℕ) → Contains old.given (k, b) → Contains new.given (k, b)
+  pub gave : GoesOn old.given new.given
 
 read_fails : (n : ℕ) (old : Script) (out : List ℕ) → ReadTells old (after_read n None old) n out (Err Device)
-read_fails n old out = record { given = tt; error = refl; failed = omega arith; unfailed = tt; failures = omega arith; counted = refl; blocks = refl; size = refl; gave = λ k b held. held }
+read_fails n old out = record { given = tt; ungiven = refl; error = refl; failed = omega arith; unfailed = tt; failures = omega arith; counted = refl; blocks = refl; size = refl; gave = goes_on_same old.given }
 
 read_gives : (n : ℕ) (block : List ℕ) (old : Script) (u : Unit {0}) → length block ≡ old.size → ReadTells old (after_read n (Some block) old) n block (Ok u)
 read_gives n block old u whole =
     record {
-      given = (whole, Contains-push old.given (n, block));
+      given = refl;
+      ungiven = tt;
       error = tt;
       failed = tt;
       unfailed = refl;
@@ -32,7 +34,7 @@ read_gives n block old u whole =
       counted = refl;
       blocks = refl;
       size = refl;
-      gave = λ k b held. Contains-append_left old.given _ (k, b) held;
+      gave = goes_on_push old.given _ (n, block) refl;
     }
 
 pub read_tells : (n : ℕ) (next : Option (List ℕ)) (old new : Script) (out : List ℕ) (result : Result (Unit {0}) StoreFault) → length out ≡ old.size → new ≡ after_read n next old

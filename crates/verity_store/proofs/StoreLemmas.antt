@@ -1,17 +1,18 @@
 -- Runs of calls: what each call leaves, all of them leave.
 use Rattle.std.proofs.Common.{refl, ◌∙◌, arith}
+use Rattle.verity_store.proofs.GivenLemmas.{goes_on_same, goes_on_then}
 use Rattle.verity_store.specs.Stores.{IsLater, IsOnlyRead}
 use Rattle.verity_store.specs.declared.store.BlockStore as store
 
 pub later_same : {S : Type 0} (facts : store.Ghosts S) (s : S) → IsLater facts s s
-later_same facts s = record { tells = refl; size = refl; gave = λ n block given. given; failures = omega arith; reads = omega arith; room = omega arith }
+later_same facts s = record { tells = refl; size = refl; gave = goes_on_same _; failures = omega arith; reads = omega arith; room = omega arith }
 
 pub later_then : {S : Type 0} (facts : store.Ghosts S) (old now new : S) → IsLater facts old now → IsLater facts now new → IsLater facts old new
 later_then facts old now new first second =
     record {
       tells = second.tells ∙ first.tells;
       size = second.size ∙ first.size;
-      gave = λ n block given. second.gave n block (first.gave n block given);
+      gave = goes_on_then _ _ _ first.gave second.gave;
       failures = omega (arith, first.failures, second.failures);
       reads = omega (arith, first.reads, second.reads);
       room = omega (arith, first.room, second.room);

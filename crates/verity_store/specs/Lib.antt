@@ -1,5 +1,6 @@
 pub mod Blocks
 pub mod Failing
+pub mod Given
 pub mod Moves
 pub mod RawFile
 pub mod Script

@@ -134,8 +134,9 @@ impl<S: BlockStore> FailStore<S> {
 }
 
 impl<S: BlockStore> BlockStore for FailStore<S> {
-    ghost use Rattle.std.specs.Prelude.{◌≡◌, ◌≢◌, ℕ, ◌+◌, ◌^◌, ◌<◌, ◌≤◌, true, false, List, [], length, slice_index_or, slice_set, OnOk, OnErr, IfErr};
+    ghost use Rattle.std.specs.Prelude.{◌≡◌, ◌≢◌, ℕ, ◌+◌, ◌^◌, ◌<◌, ◌≤◌, true, false, List, [], ◌∷◌, ◌++◌, length, slice_index_or, slice_set, OnOk, OnErr, IfErr};
     ghost use Rattle.verity_profile.specs.Profile.{AllSized};
+    ghost use Rattle.verity_store.specs.Given.{GoesOn};
     ghost use Rattle.verity_store.specs.Blocks.{resized, ResizedToward, ChangesAt};
     ghost use Rattle.verity_store.specs.Failing.{is_call_due, is_read_due, after_call, after_read, after_failed_call, after_failed_read};
 
@@ -145,7 +146,7 @@ impl<S: BlockStore> BlockStore for FailStore<S> {
 
     ghost tells = { λ s. S.tells s.store };
 
-    ghost gave = { λ s n b. S.gave s.store n b };
+    ghost given = { λ s. S.given s.store };
 
     ghost failures = { λ s. S.failures s.store + s.failed };
 
@@ -154,8 +155,6 @@ impl<S: BlockStore> BlockStore for FailStore<S> {
     ghost room = { λ s. S.room s.store };
 
     ghost synced = { λ s. S.synced s.store };
-
-    ghost gave_sized = { λ s n b h. S.gave_sized s.store n b h };
 
     fn block_size(&self) -> usize {
         self.store.block_size()
@@ -170,7 +169,8 @@ impl<S: BlockStore> BlockStore for FailStore<S> {
         requires sized { length out.old ≡ S.size self.old.store }
         ensures due { is_read_due self.old ≡ true → (result ≡ Err StoreFault.Device) × (self.new ≡ after_failed_read self.old) }
         ensures passed { is_read_due self.old ≡ false → self.new ≡ after_read self.old self.new.store }
-        ensures given { OnOk result (S.gave self.new.store n out.new) }
+        ensures given { OnOk result (S.given self.new.store ≡ S.given self.old.store ++ (n, out.new) ∷ []) }
+        ensures ungiven { OnErr result (S.given self.new.store ≡ S.given self.old.store) }
         ensures right { OnOk result (S.tells self.old.store ≡ true → slice_index_or (S.content self.old.store) n [] ≡ out.new) }
         ensures error { IfErr result (λ e. e ≡ StoreFault.Device) }
         ensures failed { OnErr result (S.failures self.old.store + self.old.failed < S.failures self.new.store + self.new.failed) }
@@ -178,7 +178,7 @@ impl<S: BlockStore> BlockStore for FailStore<S> {
         ensures failures { S.failures self.old.store + self.old.failed ≤ S.failures self.new.store + self.new.failed }
         ensures counted { S.reads self.new.store + self.new.refused ≡ S.reads self.old.store + self.old.refused + 1 }
         ensures content { S.content self.new.store ≡ S.content self.old.store }
-        ensures gave { (k : ℕ) (b : List ℕ) → S.gave self.old.store k b → S.gave self.new.store k b }
+        ensures gave { GoesOn (S.given self.old.store) (S.given self.new.store) }
         ensures tells { S.tells self.new.store ≡ S.tells self.old.store }
         ensures size { S.size self.new.store ≡ S.size self.old.store }
         ensures room { S.room self.new.store ≡ S.room self.old.store }
@@ -202,7 +202,8 @@ impl<S: BlockStore> BlockStore for FailStore<S> {
         ensures unfailed { OnOk result (S.failures self.new.store + self.new.failed ≡ S.failures self.old.store + self.old.failed) }
         ensures failures { S.failures self.old.store + self.old.failed ≤ S.failures self.new.store + self.new.failed }
         ensures reads { S.reads self.new.store + self.new.refused ≡ S.reads self.old.store + self.old.refused }
-        ensures gave { (k : ℕ) (b : List ℕ) → S.gave self.old.store k b → S.gave self.new.store k b }
+        ensures given { S.given self.new.store ≡ S.given self.old.store }
+        ensures gave { GoesOn (S.given self.old.store) (S.given self.new.store) }
         ensures tells { S.tells self.new.store ≡ S.tells self.old.store }
         ensures size { S.size self.new.store ≡ S.size self.old.store }
         ensures room { S.room self.new.store ≡ S.room self.old.store }
@@ -222,7 +223,8 @@ impl<S: BlockStore> BlockStore for FailStore<S> {
         ensures failures { S.failures self.new.store + self.new.failed ≡ S.failures self.old.store + self.old.failed }
         ensures reads { S.reads self.new.store + self.new.refused ≡ S.reads self.old.store + self.old.refused }
         ensures content { S.content self.new.store ≡ S.content self.old.store }
-        ensures gave { (k : ℕ) (b : List ℕ) → S.gave self.old.store k b → S.gave self.new.store k b }
+        ensures given { S.given self.new.store ≡ S.given self.old.store }
+        ensures gave { GoesOn (S.given self.old.store) (S.given self.new.store) }
         ensures tells { S.tells self.new.store ≡ S.tells self.old.store }
         ensures size { S.size self.new.store ≡ S.size self.old.store }
         ensures room { S.room self.old.store ≤ S.room self.new.store }
@@ -243,7 +245,8 @@ impl<S: BlockStore> BlockStore for FailStore<S> {
         ensures unfailed { OnOk result (S.failures self.new.store + self.new.failed ≡ S.failures self.old.store + self.old.failed) }
         ensures failures { S.failures self.old.store + self.old.failed ≤ S.failures self.new.store + self.new.failed }
         ensures reads { S.reads self.new.store + self.new.refused ≡ S.reads self.old.store + self.old.refused }
-        ensures gave { (k : ℕ) (b : List ℕ) → S.gave self.old.store k b → S.gave self.new.store k b }
+        ensures given { S.given self.new.store ≡ S.given self.old.store }
+        ensures gave { GoesOn (S.given self.old.store) (S.given self.new.store) }
         ensures tells { S.tells self.new.store ≡ S.tells self.old.store }
         ensures size { S.size self.new.store ≡ S.size self.old.store }
         ensures room { S.room self.old.store ≤ S.room self.new.store }
@@ -264,7 +267,8 @@ impl<S: BlockStore> BlockStore for FailStore<S> {
         ensures failures { S.failures self.old.store + self.old.failed ≤ S.failures self.new.store + self.new.failed }
         ensures reads { S.reads self.new.store + self.new.refused ≡ S.reads self.old.store + self.old.refused }
         ensures content { S.content self.new.store ≡ S.content self.old.store }
-        ensures gave { (k : ℕ) (b : List ℕ) → S.gave self.old.store k b → S.gave self.new.store k b }
+        ensures given { S.given self.new.store ≡ S.given self.old.store }
+        ensures gave { GoesOn (S.given self.old.store) (S.given self.new.store) }
         ensures tells { S.tells self.new.store ≡ S.tells self.old.store }
         ensures size { S.size self.new.store ≡ S.size self.old.store }
         ensures room { S.room self.new.store ≡ S.room self.old.store }

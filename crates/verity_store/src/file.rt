@@ -142,7 +142,6 @@ impl FileStore<File> {
 }
 
 impl<F: RawFile> BlockStore for FileStore<F> {
-    ghost use Rattle.std.specs.Prelude.{Contains};
 
     ghost size = { λ s. s.size };
 
@@ -150,7 +149,7 @@ impl<F: RawFile> BlockStore for FileStore<F> {
 
     ghost tells = { λ s. is_known (F.bytes s.file) };
 
-    ghost gave = { λ s n b. (length b ≡ s.size) × Contains s.given.blocks (n, b) };
+    ghost given = { λ s. s.given.blocks };
 
     ghost failures = { λ s. s.failed.steps };
 
@@ -159,8 +158,6 @@ impl<F: RawFile> BlockStore for FileStore<F> {
     ghost room = { λ _. 2 ^ 41 };
 
     ghost synced = { λ s. F.synced s.file };
-
-    ghost gave_sized = { λ _ _ _ given. given.0 };
 
     fn block_size(&self) -> usize {
         self.size

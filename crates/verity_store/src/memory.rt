@@ -7,6 +7,7 @@ ghost use Rattle.verity_store.specs.Blocks.{cut};
 use crate::{BlockStore, StoreFault};
 use std::alloc::{Allocator, Global};
 use verity_count::Count;
+use verity_given::Given;
 use verity_profile::is_block_size;
 
 /// A store whose blocks lie in memory, one after the other. It tells, and it never fails.
@@ -16,6 +17,7 @@ pub struct MemStore<A: Allocator = Global> {
     size: usize,
     blocks: u64,
     read_count: Count,
+    given: Given,
     ghost profile: { IsBlockSize size },
     ghost whole: { vec_len bytes ≡ blocks * size },
 }
@@ -63,6 +65,7 @@ impl<A: Allocator> MemStore<A> {
             size,
             blocks,
             read_count: Count::new(),
+            given: Given::new(),
         })
     }
 
@@ -88,6 +91,7 @@ impl<A: Allocator> MemStore<A> {
             size,
             blocks,
             read_count: Count::new(),
+            given: Given::new(),
         })
     }
 
@@ -106,15 +110,13 @@ impl<A: Allocator> BlockStore for MemStore<A> {
 
     ghost tells = { λ _. true };
 
-    ghost gave = { λ s _ b. length b ≡ s.size };
+    ghost given = { λ s. s.given.blocks };
 
     ghost failures = { λ _. 0 };
 
     ghost reads = { λ s. s.read_count.steps };
 
     ghost room = { λ s. vec_capacity s.bytes / s.size };
-
-    ghost gave_sized = { λ _ _ _ sized. sized };
 
     fn block_size(&self) -> usize {
         self.size
@@ -127,6 +129,7 @@ impl<A: Allocator> BlockStore for MemStore<A> {
     fn read(&mut self, n: u64, out: &mut [u8]) -> Result<(), StoreFault> {
         self.read_count.step();
         get(&self.bytes, n as usize * self.size, out);
+        self.given.note(n, out);
         Ok(())
     }
 

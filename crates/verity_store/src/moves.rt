@@ -1,5 +1,6 @@
 //! Runs of blocks that are moved within a store.
 ghost use Rattle.std.specs.Prelude.{◌≡◌, ◌≢◌, ℕ, ◌+◌, ◌-◌, ◌^◌, ◌<◌, ◌≤◌, true, List, [], length, slice_index_or, OnOk, OnErr, IfErr};
+ghost use Rattle.verity_store.specs.Given.{GoesOn};
 ghost use Rattle.verity_store.specs.Moves.{IsMoved, ChangesWithin};
 
 use crate::{BlockStore, StoreFault};
@@ -24,7 +25,7 @@ fn move_block<S: BlockStore>(
     ensures tells { S.tells store.new ≡ S.tells store.old }
     ensures size { S.size store.new ≡ S.size store.old }
     ensures room { S.room store.new ≡ S.room store.old }
-    ensures gave { (k : ℕ) (b : List ℕ) → S.gave store.old k b → S.gave store.new k b }
+    ensures gave { GoesOn (S.given store.old) (S.given store.new) }
 {
     store.read(from, buf)?;
     store.write(to, buf)
@@ -53,7 +54,7 @@ fn move_down<S: BlockStore>(
     ensures tells { S.tells store.new ≡ S.tells store.old }
     ensures size { S.size store.new ≡ S.size store.old }
     ensures room { S.room store.new ≡ S.room store.old }
-    ensures gave { (k : ℕ) (b : List ℕ) → S.gave store.old k b → S.gave store.new k b }
+    ensures gave { GoesOn (S.given store.old) (S.given store.new) }
 {
     for i in 0..count {
         move_block(store, from + i, to + i, buf)?;
@@ -84,7 +85,7 @@ fn move_up<S: BlockStore>(
     ensures tells { S.tells store.new ≡ S.tells store.old }
     ensures size { S.size store.new ≡ S.size store.old }
     ensures room { S.room store.new ≡ S.room store.old }
-    ensures gave { (k : ℕ) (b : List ℕ) → S.gave store.old k b → S.gave store.new k b }
+    ensures gave { GoesOn (S.given store.old) (S.given store.new) }
 {
     let mut left = count;
     while left > 0 {
@@ -121,7 +122,7 @@ pub fn move_run<S: BlockStore>(
     ensures tells { S.tells store.new ≡ S.tells store.old }
     ensures size { S.size store.new ≡ S.size store.old }
     ensures room { S.room store.new ≡ S.room store.old }
-    ensures gave { (k : ℕ) (b : List ℕ) → S.gave store.old k b → S.gave store.new k b }
+    ensures gave { GoesOn (S.given store.old) (S.given store.new) }
 {
     let _len = store.len();
     if to < from {

@@ -86,7 +86,7 @@ impl<A: Allocator> ScriptStore<A> {
     /// The blocks that were given so far, each after the number that was asked for, in the order in which they were given.
     pub fn given(&self) -> &[(u64, Block<A>)]
         ensures list { result.now ≡ self.now.given }
-        ensures gave { (n : ℕ) (b : List ℕ) → (⟦<ScriptStore<A> as BlockStore>⟧.gave self.now n b ↔ Contains result.now (n, b)) }
+        ensures given { result.now ≡ ⟦<ScriptStore<A> as BlockStore>⟧.given self.now }
     {
         &self.given
     }
@@ -103,15 +103,13 @@ impl<A: Allocator> BlockStore for ScriptStore<A> {
 
     ghost tells = { λ _. false };
 
-    ghost gave = { λ s n b. (length b ≡ s.size) × Contains s.given (n, b) };
+    ghost given = { λ s. s.given };
 
     ghost failures = { λ s. s.failures };
 
     ghost reads = { λ s. s.reads };
 
     ghost room = { λ _. 2 ^ 41 };
-
-    ghost gave_sized = { λ _ _ _ given. given.0 };
 
     fn block_size(&self) -> usize {
         self.size

@@ -1,6 +1,7 @@
 //! What is asked of a block store.
-ghost use Rattle.std.specs.Prelude.{◌≡◌, ◌≢◌, ℕ, ◌+◌, ◌^◌, ◌<◌, ◌≤◌, Bool, true, List, [], length, slice_index_or, slice_set, OnOk, OnErr, IfErr};
+ghost use Rattle.std.specs.Prelude.{◌≡◌, ◌≢◌, ℕ, ◌+◌, ◌^◌, ◌<◌, ◌≤◌, Bool, true, List, [], ◌∷◌, ◌++◌, length, slice_index_or, slice_set, OnOk, OnErr, IfErr};
 ghost use Rattle.verity_profile.specs.Profile.{IsBlockSize, AllSized};
+ghost use Rattle.verity_store.specs.Given.{GoesOn};
 ghost use Rattle.verity_store.specs.Blocks.{resized, ResizedToward, ChangesAt};
 
 use crate::StoreFault;
@@ -19,8 +20,8 @@ pub trait BlockStore {
     /// A read that succeeds gives the block of `content`, and a write that succeeds puts it there.
     ghost tells: { Self → Bool };
 
-    /// The block was given by a read of this number.
-    ghost gave: { Self → ℕ → List ℕ → Type 0 };
+    /// The blocks that reads gave, each after its number, in the order in which they were given.
+    ghost given: { Self → List (ℕ × List ℕ) };
 
     /// How often the device failed.
     ghost failures: { Self → ℕ };
@@ -50,7 +51,8 @@ pub trait BlockStore {
     fn read(&mut self, n: u64, out: &mut [u8]) -> Result<(), StoreFault>
         requires within { n < length (content self.old) }
         requires sized { length out.old ≡ size self.old }
-        ensures given { OnOk result (gave self.new n out.new) }
+        ensures given { OnOk result (given self.new ≡ given self.old ++ (n, out.new) ∷ []) }
+        ensures ungiven { OnErr result (given self.new ≡ given self.old) }
         ensures right { OnOk result (tells self.old ≡ true → slice_index_or (content self.old) n [] ≡ out.new) }
         ensures error { IfErr result (λ e. e ≡ StoreFault.Device) }
         ensures failed { OnErr result (failures self.old < failures self.new) }
@@ -58,7 +60,7 @@ pub trait BlockStore {
         ensures failures { failures self.old ≤ failures self.new }
         ensures counted { reads self.new ≡ reads self.old + 1 }
         ensures content { content self.new ≡ content self.old }
-        ensures gave { (k : ℕ) (b : List ℕ) → gave self.old k b → gave self.new k b }
+        ensures gave { GoesOn (given self.old) (given self.new) }
         ensures tells { tells self.new ≡ tells self.old }
         ensures size { size self.new ≡ size self.old }
         ensures room { room self.new ≡ room self.old };
@@ -77,7 +79,8 @@ pub trait BlockStore {
         ensures unfailed { OnOk result (failures self.new ≡ failures self.old) }
         ensures failures { failures self.old ≤ failures self.new }
         ensures reads { reads self.new ≡ reads self.old }
-        ensures gave { (k : ℕ) (b : List ℕ) → gave self.old k b → gave self.new k b }
+        ensures given { given self.new ≡ given self.old }
+        ensures gave { GoesOn (given self.old) (given self.new) }
         ensures tells { tells self.new ≡ tells self.old }
         ensures size { size self.new ≡ size self.old }
         ensures room { room self.new ≡ room self.old };
@@ -93,7 +96,8 @@ pub trait BlockStore {
         ensures failures { failures self.new ≡ failures self.old }
         ensures reads { reads self.new ≡ reads self.old }
         ensures content { content self.new ≡ content self.old }
-        ensures gave { (k : ℕ) (b : List ℕ) → gave self.old k b → gave self.new k b }
+        ensures given { given self.new ≡ given self.old }
+        ensures gave { GoesOn (given self.old) (given self.new) }
         ensures tells { tells self.new ≡ tells self.old }
         ensures size { size self.new ≡ size self.old }
         ensures room { room self.old ≤ room self.new };
@@ -113,7 +117,8 @@ pub trait BlockStore {
         ensures unfailed { OnOk result (failures self.new ≡ failures self.old) }
         ensures failures { failures self.old ≤ failures self.new }
         ensures reads { reads self.new ≡ reads self.old }
-        ensures gave { (k : ℕ) (b : List ℕ) → gave self.old k b → gave self.new k b }
+        ensures given { given self.new ≡ given self.old }
+        ensures gave { GoesOn (given self.old) (given self.new) }
         ensures tells { tells self.new ≡ tells self.old }
         ensures size { size self.new ≡ size self.old }
         ensures room { room self.old ≤ room self.new };
@@ -129,11 +134,9 @@ pub trait BlockStore {
         ensures failures { failures self.old ≤ failures self.new }
         ensures reads { reads self.new ≡ reads self.old }
         ensures content { content self.new ≡ content self.old }
-        ensures gave { (k : ℕ) (b : List ℕ) → gave self.old k b → gave self.new k b }
+        ensures given { given self.new ≡ given self.old }
+        ensures gave { GoesOn (given self.old) (given self.new) }
         ensures tells { tells self.new ≡ tells self.old }
         ensures size { size self.new ≡ size self.old }
         ensures room { room self.new ≡ room self.old };
-
-    /// What was given are blocks.
-    ghost gave_sized: { (s : Self) (n : ℕ) (b : List ℕ) → gave s n b → length b ≡ size s };
 }

@@ -1,4 +1,5 @@
 use Rattle.std.proofs.Common.{◌+◌, arith, ◌∙◌}
+use Rattle.verity_store.proofs.GivenLemmas.{goes_on_then}
 use Rattle.verity_store.proofs.MoveLemmas.{ChangesWithin-part, ChangesWithin-then, moved_down_more}
 use Rattle.verity_store.proofs.moves.move_down.Goals as goal
 
@@ -19,5 +20,5 @@ loop-i-preserved g c =
       room = one.room ∙ before.room;
       failures = one.unfailed ∙ before.failures;
       reads = omega arith;
-      gave = λ k b h. one.gave k b (before.gave k b h);
+      gave = goes_on_then _ _ _ before.gave one.gave;
     }

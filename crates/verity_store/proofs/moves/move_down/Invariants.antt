@@ -1,4 +1,5 @@
 use Rattle.std.proofs.Common.{◌≡◌, ℕ, ◌+◌, true, List}
+use Rattle.verity_store.specs.Given.{GoesOn}
 use Rattle.verity_store.specs.Moves.{IsMoved, ChangesWithin}
 use Rattle.verity_store.proofs.moves.move_down.Given as goal
 
@@ -12,5 +13,5 @@ invariant-loop-i g l =
       room : g.S.BlockStore.room l.store ≡ g.S.BlockStore.room l.initial.store;
       failures : g.S.BlockStore.failures l.store ≡ g.S.BlockStore.failures l.initial.store;
       reads : g.S.BlockStore.reads l.store ≡ g.S.BlockStore.reads l.initial.store + l.i;
-      gave : (k : ℕ) (b : List ℕ) → g.S.BlockStore.gave l.initial.store k b → g.S.BlockStore.gave l.store k b;
+      gave : GoesOn (g.S.BlockStore.given l.initial.store) (g.S.BlockStore.given l.store);
     }

@@ -1,4 +1,5 @@
 use Rattle.std.proofs.Common.{◌≡◌, ℕ, ◌+◌, ◌-◌, ◌≤◌, true, List}
+use Rattle.verity_store.specs.Given.{GoesOn}
 use Rattle.verity_store.specs.Moves.{IsMoved, ChangesWithin}
 use Rattle.verity_store.proofs.moves.move_up.Given as goal
 
@@ -13,7 +14,7 @@ invariant-loop-left g l =
       room : g.S.BlockStore.room l.store ≡ g.S.BlockStore.room l.initial.store;
       failures : g.S.BlockStore.failures l.store ≡ g.S.BlockStore.failures l.initial.store;
       reads : g.S.BlockStore.reads l.store ≡ g.S.BlockStore.reads l.initial.store + (l.count - l.left);
-      gave : (k : ℕ) (b : List ℕ) → g.S.BlockStore.gave l.initial.store k b → g.S.BlockStore.gave l.store k b;
+      gave : GoesOn (g.S.BlockStore.given l.initial.store) (g.S.BlockStore.given l.store);
     }
 
 abbrev pub decreases-loop-left : goal.decreases-loop-left

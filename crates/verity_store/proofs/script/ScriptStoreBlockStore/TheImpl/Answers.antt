@@ -2,6 +2,7 @@ use Rattle.std.proofs.Common.{refl, rules, ◌∙◌, sym, arith}
 use Rattle.std.proofs.lemmas.Bool.{false≢true}
 use Rattle.verity_store.specs.Script.{next_block}
 use Rattle.verity_store.proofs.BlockLemmas.{resized_not}
+use Rattle.verity_store.proofs.GivenLemmas.{goes_on_same}
 use Rattle.verity_store.proofs.ScriptLemmas.{read_tells, on_ok_always}
 use Rattle.verity_store.proofs.script.ScriptStoreBlockStore.TheImpl.Goals as goal
 
@@ -12,6 +13,7 @@ read-tells g c =
     let t = read_tells c.args.n (next_block old.answers) old new c.new.out.now c.result c.ensures.whole c.ensures.after c.ensures.gives c.ensures.fails in
     record {
       given = t.given;
+      ungiven = t.ungiven;
       right = on_ok_always c.result _ (λ told. absurd (false≢true told));
       error = t.error;
       failed = t.failed;
@@ -19,7 +21,7 @@ read-tells g c =
       failures = t.failures;
       counted = t.counted;
       content = rw (t.blocks, t.size) refl;
-      gave = λ k b held. (held.0 ∙ sym t.size, t.gave k b held.1);
+      gave = t.gave;
       tells = refl;
       size = t.size;
       room = refl;
@@ -37,7 +39,8 @@ set_len-tells g c =
       unfailed = tt;
       failures = omega arith;
       reads = refl;
-      gave = λ k b held. held;
+      given = refl;
+      gave = goes_on_same _;
       tells = refl;
       size = refl;
       room = omega arith;
