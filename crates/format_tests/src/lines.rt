@@ -1,8 +1,8 @@
-use crate::{SuperFault, Superblock, Table, TableFault, tree_start};
 use std::alloc::Global;
 use std::test::Fail;
 use uuid::Uuid;
 use verity_digest::{Algorithm, Digest, Salt};
+use verity_superblock::{SuperFault, Superblock, Table, TableFault, tree_start};
 
 const UUID: &str = "01234567-89ab-cdef-0123-456789abcdef";
 

@@ -1,6 +1,5 @@
 //! One client of a device that was built a moment before.
 
-use crate::{Refusal, build_and_serve, commit_and_serve};
 use nbd_session::ExportName;
 use std::test::Fail;
 use uuid::Uuid;
@@ -8,6 +7,7 @@ use verity_build::{Params, build};
 use verity_digest::{Algorithm, Salt};
 use verity_edit::Editor;
 use verity_store::MemStore;
+use verity_whole::{Refusal, build_and_serve, commit_and_serve};
 
 /// Client flags, EXPORT_NAME with the empty name, READ of the last block of 17, and DISC.
 const CLIENT: &[u8] = b"\x00\x00\x00\x03IHAVEOPT\x00\x00\x00\x01\x00\x00\x00\x00\

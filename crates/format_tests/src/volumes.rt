@@ -1,6 +1,6 @@
-use crate::{Geometry, GeometryFault};
 use std::process::Abort;
 use std::test::Fail;
+use verity_geometry::{Geometry, GeometryFault};
 
 /// A volume with data and hash blocks of one size: the lengths and the starts of its levels on the hash device, from
 /// the top, and the device's hash blocks with the superblock's.
