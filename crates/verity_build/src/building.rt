@@ -161,6 +161,7 @@ fn write_device<A: Allocator, D: BlockStore, H: BlockStore>(
     ensures data_failed { result ≡ Err Which.Data → D.failures data_store.old < D.failures data_store.new }
     ensures hash_failed { result ≡ Err Which.Hash → H.failures hash_store.old < H.failures hash_store.new }
     ensures data_unfailed { OnOk result (D.failures data_store.new ≡ D.failures data_store.old) }
+    ensures hash_synced { OnOk result (H.synced hash_store.new ≡ true) }
     ensures hash_unfailed { OnOk result (H.failures hash_store.new ≡ H.failures hash_store.old) }
 {
     let blocks = start + tree.geometry.total();
@@ -213,7 +214,9 @@ pub fn build<A: Allocator + Copy, P: Allocator, D: BlockStore, H: BlockStore>(
     ensures hash_store { IsLater H.BlockStore hash_store.old hash_store.new }
     ensures hash_reads { H.reads hash_store.new ≡ H.reads hash_store.old }
     ensures data_unfailed { OnOk result (D.failures data_store.new ≡ D.failures data_store.old) }
+    ensures hash_synced { OnOk result (H.synced hash_store.new ≡ true) }
     ensures hash_unfailed { OnOk result (H.failures hash_store.new ≡ H.failures hash_store.old) }
+    ensures refused_unfailed { IfErr result (λ fault. fault ≢ BuildFault.Store Which.Data → fault ≢ BuildFault.Store Which.Hash → (D.failures data_store.new ≡ D.failures data_store.old) × (H.failures hash_store.new ≡ H.failures hash_store.old)) }
 {
     build_at(alloc, data_store, hash_store, params, 0)
 }
@@ -258,7 +261,9 @@ pub fn build_at<A: Allocator + Copy, P: Allocator, D: BlockStore, H: BlockStore>
     ensures hash_store { IsLater H.BlockStore hash_store.old hash_store.new }
     ensures hash_reads { H.reads hash_store.new ≡ H.reads hash_store.old }
     ensures data_unfailed { OnOk result (D.failures data_store.new ≡ D.failures data_store.old) }
+    ensures hash_synced { OnOk result (H.synced hash_store.new ≡ true) }
     ensures hash_unfailed { OnOk result (H.failures hash_store.new ≡ H.failures hash_store.old) }
+    ensures refused_unfailed { IfErr result (λ fault. fault ≢ BuildFault.Store Which.Data → fault ≢ BuildFault.Store Which.Hash → (D.failures data_store.new ≡ D.failures data_store.old) × (H.failures hash_store.new ≡ H.failures hash_store.old)) }
 {
     let (start, mut tree) = prepare(alloc, data_store, hash_store, params, offset)?;
     let superblock = superblock_of(alloc, &tree.geometry, params)?;

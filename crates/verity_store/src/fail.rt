@@ -153,6 +153,8 @@ impl<S: BlockStore> BlockStore for FailStore<S> {
 
     ghost room = { λ s. S.room s.store };
 
+    ghost synced = { λ s. S.synced s.store };
+
     ghost gave_sized = { λ s n b h. S.gave_sized s.store n b h };
 
     fn block_size(&self) -> usize {
@@ -255,6 +257,7 @@ impl<S: BlockStore> BlockStore for FailStore<S> {
     fn sync(&mut self) -> Result<(), StoreFault>
         ensures due { is_call_due self.old ≡ true → (result ≡ Err StoreFault.Device) × (self.new ≡ after_failed_call self.old) }
         ensures passed { is_call_due self.old ≡ false → self.new ≡ after_call self.old self.new.store }
+        ensures synced { OnOk result (S.synced self.new.store ≡ true) }
         ensures error { IfErr result (λ e. e ≡ StoreFault.Device) }
         ensures failed { OnErr result (S.failures self.old.store + self.old.failed < S.failures self.new.store + self.new.failed) }
         ensures unfailed { OnOk result (S.failures self.new.store + self.new.failed ≡ S.failures self.old.store + self.old.failed) }

@@ -1,9 +1,9 @@
 //! Block stores: lists of blocks of one size that may fail and need not be honest.
 //!
-//! Its one contract is `BlockStore`. A contract over a store sees seven facts of it: its block `size`, its `content`, whether
+//! Its one contract is `BlockStore`. A contract over a store sees eight facts of it: its block `size`, its `content`, whether
 //! it `tells` (a read gives the block of `content`, a write puts it there), which blocks it `gave` for which numbers, how
-//! often it failed (`failures`), how often it was read (`reads`), and up to how many blocks it has `room`. The counts have no
-//! bytes at run time.
+//! often it failed (`failures`), how often it was read (`reads`), up to how many blocks it has `room`, and whether it was asked
+//! to keep what was written (`synced`). The counts have no bytes at run time.
 //!
 //! Its faults are S1 to S4 (`StoreFault`). A call answers S1 only where `failures` rose in it.
 //!
@@ -27,8 +27,6 @@ mod moves;
 mod raw_file;
 mod script;
 mod store;
-#[cfg(test)]
-mod tests;
 
 pub use answer::Answer;
 pub use block::Block;

@@ -31,6 +31,9 @@ pub trait BlockStore {
     /// Up to how many blocks `set_len` is not refused for memory.
     ghost room: { Self → ℕ };
 
+    /// It was asked to keep all that was written. No call but `sync` promises it.
+    ghost synced: { Self → Bool } = { λ _. true };
+
     /// The bytes of a block.
     fn block_size(&self) -> usize
         ensures value { result ≡ size self.now }
@@ -119,6 +122,7 @@ pub trait BlockStore {
     ///
     /// S1 where the device failed. No contract can say that what was written outlives a stop.
     fn sync(&mut self) -> Result<(), StoreFault>
+        ensures synced { OnOk result (synced self.new ≡ true) }
         ensures error { IfErr result (λ e. e ≡ StoreFault.Device) }
         ensures failed { OnErr result (failures self.old < failures self.new) }
         ensures unfailed { OnOk result (failures self.new ≡ failures self.old) }
