@@ -1,5 +1,6 @@
-use crate::{Algorithm, Hasher, Salt, SaltFault};
+//! Single digests, of the vectors of FIPS 180-4, and the longest salt.
 use std::test::Fail;
+use verity_digest::{Algorithm, Hasher, Salt, SaltFault};
 
 const SHA256_ABC: [u8; 32] = [
     0xba, 0x78, 0x16, 0xbf, 0x8f, 0x01, 0xcf, 0xea, 0x41, 0x41, 0x40, 0xde, 0x5d, 0xae, 0x22, 0x23,
