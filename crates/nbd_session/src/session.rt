@@ -3,6 +3,7 @@
 ghost use Rattle.std.specs.Prelude.{◌≡◌, ◌≤◌, ◌+◌, ◌++◌, [], false, IfOk, OnOk, OnErr, IsOk, Err, vec_len, vec_capacity};
 ghost use Rattle.nbd_session.specs.Handshake.{greeting};
 ghost use Rattle.nbd_session.specs.Session.{Feeds, IsAt};
+ghost use Rattle.nbd_session.specs.Conversation.{Grows};
 
 use crate::conversation::turns;
 use crate::export::Export;
@@ -90,6 +91,7 @@ impl<A: Allocator> Session<A> {
         requires { self.old.offer.size ≡ (E.facts export.old).size }
         ensures feeds { Feeds (E.facts export.old) (E.facts export.new) self.old self.new piece.now out.old.items out.new.items result }
         ensures later { E.later export.old export.new }
+        ensures grows { Grows out.old.items out.new.items }
     {
         if self.starved {
             return Status::Starved;
