@@ -6,14 +6,14 @@ use Rattle.nbd_session.specs.declared.phase.Phase.{Phase}
 use Rattle.nbd_session.specs.declared.phase.Phase.TheVariants.{Flags, Options, Transmission, Ended}
 use Rattle.nbd_session.specs.declared.offer.Offer.{Offer}
 use Rattle.nbd_session.specs.declared.transmission.Request.{Request}
-use Rattle.nbd_session.specs.Protocol.{max_length, nbd_cmd_read, nbd_cmd_disc, nbd_cmd_write, nbd_cmd_trim, nbd_cmd_write_zeroes, nbd_eperm, nbd_einval}
+use Rattle.nbd_session.specs.Protocol.{short, longest_reply, max_length, nbd_cmd_read, nbd_cmd_disc, nbd_cmd_write, nbd_cmd_trim, nbd_cmd_write_zeroes, nbd_eperm, nbd_einval}
 use Rattle.nbd_session.specs.Messages.{Front, Partial, Whole, Halt, front, front_of, header_size, body_size}
 use Rattle.nbd_session.specs.Transmission.{Answer, Says, Asks, request_of, request_answer, read_answer, may_read, simple_reply}
 use Rattle.nbd_session.specs.Answers.{answer, next_phase}
 use Rattle.nbd_session.specs.Talk.{Heard, hear, hear_front, Verdict, Bytes, Refused, Judged, replies, read_reply}
 use Rattle.nbd_session.specs.Session.{added}
 use Rattle.nbd_session.specs.Export.{Facts, Fair}
-use Rattle.nbd_session.specs.Short.{asks, short, longest_reply, AsksOnce, RepliesOnce}
+use Rattle.nbd_session.specs.Short.{asks, AsksOnce, RepliesOnce}
 use Rattle.nbd_session.proofs.Hearing.{Shorter, front_of-shorter, front-shorter, hear-front, hear-ended}
 use Rattle.nbd_session.proofs.Moving.{rest_partial}
 use Rattle.nbd_session.proofs.Waiting.{front_short}

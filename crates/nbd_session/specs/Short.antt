@@ -1,26 +1,17 @@
 -- What a piece as short as a request's header can bring about.
-use Rattle.std.specs.Prelude.{◌≡◌, ◌≤◌, ◌+◌, ℕ, suc, List, [], ◌∷◌, length}
+use Rattle.std.specs.Prelude.{◌≡◌, ◌≤◌, ℕ, suc, List, [], ◌∷◌, length}
 use Rattle.nbd_session.specs.declared.phase.Phase.TheVariants.{Flags, Transmission}
 use Rattle.nbd_session.specs.declared.offer.Offer.{Offer}
-use Rattle.nbd_session.specs.Protocol.{max_length}
+use Rattle.nbd_session.specs.Protocol.{short, longest_reply}
 use Rattle.nbd_session.specs.Transmission.{Answer, Says, Asks}
-use Rattle.nbd_session.specs.Talk.{hear, Judged, replies}
+use Rattle.nbd_session.specs.Talk.{Verdict, hear, Judged, replies}
 use Rattle.nbd_session.specs.Session.{added}
-use Rattle.nbd_session.specs.Talk.{Verdict}
 
 -- how many ranges are asked for
 abbrev pub asks : List Answer → ℕ
 asks [] = 0
 asks (Says bytes ∷ answers) = asks answers
 asks (Asks offset len cookie ∷ answers) = suc (asks answers)
-
--- the most bytes that a piece is to have, for these laws: those of a request's header
-abbrev pub short : ℕ
-short = 28
-
--- the longest reply to a request: magic, error and cookie, and a READ's bytes
-abbrev pub longest_reply : ℕ
-longest_reply = 16 + max_length
 
 -- A short piece makes one READ whole at most, after whatever input.
 abbrev pub AsksOnce : Type 0
