@@ -1,5 +1,5 @@
 -- What reads leave of a verifier's facts, and what its answers say as an export's.
-use Rattle.std.proofs.Common.{◌≡◌, ◌≢◌, ◌⊎◌, ◌<◌, ◌≤◌, ◌+◌, ◌*◌, ℕ, true, List, length, take, drop, inl, inr, sym, ap, ◌∙◌, subst, arith}
+use Rattle.std.proofs.Common.{◌≡◌, ◌≢◌, ◌⊎◌, ◌<◌, ◌≤◌, ◌+◌, ◌-◌, ◌*◌, ℕ, true, List, length, take, drop, inl, inr, sym, ap, ◌∙◌, subst, arith}
 use Rattle.verity_digest.specs.Tree.{tree}
 use Rattle.verity_store.specs.declared.store.BlockStore as store
 use Rattle.verity_check.specs.declared.fault.CheckFault.{CheckFault}
@@ -16,10 +16,10 @@ use Rattle.verity_check.proofs.RangeLemmas.{Served-grows}
 use Rattle.verity_check.proofs.RangeLaw.{bytes_right}
 use Rattle.verity_check.proofs.VerifierLemmas.{sized, verifier_after}
 use Rattle.verity_check.proofs.HoldsLaws.{bytes_exact, refusal_failed}
-use Rattle.nbd_session.specs.Export.{Keeps, Served, Failed}
+use Rattle.nbd_session.specs.Export.{Costs, Keeps, Served, Failed}
 use Rattle.nbd_session.specs.Talk.{Verdict, Bytes, Refused}
 use Rattle.nbd_hub.specs.After.{Given as GivenBy}
-use Rattle.verity_hub.specs.Volume.{HoldsFor, failures_of, facts_of, IsRightFor}
+use Rattle.verity_hub.specs.Volume.{HoldsFor, failures_of, reads_of, facts_of, IsRightFor}
 
 module _ {D H : Type 0} (data_facts : store.Ghosts D) (hash_facts : store.Ghosts H) where
   module _ (v w : Verifying D H) (reads : IsOnlyReading data_facts hash_facts v w) where
@@ -69,6 +69,8 @@ module _ {D H : Type 0} (data_facts : store.Ghosts D) (hash_facts : store.Ghosts
       lack = λ offset len x. tt;
       steady = λ content c. (c.0, holds c.0 c.1, c.2);
       failures = let d = reads.data_store.later.failures in let h = reads.hash_store.later.failures in omega arith;
+      reads = let d = reads.data_store.later.reads in let h = reads.hash_store.later.reads in omega arith;
+      cost = λ offset len n x. tt;
     }
 
   -- what stores hold that tell, and are known by their contents
@@ -106,6 +108,12 @@ module _ {D H : Type 0} (data_facts : store.Ghosts D) (hash_facts : store.Ghosts
           given = subst P (sym s.whole) s;
           content = λ content c. bytes_exact data_facts hash_facts w.table ok.table w.data_store w.hash_store c.0 (holds v w reads c.0 c.1) offset len bytes s ∙ ap (λ x. take len (drop offset x)) (sym c.2);
         }
+
+    -- what the stores were read
+    pub costs : (offset len : ℕ) → Costs (facts_of data_facts hash_facts v) (facts_of data_facts hash_facts w) offset len
+    costs offset len =
+        let d = reads.data_store.later.reads in let h = reads.hash_store.later.reads in
+        (reads_of data_facts hash_facts w - reads_of data_facts hash_facts v, omega arith, tt)
 
     either_rose : DataFailed data_facts hash_facts v w ⊎ HashFailed data_facts hash_facts v w → failures_of data_facts hash_facts v < failures_of data_facts hash_facts w
     either_rose (inl f) = let l = reads.hash_store.later.failures in omega arith

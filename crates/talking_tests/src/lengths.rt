@@ -2,8 +2,9 @@
 
 ghost use Rattle.std.specs.Prelude.{◌<◌};
 
-use super::{make_image, said, spelled};
-use crate::{ExportFault, ExportName, Session, Status};
+use crate::image::make_image;
+use crate::talk::{said, spelled};
+use nbd_session::{ExportFault, ExportName, Session, Status};
 use std::alloc::Global;
 use std::test::Fail;
 
@@ -141,11 +142,14 @@ fn payload_of_requests_is_skipped(rt: HostRuntime) -> Result<(), Fail> {
     Ok(())
 }
 
+/// A READ of all 8,704 bytes, for which no output of a few replies has the room.
+const READ_ALL: &str = "25609513 0000 0000 0102030405060708 0000000000000000 00002200";
+
 #[test]
 fn refusals_of_the_export_are_eio_and_enomem(rt: HostRuntime) -> Result<(), Fail> {
     let alloc = rt.alloc();
     let mut input = spelled(alloc, BEGIN)?;
-    input.extend_from_slice(&spelled(alloc, READ_LAST)?)?;
+    input.extend_from_slice(&spelled(alloc, READ_ALL)?)?;
     input.extend_from_slice(&spelled(alloc, READ_LAST)?)?;
     for (fault, refused) in [
         (ExportFault::Io, "67446698 00000005 0102030405060708"),
@@ -158,5 +162,22 @@ fn refusals_of_the_export_are_eio_and_enomem(rt: HostRuntime) -> Result<(), Fail
         assert_eq!(rt; out.as_slice(), output.as_slice());
         assert_eq!(rt; status, Status::Open);
     }
+    Ok(())
+}
+
+#[test]
+fn a_long_piece_of_requests_is_answered(rt: HostRuntime) -> Result<(), Fail> {
+    let alloc = rt.alloc();
+    let mut input = spelled(alloc, BEGIN)?;
+    let mut output = spelled(alloc, BEGUN)?;
+    let request = spelled(alloc, READ_LAST)?;
+    let reply = spelled(alloc, "67446698 00000000 0102030405060708 5a")?;
+    for _ in 0..40_000 {
+        input.extend_from_slice(&request)?;
+        output.extend_from_slice(&reply)?;
+    }
+    let (out, status) = said(alloc, &input, input.len(), 1, None)?;
+    assert_eq!(rt; out.as_slice(), output.as_slice());
+    assert_eq!(rt; status, Status::Open);
     Ok(())
 }

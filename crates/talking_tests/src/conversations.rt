@@ -1,8 +1,8 @@
 //! The table of conversations: what a client sends behind the greeting, and what it is told. The requests' cookie is
 //! 0102030405060708.
 
-use super::{said, spelled};
-use crate::Status;
+use crate::talk::{said, spelled};
+use nbd_session::Status;
 use std::test::Fail;
 
 const GREETING: &str = "4e42444d41474943 49484156454f5054 0003";

@@ -1,5 +1,5 @@
 use Rattle.std.proofs.Common.{length, ◌≡◌}
-use Rattle.nbd_session.proofs.tests.lengths.followed_by_zeros.Given as goal
+use Rattle.talking_tests.proofs.lengths.followed_by_zeros.Given as goal
 
 abbrev pub invariant-loop-left : goal.invariant-loop-left
 invariant-loop-left l = l.session.offer.size ≡ length l.export.bytes.items
