@@ -24,17 +24,3 @@ fn full_blocks_are_written_at_once(rt: HostRuntime) -> Result<(), Fail> {
     assert_eq!(rt; fault, Err(BuildFault::Store(Which::Hash)));
     Ok(())
 }
-
-#[test]
-fn syncs_last(rt: HostRuntime) -> Result<(), Fail> {
-    let alloc = rt.alloc();
-    let params = params(alloc, b"", Algorithm::Sha256)?;
-    let mut data_store = numbered(alloc, 512, 17)?;
-    let mut faultless = FailStore::at(MemStore::zeroed(alloc, 512, 0)?, 0);
-    build(alloc, &mut data_store, &mut faultless, &params)?;
-    let mut failing = FailStore::at(MemStore::zeroed(alloc, 512, 0)?, faultless.calls());
-    let fault = build(alloc, &mut data_store, &mut failing, &params);
-    assert_eq!(rt; fault, Err(BuildFault::Store(Which::Hash)));
-    assert_eq!(rt; failing.store().bytes(), faultless.store().bytes());
-    Ok(())
-}

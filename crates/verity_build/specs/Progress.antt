@@ -1,6 +1,6 @@
 -- How far the digests of an image's blocks have come up the levels of its tree. A hash block has
 -- room for k digests, and there are `all` data blocks, of which n have come.
-use Rattle.std.specs.Prelude.{◌≡◌, ◌≢◌, ℕ, zero, suc, ◌+◌, ◌*◌, ◌<◌, ◌≤◌, List, length, map, take, drop, Option, None, Some}
+use Rattle.std.specs.Prelude.{◌≡◌, ◌≢◌, ℕ, zero, suc, ◌+◌, ◌*◌, ◌<◌, ◌≤◌, List, [], ◌∷◌, length, map, take, drop, Option, None, Some}
 use Rattle.verity_digest.specs.Tree.{Hashing, per_block}
 use Rattle.verity_digest.specs.Rows.{row, block_at}
 use Rattle.verity_digest.proofs.Ceil.{IsCeil}
@@ -48,3 +48,8 @@ pub record IsRight (h : Hashing) (image : List (List ℕ)) (opens : List Open) (
   pub holds : (l : ℕ) → l < length opens
       → (open_at opens l).digests ≡ take (length (open_at opens l).digests) (drop ((open_at opens l).index * per_block h) (map h.digest (row h image l)))
   pub rooted : (digest : List ℕ) → root ≡ Some digest → digest ≡ h.digest (block_at h image (length opens) 0)
+
+-- how many hash blocks were closed so far, of all levels
+abbrev pub closed : List Open → ℕ
+closed [] = 0
+closed (one ∷ others) = one.index + closed others

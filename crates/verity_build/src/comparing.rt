@@ -2,14 +2,14 @@
 ghost use Rattle.std.specs.Prelude.{◌≡◌, ◌≢◌, ◌+◌, ◌^◌, ◌<◌, ◌≤◌, ◌↔◌, true, [], length, slice_index_or, IsTrue, OnOk, OnErr, IfOk, IfErr, IsErrOf, None};
 ghost use Rattle.verity_digest.specs.Hash.{hashing};
 ghost use Rattle.verity_digest.specs.Tree.{tree as tree_of};
-ghost use Rattle.verity_geometry.specs.Geometry.{digests_per_block};
+ghost use Rattle.verity_geometry.specs.Geometry.{digests_per_block, total_of};
 ghost use Rattle.verity_store.specs.Stores.{IsOnlyRead};
 ghost use Rattle.verity_superblock.specs.Image.{CanBegin, start_behind};
 ghost use Rattle.verity_profile.specs.Profile.{IsBlockCount};
 ghost use Rattle.verity_build.specs.Parameters.{salted_by, shape_over};
 ghost use Rattle.verity_build.specs.Faults.{CanBuild, Explains};
 ghost use Rattle.verity_build.specs.Climb.{AreEmpty};
-ghost use Rattle.verity_build.specs.Progress.{Growing, Grown, Settling, IsRight};
+ghost use Rattle.verity_build.specs.Progress.{closed, Growing, Grown, Settling, IsRight};
 ghost use Rattle.verity_build.specs.Device.{StaysRight};
 ghost use Rattle.verity_build.specs.Differences as spec;
 
@@ -52,6 +52,7 @@ fn holds<H: BlockStore>(
     ensures read { IsOnlyRead H.BlockStore hash_store.old hash_store.new }
     ensures failed { OnErr result (H.failures hash_store.old < H.failures hash_store.new) }
     ensures unfailed { OnOk result (H.failures hash_store.new ≡ H.failures hash_store.old) }
+    ensures reads { H.reads hash_store.new ≤ H.reads hash_store.old + 1 }
 {
     if place >= hash_store.len() {
         return Ok(false);
@@ -87,6 +88,8 @@ fn compare_done<A: Allocator, H: BlockStore>(
     ensures read { IsOnlyRead H.BlockStore hash_store.old hash_store.new }
     ensures failed { OnErr result (H.failures hash_store.old < H.failures hash_store.new) }
     ensures unfailed { OnOk result (H.failures hash_store.new ≡ H.failures hash_store.old) }
+    ensures reads { OnOk result (H.reads hash_store.new + closed tree.old.blocks.items ≤ H.reads hash_store.old + closed tree.new.blocks.items) }
+    ensures reads_most { H.reads hash_store.new + closed tree.old.blocks.items ≤ H.reads hash_store.old + total_of tree.old.geometry }
 {
     let mut found = found_before;
     let last = blocks == tree.geometry.blocks();
@@ -135,6 +138,7 @@ fn compare_tree<A: Allocator, D: BlockStore, H: BlockStore>(
     ensures hash_failed { result ≡ Err Which.Hash → H.failures hash_store.old < H.failures hash_store.new }
     ensures data_unfailed { OnOk result (D.failures data_store.new ≡ D.failures data_store.old) }
     ensures hash_unfailed { OnOk result (H.failures hash_store.new ≡ H.failures hash_store.old) }
+    ensures hash_reads { H.reads hash_store.new ≤ H.reads hash_store.old + total_of tree.old.geometry }
 {
     let mut found = None;
     for n in 0..tree.geometry.blocks() {
@@ -169,6 +173,8 @@ pub fn compare<A: Allocator + Copy, P: Allocator, D: BlockStore, H: BlockStore>(
     ensures data_reads { OnOk result (D.reads data_store.new ≡ D.reads data_store.old + length (D.content data_store.old)) }
     ensures data_reads_most { D.reads data_store.new ≤ D.reads data_store.old + length (D.content data_store.old) }
     ensures hash_store { IsOnlyRead H.BlockStore hash_store.old hash_store.new }
+    ensures hash_reads_most { H.reads hash_store.new ≤ H.reads hash_store.old
+        + total_of (shape_over params.now (D.size data_store.old) (H.size hash_store.old) (length (D.content data_store.old))) }
     ensures data_unfailed { OnOk result (D.failures data_store.new ≡ D.failures data_store.old) }
     ensures hash_unfailed { OnOk result (H.failures hash_store.new ≡ H.failures hash_store.old) }
     ensures refused_unfailed { IfErr result (λ fault. fault ≢ BuildFault.Store Which.Data → fault ≢ BuildFault.Store Which.Hash → (D.failures data_store.new ≡ D.failures data_store.old) × (H.failures hash_store.new ≡ H.failures hash_store.old)) }
@@ -209,6 +215,8 @@ pub fn compare_at<A: Allocator + Copy, P: Allocator, D: BlockStore, H: BlockStor
     ensures data_reads { OnOk result (D.reads data_store.new ≡ D.reads data_store.old + length (D.content data_store.old)) }
     ensures data_reads_most { D.reads data_store.new ≤ D.reads data_store.old + length (D.content data_store.old) }
     ensures hash_store { IsOnlyRead H.BlockStore hash_store.old hash_store.new }
+    ensures hash_reads_most { H.reads hash_store.new ≤ H.reads hash_store.old
+        + total_of (shape_over params.now (D.size data_store.old) (H.size hash_store.old) (length (D.content data_store.old))) }
     ensures data_unfailed { OnOk result (D.failures data_store.new ≡ D.failures data_store.old) }
     ensures hash_unfailed { OnOk result (H.failures hash_store.new ≡ H.failures hash_store.old) }
     ensures refused_unfailed { IfErr result (λ fault. fault ≢ BuildFault.Store Which.Data → fault ≢ BuildFault.Store Which.Hash → (D.failures data_store.new ≡ D.failures data_store.old) × (H.failures hash_store.new ≡ H.failures hash_store.old)) }

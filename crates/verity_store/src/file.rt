@@ -10,6 +10,7 @@ use std::io;
 use std::io::ErrorKind;
 use std::rt::Files;
 use verity_count::Count;
+use verity_given::Given;
 use verity_profile::is_block_size;
 
 /// A store whose blocks lie in a file, one after the other, from byte 0 on.
@@ -22,6 +23,7 @@ pub struct FileStore<F: RawFile> {
     blocks: u64,
     read_count: Count,
     failed: Count,
+    given: Given,
     ghost profile: { IsBlockSize size },
     ghost fits: { blocks * size < 2 ^ 64 },
     ghost whole: { HasLength (F.bytes file) (blocks * size) },
@@ -71,6 +73,7 @@ impl<F: RawFile> FileStore<F> {
             blocks: len / size64,
             read_count: Count::new(),
             failed: Count::new(),
+            given: Given::new(),
         })
     }
 }
@@ -139,13 +142,15 @@ impl FileStore<File> {
 }
 
 impl<F: RawFile> BlockStore for FileStore<F> {
+    ghost use Rattle.std.specs.Prelude.{Contains};
+
     ghost size = { λ s. s.size };
 
     ghost content = { λ s. file_blocks s.size s.blocks (F.bytes s.file) };
 
     ghost tells = { λ s. is_known (F.bytes s.file) };
 
-    ghost gave = { λ s _ b. length b ≡ s.size };
+    ghost gave = { λ s n b. (length b ≡ s.size) × Contains s.given.blocks (n, b) };
 
     ghost failures = { λ s. s.failed.steps };
 
@@ -155,7 +160,7 @@ impl<F: RawFile> BlockStore for FileStore<F> {
 
     ghost synced = { λ s. F.synced s.file };
 
-    ghost gave_sized = { λ _ _ _ sized. sized };
+    ghost gave_sized = { λ _ _ _ given. given.0 };
 
     fn block_size(&self) -> usize {
         self.size
@@ -169,7 +174,10 @@ impl<F: RawFile> BlockStore for FileStore<F> {
         self.read_count.step();
         let at = n * self.size as u64;
         match self.file.read_exact_at(at, out) {
-            Ok(()) => Ok(()),
+            Ok(()) => {
+                self.given.note(n, out);
+                Ok(())
+            }
             Err(_) => {
                 self.failed.step();
                 Err(StoreFault::Device)
@@ -218,6 +226,7 @@ impl<F: RawFile> BlockStore for FileStore<F> {
         ensures failures { self.old.failed.steps ≤ self.new.failed.steps }
         ensures reads { self.new.read_count.steps ≡ self.old.read_count.steps }
         ensures content { file_blocks self.new.size self.new.blocks (F.bytes self.new.file) ≡ file_blocks self.old.size self.old.blocks (F.bytes self.old.file) }
+        ensures given { self.new.given.blocks ≡ self.old.given.blocks }
         ensures tells { is_known (F.bytes self.new.file) ≡ is_known (F.bytes self.old.file) }
         ensures size { self.new.size ≡ self.old.size }
     {

@@ -27,8 +27,6 @@ mod moves;
 mod raw_file;
 mod script;
 mod store;
-#[cfg(test)]
-mod tests;
 
 pub use answer::Answer;
 pub use block::Block;

@@ -11,6 +11,7 @@ use Rattle.verity_build.specs.Climb.{open_at, Closes}
 use Rattle.verity_build.specs.Progress.{Settling}
 use Rattle.verity_build.specs.Device.{AreStored}
 use Rattle.verity_build.proofs.Settles.{index_below, settling_next, came_most, settling_reaches}
+use Rattle.verity_build.proofs.Closings.{closes_one, settling_total, settling_before}
 use Rattle.verity_build.proofs.Turns.{turn_below, turn_tree, turn_right}
 use Rattle.verity_store.proofs.StoreLemmas.{only_read_then}
 use Rattle.std.specs.Prelude.{Option}
@@ -97,5 +98,29 @@ loop-level-preserved g c =
                 (sym here ∙ same.0 b.if-not-branch.false ∙ tree_block) before)
           ];
       read = only_read_then H c.args.hash_store.now c.loop-level.hash_store c.holds.new.hash_store kept.read read;
+      reads = omega (arith, c.in_ok-holds.ensures.reads, kept.reads, closes_one h j opens new.blocks.items now.root new.root closes there);
       unfailed = c.in_ok-holds.ensures.unfailed ∙ kept.unfailed;
     }
+
+pub returns-then-not-is_full-clause-reads_most : goal.returns-then-not-is_full-clause-reads_most
+returns-then-not-is_full-clause-reads_most g c =
+    let s : Shape = c.args.tree.now.geometry in
+    let now = c.loop-level.tree in
+    let kept = c.loop-level.invariant in
+    omega (arith, kept.reads, settling_total s c.args.blocks now.blocks.items now.root c.args.tree.now.shaped (now.levels ∙ ap levels_of kept.geometry) c.requires.few c.loop-level.level kept.settling)
+
+pub returns-in_err-holds-clause-reads_most : goal.returns-in_err-holds-clause-reads_most
+returns-in_err-holds-clause-reads_most g c =
+    let s : Shape = c.args.tree.now.geometry in
+    let now = c.loop-level.tree in
+    let kept = c.loop-level.invariant in
+    let levels : length now.blocks.items ≡ levels_of s = now.levels ∙ ap levels_of kept.geometry in
+    let there : c.loop-level.level < length now.blocks.items = omega (arith, c.levels-level-end.ensures.value, c.loop-level-test.true) in
+    omega (arith, kept.reads, c.holds.ensures.reads, settling_before s c.args.blocks now.blocks.items now.root c.args.tree.now.shaped levels c.requires.few c.loop-level.level kept.settling there)
+
+pub returns-clause-reads_most : goal.returns-clause-reads_most
+returns-clause-reads_most g c =
+    let s : Shape = c.args.tree.now.geometry in
+    let now = c.loop-level.tree in
+    let kept = c.loop-level.invariant in
+    omega (arith, kept.reads, settling_total s c.args.blocks now.blocks.items now.root c.args.tree.now.shaped (now.levels ∙ ap levels_of kept.geometry) c.requires.few c.loop-level.level kept.settling)

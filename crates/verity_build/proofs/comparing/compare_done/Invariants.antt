@@ -1,8 +1,8 @@
-use Rattle.std.proofs.Common.{◌≡◌, true}
+use Rattle.std.proofs.Common.{◌≡◌, ◌+◌, ◌≤◌, true}
 use Rattle.verity_digest.specs.Hash.{hashing}
 use Rattle.verity_geometry.specs.Geometry.{digests_per_block}
 use Rattle.verity_store.specs.Stores.{IsOnlyRead}
-use Rattle.verity_build.specs.Progress.{Settling}
+use Rattle.verity_build.specs.Progress.{closed, Settling}
 use Rattle.verity_build.specs.Device.{StaysRight}
 use Rattle.verity_build.specs.Differences.{StaysCompared}
 use Rattle.verity_build.proofs.comparing.compare_done.Given as goal
@@ -19,5 +19,6 @@ invariant-loop-level g l =
       right : StaysRight h s.blocks l.fn.tree.blocks.items l.fn.tree.root l.tree.blocks.items l.tree.root;
       compared : H.tells l.fn.hash_store ≡ true → StaysCompared h s l.start (H.content l.fn.hash_store) l.fn.tree.blocks.items l.fn.tree.root l.fn.found_before l.tree.blocks.items l.found;
       read : IsOnlyRead H l.fn.hash_store l.hash_store;
+      reads : H.reads l.hash_store + closed l.fn.tree.blocks.items ≤ H.reads l.fn.hash_store + closed l.tree.blocks.items;
       unfailed : H.failures l.hash_store ≡ H.failures l.fn.hash_store;
     }

@@ -2,7 +2,7 @@ use Rattle.std.proofs.Common.{◌≡◌, ℕ, ◌+◌, ◌<◌, ◌≤◌, List,
 use Rattle.std.specs.Prelude.{Option, None}
 use Rattle.verity_digest.specs.Hash.{Salted, hashing, salted_digest}
 use Rattle.verity_digest.specs.Tree.{Hashing, tree}
-use Rattle.verity_geometry.specs.Geometry.{Shape, digests_per_block, levels_of}
+use Rattle.verity_geometry.specs.Geometry.{Shape, digests_per_block, levels_of, total_of}
 use Rattle.verity_geometry.proofs.Shapes.{wide, some}
 use Rattle.verity_store.specs.Stores.{IsLater, IsOnlyRead}
 use Rattle.verity_store.proofs.StoreLemmas.{only_read_same, only_read_then}
@@ -14,6 +14,7 @@ use Rattle.verity_build.specs.Differences.{AreCompared, StaysCompared}
 use Rattle.verity_build.proofs.Settles.{growing_empty, settling_from, same_index}
 use Rattle.verity_build.proofs.Rightly.{right_empty}
 use Rattle.verity_build.proofs.Turns.{come_right}
+use Rattle.verity_build.proofs.Closings.{comes_none, growing_total, grown_total}
 use Rattle.verity_build.proofs.Compares.{compared_none, compared_kept}
 use Rattle.verity_build.proofs.comparing.compare_tree.Goals as goal
 
@@ -36,6 +37,7 @@ loop-n-init g c =
       data_store = only_read_same D c.args.data_store.now;
       data_reads = omega arith;
       hash_store = only_read_same H c.args.hash_store.now;
+      hash_reads = omega arith;
       data_unfailed = refl;
       hash_unfailed = refl;
     }
@@ -103,6 +105,35 @@ loop-n-preserved g c =
       data_store = only_read_then D c.args.data_store.now c.loop-n.data_store c.read.new.self kept.data_store (record { content = read.content; room = read.room; later = later });
       data_reads = omega (arith, read.counted, kept.data_reads);
       hash_store = only_read_then H c.args.hash_store.now c.loop-n.hash_store c.compare_done.new.hash_store kept.hash_store done.read;
+      hash_reads = omega (arith, done.reads, kept.hash_reads, comes_none (digests_per_block s) n (salted_digest salted block) now.blocks.items mid.blocks.items now.root mid.root growing comes);
       data_unfailed = read.unfailed ∙ kept.data_unfailed;
       hash_unfailed = done.unfailed ∙ kept.hash_unfailed;
     }
+
+pub returns-in_default-clause-hash_reads : goal.returns-in_default-clause-hash_reads
+returns-in_default-clause-hash_reads g c =
+    let s : Shape = c.args.tree.now.geometry in
+    let now = c.loop-n.tree in
+    let kept = c.loop-n.invariant in
+    let below : c.loop-n.n < s.blocks = omega (arith, c.loop-n-test.true, c.blocks-n-end.ensures.value) in
+    omega (arith, kept.hash_reads, growing_total s c.loop-n.n now.blocks.items now.root c.args.tree.now.shaped (now.levels ∙ ap levels_of kept.geometry) (omega arith) (kept.growing below))
+
+pub returns-in_default-compare_done-clause-hash_reads : goal.returns-in_default-compare_done-clause-hash_reads
+returns-in_default-compare_done-clause-hash_reads g c =
+    let s : Shape = c.args.tree.now.geometry in
+    let salted : Salted = c.args.tree.now.hasher.salted in
+    let now = c.loop-n.tree in
+    let mid = c.take.new.self in
+    let kept = c.loop-n.invariant in
+    let geometry = c.take.ensures.geometry ∙ kept.geometry in
+    let below : c.loop-n.n < s.blocks = omega (arith, c.loop-n-test.true, c.blocks-n-end.ensures.value) in
+    let none = comes_none (digests_per_block s) c.loop-n.n (salted_digest now.hasher.salted c.read.new.out) now.blocks.items mid.blocks.items now.root mid.root (kept.growing below) c.take.ensures.comes in
+    omega (arith, c.compare_done.ensures.reads_most, ap total_of geometry, kept.hash_reads, none)
+
+pub returns-clause-hash_reads : goal.returns-clause-hash_reads
+returns-clause-hash_reads g c =
+    let s : Shape = c.args.tree.now.geometry in
+    let now = c.loop-n.tree in
+    let kept = c.loop-n.invariant in
+    let all : c.loop-n.n ≡ s.blocks = omega (arith, c.loop-n-test.false, c.blocks-n-end.ensures.value) in
+    omega (arith, kept.hash_reads, grown_total s c.loop-n.n now.blocks.items now.root c.args.tree.now.shaped (now.levels ∙ ap levels_of kept.geometry) (omega arith) (kept.grown all))

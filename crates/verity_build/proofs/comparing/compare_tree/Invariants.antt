@@ -1,9 +1,9 @@
-use Rattle.std.proofs.Common.{◌≡◌, ◌+◌, ◌<◌, true}
+use Rattle.std.proofs.Common.{◌≡◌, ◌+◌, ◌<◌, ◌≤◌, true}
 use Rattle.verity_digest.specs.Hash.{hashing}
 use Rattle.verity_digest.specs.Tree.{tree}
 use Rattle.verity_geometry.specs.Geometry.{digests_per_block}
 use Rattle.verity_store.specs.Stores.{IsOnlyRead}
-use Rattle.verity_build.specs.Progress.{Growing, Grown, IsRight}
+use Rattle.verity_build.specs.Progress.{closed, Growing, Grown, IsRight}
 use Rattle.verity_build.specs.Differences.{AreCompared}
 use Rattle.verity_build.proofs.comparing.compare_tree.Given as goal
 
@@ -24,6 +24,7 @@ invariant-loop-n g l =
       data_store : IsOnlyRead D l.fn.data_store l.data_store;
       data_reads : D.reads l.data_store ≡ D.reads l.fn.data_store + l.n;
       hash_store : IsOnlyRead H l.fn.hash_store l.hash_store;
+      hash_reads : H.reads l.hash_store ≤ H.reads l.fn.hash_store + closed l.tree.blocks.items;
       data_unfailed : D.failures l.data_store ≡ D.failures l.fn.data_store;
       hash_unfailed : H.failures l.hash_store ≡ H.failures l.fn.hash_store;
     }

@@ -1,7 +1,11 @@
+//! What each store does where all is well, and its faults.
 ghost use Rattle.verity_store.specs.Stores.{IsOnlyRead};
 
-use super::*;
 use std::test::Fail;
+use verity_store::{
+    Answer, Block, BlockStore, FailStore, FileStore, MemFile, MemStore, ScriptStore, StoreFault,
+    Which, move_run,
+};
 
 /// A write is read back, a store grows by zeros and is cut, over any store of blocks of 512 bytes.
 fn keeps_what_is_written<S: BlockStore>(store: &mut S) -> bool {
