@@ -6,3 +6,4 @@ pub mod Writes
 pub mod Turns
 pub mod Finishes
 pub mod Compares
+pub mod Ahead
