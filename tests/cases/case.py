@@ -11,16 +11,19 @@ class Case:
     """Words that the program is run with among these files, and what it must print, answer and leave.
 
     `output` is the whole output, or a list of texts that stand in it. A file that `leaves` doesn't name must be left
-    as it was; None is for a file that must not be there. `sink` is a path that the output goes to instead.
+    as it was; None is for a file that must not be there, and no file may come that `leaves` doesn't name. `sink` is a
+    path that the output goes to instead. `before` are functions that are called with the folder once its files are
+    there. FOLDER in a word is the folder's path.
     """
 
-    def __init__(self, name, words, output, status=0, files=None, leaves=None, input=b"", sink=None):
+    def __init__(self, name, words, output, status=0, files=None, leaves=None, input=b"", sink=None, before=()):
         self.name = name
         self.words = words
         self.output, self.status = output, status
         self.files, self.leaves = files or {}, leaves or {}
         self.input = input
         self.sink = sink
+        self.before = before
 
     def differences(self, tool, folder):
         """What is not as the case says, in a folder with its files."""
@@ -35,7 +38,8 @@ class Case:
     def run(self, tool, folder):
         """The status, and what went to standard output and to standard error."""
         with tempfile.TemporaryFile() as kept, open(self.sink or os.devnull, "wb") as sink:
-            seen = subprocess.run(["dalgovuun", *self.words], executable=tool, cwd=folder, input=self.input, timeout=60,
+            words = [word.replace("FOLDER", folder) for word in self.words]
+            seen = subprocess.run(["dalgovuun", *words], executable=tool, cwd=folder, input=self.input, timeout=60,
                                   stdout=sink if self.sink else kept, stderr=subprocess.PIPE)
             kept.seek(0)
             return seen.returncode, kept.read(), seen.stderr

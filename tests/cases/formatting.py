@@ -92,7 +92,7 @@ def refusals():
                   words(sizes=["--data-block-size", "512", "--hash-block-size", "513"]), {})
     yield refused("a ragged DATA", "S2", words(), {"data": bytes(513)})
     yield refused("HASH in no folder", "S1", words(paths=("data", "none/hash")))
-    yield refused("an empty DATA", "U1 M2", words(), {"data": b""}, {"hash": b""})
+    yield refused("an empty DATA", "U1 M2", words(), {"data": b""})
 
 
 def values():

@@ -154,7 +154,7 @@ from_none : (a b : Facts) (offer offer' : Offer) (input piece out out' : List �
     → (said : List ℕ) × (out' ≡ out ++ said) × TalksOn a b offer' input piece [] said
 from_none a b offer offer' input piece out out' e t =
     let P : Offer → Type 0 = λ o. (said : List ℕ) × (out' ≡ out ++ said) × TalksOn a b o input piece [] said in
-    subst P e (replies (added offer input piece) t.verdicts, t.exact, record { verdicts = t.verdicts; judged = t.judged; counted = t.counted; exact = refl })
+    subst P e (replies (added offer input piece) t.verdicts, t.exact, record { verdicts = t.verdicts; judged = t.judged; counted = t.counted; spent = t.spent; exact = refl })
 
 pub after_fed : (a b : Facts) (hub hub' : HubState) (h : List Step) (id : ℕ) (piece out out' : List ℕ) (s : Status)
     → FeedsOne a b hub hub' id piece out out' s → IsAfter a hub h → FedAfter b hub' h id piece s out out'

@@ -1,5 +1,5 @@
 -- A stream, turn after turn.
-use Rattle.std.proofs.Common.{◌≡◌, ◌↔◌, ℕ, Bool, true, false, List, [], ◌∷◌, ◌++◌, Option, Some, Result, Ok, Err, is_err, OnErr, OnOk, inl, inr, refl, sym, ap, ◌∙◌, subst, arith, append_assoc, append-nil}
+use Rattle.std.proofs.Common.{◌≡◌, ◌↔◌, ◌≤◌, ◌<◌, ◌*◌, length, length-append, ℕ, Bool, true, false, List, [], ◌∷◌, ◌++◌, Option, Some, Result, Ok, Err, is_err, OnErr, OnOk, inl, inr, refl, sym, ap, ◌∙◌, subst, arith, append_assoc, append-nil}
 use Rattle.std.proofs.lemmas.Bool.{cases_eq, eq-eqb, ne_eqb}
 use Rattle.std.specs.Io.KnownBytes.{Consumes, Appends}
 use Rattle.std.proofs.KnownBytes.{Appends-trans, Consumes-trans}
@@ -18,7 +18,7 @@ use Rattle.nbd_hub.specs.declared.fault.ServeFault.TheVariants as fault
 use Rattle.nbd_hub.specs.Sessions.{Entry, HubState, lookup, SetsOnly}
 use Rattle.nbd_hub.specs.History.{Step, Opening, Feeding, Ending, Refusal}
 use Rattle.nbd_hub.specs.After.{IsAfter, FedAfter}
-use Rattle.nbd_hub.specs.Stream.{HasEnded, Ends, Moved, Served, Answers, Exchanged, AllFeed, TurnedAfter}
+use Rattle.nbd_hub.specs.Stream.{HasEnded, IsTaken, turn_bytes, Ends, Moved, Served, Answers, Exchanged, AllFeed, TurnedAfter}
 use Rattle.nbd_hub.proofs.Outcomes.{phase_is}
 
 pub talked_first : (a : Facts) (offer : Offer) → Talked a a offer [] greeting
@@ -75,11 +75,22 @@ pub on_ok : {X E : Type 0} (r : Result X E) (P : Type 0) → false ≡ is_err r 
 on_ok (Ok x) P e h = h
 on_ok (Err x) P e h = absurd (let q : ⊥ = cc in q)
 
+-- what was read in turns that went well
+pub taken_at : (offer : Offer) (limit turn : ℕ) (input : List ℕ) → (HasEnded offer input → ⊥) → length input ≤ turn_bytes * turn → turn ≤ limit → IsTaken offer limit input
+taken_at offer limit turn input going few l =
+    record { front = input; piece = []; parts = sym (append-nil input); short = omega arith; going = going; few = omega (arith, few, l) }
+
+-- and in one more
+pub taken_on : (offer : Offer) (limit turn : ℕ) (input piece : List ℕ) → (HasEnded offer input → ⊥) → length input ≤ turn_bytes * turn → turn < limit → length piece ≤ turn_bytes
+    → IsTaken offer limit (input ++ piece)
+taken_on offer limit turn input piece going few l k =
+    record { front = input; piece = piece; parts = refl; short = k; going = going; few = omega (arith, few, l, k, length-append input piece) }
+
 -- an exchange that failed
 pub served_err : (a b c : Facts) (offer : Offer) (before after : State) (r r' r'' w w' w'' : Option (List ℕ)) (limit : ℕ) (input wrote piece : List ℕ) (f : ServeFault) → Keeps a b → Keeps b c → before.offer ≡ offer
-    → Moved (record { reader = r; reader' = r'; writer = w; writer' = w' }) input wrote → Talked a b offer input wrote → IsAt before input → Consumes r' r'' piece
+    → Moved (record { reader = r; reader' = r'; writer = w; writer' = w' }) input wrote → Talked a b offer input wrote → IsAt before input → Consumes r' r'' piece → IsTaken offer limit (input ++ piece)
     → Exchanged b c before after piece w' w'' (Err f) → Served a c offer (record { reader = r; reader' = r''; writer = w; writer' = w'' }) limit (Err f)
-served_err a b c offer before after r r' r'' w w' w'' limit input wrote piece fault.Write k l o m t at x e =
+served_err a b c offer before after r r' r'' w w' w'' limit input wrote piece fault.Write k l o m t at x i e =
     let d = e.3 input at in (
       input ++ piece,
       wrote ++ e.0,
@@ -87,17 +98,19 @@ served_err a b c offer before after r r' r'' w w' w'' limit input wrote piece fa
       moved_on r r' r'' w w' w'' input wrote piece e.0 m x e.2,
       (let P : List ℕ → Type 0 = λ y. Talked a c offer (input ++ piece) y in
           subst P (sym (append_assoc wrote e.0 e.1)) (talked_on a b c offer input piece wrote (e.0 ++ e.1) k l t (talks_at b c before.offer offer input piece (e.0 ++ e.1) o d.1))),
+      i,
     )
-served_err a b c offer before after r r' r'' w w' w'' limit input wrote piece fault.Starved k l o m t at x e = (
+served_err a b c offer before after r r' r'' w w' w'' limit input wrote piece fault.Starved k l o m t at x i e = (
   input,
   piece,
   wrote,
   (let P : List ℕ → Type 0 = λ y. Moved (record { reader = r; reader' = r''; writer = w; writer' = w'' }) (input ++ piece) y in subst P (append-nil wrote) (moved_on r r' r'' w w' w'' input wrote piece [] m x e)),
   talked_later a b c offer input wrote l t,
+  i,
 )
-served_err a b c offer before after r r' r'' w w' w'' limit input wrote piece fault.Read k l o m t at x e = absurd e
-served_err a b c offer before after r r' r'' w w' w'' limit input wrote piece fault.Turns k l o m t at x e = absurd e
-served_err a b c offer before after r r' r'' w w' w'' limit input wrote piece (fault.Hub f) k l o m t at x e = absurd e
+served_err a b c offer before after r r' r'' w w' w'' limit input wrote piece fault.Read k l o m t at x i e = absurd e
+served_err a b c offer before after r r' r'' w w' w'' limit input wrote piece fault.Turns k l o m t at x i e = absurd e
+served_err a b c offer before after r r' r'' w w' w'' limit input wrote piece (fault.Hub f) k l o m t at x i e = absurd e
 
 -- one turn that went well
 pub record Turned (a c : Facts) (offering : Offer) (e : Ends) (after : State) (input said : List ℕ) : Type 0 where

@@ -1,5 +1,5 @@
 -- What a served stream has read and written.
-use Rattle.std.specs.Prelude.{◌≡◌, ◌↔◌, Bool, true, false, ℕ, ◌≤◌, ◌⊎◌, List, [], ◌∷◌, ◌++◌, length, Option, Result, Ok, Err}
+use Rattle.std.specs.Prelude.{◌≡◌, ◌↔◌, ◌*◌, Bool, true, false, ℕ, ◌≤◌, ◌⊎◌, List, [], ◌∷◌, ◌++◌, length, Option, Result, Ok, Err}
 use Rattle.std.specs.Io.KnownBytes.{Consumes, Appends, IsAtEnd}
 use Rattle.nbd_session.specs.declared.phase.Phase.TheVariants as phase
 use Rattle.nbd_session.specs.declared.offer.Offer.{Offer}
@@ -20,14 +20,14 @@ HasEnded offer input = (hear offer phase.Flags input).phase ≡ phase.Ended
 abbrev pub turn_bytes : ℕ
 turn_bytes = 28
 
--- The input reaches the ending message, and at most 27 bytes more: it ended within the piece of the last turn.
-pub record Reaches (offer : Offer) (input : List ℕ) : Type 0 where
+-- What was read reaches into one turn at most from where the session went on, and there were no more turns than the limit.
+pub record IsTaken (offer : Offer) (limit : ℕ) (input : List ℕ) : Type 0 where
   pub front : List ℕ
   pub piece : List ℕ
   pub parts : input ≡ front ++ piece
   pub short : length piece ≤ turn_bytes
-  pub before : HasEnded offer front → ⊥
-  pub after : HasEnded offer input
+  pub going : HasEnded offer front → ⊥
+  pub few : length input ≤ turn_bytes * limit
 
 -- the bytes that the reader has left and those that the writer holds, before and after, where they tell
 pub record Ends : Type 0 where
@@ -45,19 +45,19 @@ pub record Moved (e : Ends) (input wrote : List ℕ) : Type 0 where
 abbrev pub ServedBy : (S : (input said : List ℕ) → Type 0) → Offer → Ends → (limit : ℕ) → Result (Unit {0}) ServeFault → Type 0
 -- the talk of all that the reader had, or of an input that ends it
 ServedBy S offer e limit (Ok x) =
-    (input wrote : List ℕ) × Moved e input wrote × S input wrote × (IsAtEnd e.reader' ⊎ Reaches offer input)
+    (input wrote : List ℕ) × Moved e input wrote × S input wrote × IsTaken offer limit input × (IsAtEnd e.reader' ⊎ HasEnded offer input)
 -- the talk of what was read
 ServedBy S offer e limit (Err fault.Read) =
-    (input wrote : List ℕ) × Moved e input wrote × S input wrote
+    (input wrote : List ℕ) × Moved e input wrote × S input wrote × IsTaken offer limit input
 -- the same, and each turn gave a byte at least
 ServedBy S offer e limit (Err fault.Turns) =
-    (input wrote : List ℕ) × Moved e input wrote × S input wrote × (limit ≤ length input) × (HasEnded offer input → ⊥)
+    (input wrote : List ℕ) × Moved e input wrote × S input wrote × IsTaken offer limit input × (limit ≤ length input) × (HasEnded offer input → ⊥)
 -- a beginning of the talk of what was read
 ServedBy S offer e limit (Err fault.Write) =
-    (input wrote rest : List ℕ) × Moved e input wrote × S input (wrote ++ rest)
+    (input wrote rest : List ℕ) × Moved e input wrote × S input (wrote ++ rest) × IsTaken offer limit input
 -- the talk of what was read before the piece that starved the session
 ServedBy S offer e limit (Err fault.Starved) =
-    (input piece wrote : List ℕ) × Moved e (input ++ piece) wrote × S input wrote
+    (input piece wrote : List ℕ) × Moved e (input ++ piece) wrote × S input wrote × IsTaken offer limit (input ++ piece)
 -- nothing
 ServedBy S offer e limit (Err (fault.Hub f)) = Moved e [] []
 

@@ -34,6 +34,3 @@ pub use events::{Event, HubReply, Piece};
 pub use fault::{HubFault, ServeFault};
 pub use sessions::Sessions;
 pub use stream::serve;
-
-#[cfg(test)]
-mod tests;

@@ -2,6 +2,7 @@
 
 ghost use Rattle.std.specs.Prelude.{◌≡◌, MatchOption, None};
 ghost use Rattle.nbd_session.specs.Session.{Feeds};
+ghost use Rattle.nbd_session.specs.Conversation.{Grows};
 ghost use Rattle.nbd_hub.specs.Sessions.{Place, lookup};
 
 use nbd_session::{Export, Session, Status};
@@ -49,6 +50,7 @@ impl<A: Allocator> Numbered<A> {
         ensures number { self.new.number ≡ self.old.number }
         ensures later { E.later export.old export.new }
         ensures feeds { Feeds (E.facts export.old) (E.facts export.new) self.old.session self.new.session piece.now out.old.items out.new.items result }
+        ensures grows { Grows out.old.items out.new.items }
     {
         self.session.feed(piece, export, out)
     }

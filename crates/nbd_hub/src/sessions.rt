@@ -3,6 +3,7 @@
 ghost use Rattle.std.specs.Prelude.{◌≡◌, ◌≢◌, ◌↔◌, ◌≤◌, ◌<◌, ◌+◌, ◌++◌, length, List, [], ℕ, Some, None, IfOk, OnOk, OnErr, Err};
 ghost use Rattle.nbd_session.specs.Export.{Keeps};
 ghost use Rattle.nbd_session.specs.Handshake.{greeting};
+ghost use Rattle.nbd_session.specs.Conversation.{Grows};
 ghost use Rattle.nbd_hub.specs.Sessions.{OpensOne, FeedsOne, EndsOne, lookup, max_open, max_opened};
 ghost use Rattle.nbd_hub.specs.History.{Step, IsOpen};
 ghost use Rattle.nbd_hub.specs.After.{IsAfter, OpenedAfter, FedAfter, EndedAfter};
@@ -124,6 +125,7 @@ impl<E: Export, A: Allocator + Copy> Sessions<E, A> {
         ensures unknown { OnErr result (lookup id self.old.0.sessions ≡ None) }
         ensures after { IfOk result (λ status. (history : List Step) → IsAfter (E.facts self.old.1) self.old.0 history
             → FedAfter (E.facts self.new.1) self.new.0 history id piece.now status out.old.items out.new.items) }
+        ensures grows { Grows out.old.items out.new.items }
     {
         let Some(at) = find(&self.open, id) else {
             return Err(HubFault::Unknown);

@@ -1,7 +1,8 @@
 -- A feed, for every input that the session was at.
-use Rattle.std.proofs.Common.{◌≡◌, ◌≢◌, ◌↔◌, ℕ, Bool, true, false, List, [], ◌++◌, refl, sym, ap, ◌∙◌, subst, append_assoc, append-nil}
+use Rattle.std.proofs.Common.{◌≡◌, ◌≢◌, ◌↔◌, ◌≤◌, ◌+◌, ℕ, Bool, true, false, List, [], ◌++◌, length, refl, sym, ap, ◌∙◌, subst, arith, append_assoc, append-nil, length-append}
+use Rattle.nbd_session.specs.Protocol.{short, longest_reply}
 use Rattle.nbd_session.specs.declared.phase.Phase.{Phase}
-use Rattle.nbd_session.specs.declared.phase.Phase.TheVariants.{Flags, Ended}
+use Rattle.nbd_session.specs.declared.phase.Phase.TheVariants.{Flags, Transmission, Ended}
 use Rattle.nbd_session.specs.declared.inbox.Inbox.{Inbox}
 use Rattle.nbd_session.specs.declared.offer.Offer.{Offer}
 use Rattle.nbd_session.specs.Transmission.{Answer}
@@ -15,6 +16,7 @@ use Rattle.nbd_session.specs.declared.status.Status.TheVariants as status
 use Rattle.nbd_session.specs.Handshake.{greeting}
 use Rattle.nbd_session.specs.Session.{Feeds, Talked, IsAt, Reflects, State, TalksOn, added}
 use Rattle.nbd_session.specs.Inbox.{Waits, kept, missing_of}
+use Rattle.nbd_session.proofs.Shorter.{replies_once, fair_len}
 use Rattle.nbd_session.proofs.Hearing.{hear-append, Judged-append, Judged-weaker, replies-append}
 use Rattle.nbd_session.proofs.Moving.{Keeps-refl, counted_on, moves_ended, rest_partial, Fair-later, Fair-earlier}
 
@@ -58,7 +60,7 @@ feeds old new o before after starved s input piece out out' v e m =
     let R : Heard → Type 0 = λ x. Reflects (state_of o after starved) x in
     record {
       at = λ z. subst R (sym (hear-append offer Flags input piece)) (record { phase = r.phase; held = r.held; missing = r.missing });
-      talks = record { verdicts = t.verdicts; judged = t.judged; counted = t.counted; exact = m.1 ∙ ap (λ x. out ++ x) t.exact };
+      talks = record { verdicts = t.verdicts; judged = t.judged; counted = t.counted; spent = t.spent; exact = m.1 ∙ ap (λ x. out ++ x) t.exact };
     })
 
 -- A session that has ended stays so.
@@ -76,11 +78,22 @@ feeds_ended now o inbox starved s piece out v f p =
       talks = λ n input a. (fed input a).talks;
       ended = λ n. ((λ e. p), (λ e. refl));
       awake = λ n. f;
+      bound = λ input a t k. omega arith;
       starved = λ e. absurd (let q : ⊥ = cc in q);
       stays = λ e. absurd (let q : ⊥ = cc in q);
       for_good = λ t. let z : false ≡ true = sym f ∙ t in absurd (let q : ⊥ = cc in q);
       over = λ a e. (refl, refl);
     })
+
+-- what a short piece adds in transmission
+talks_bound : (a b : Facts) (offer : Offer) (input piece out out' : List ℕ) → TalksOn a b offer input piece out out' → (hear offer Flags input).phase ≡ Transmission → length piece ≤ short
+    → length out' ≤ length out + longest_reply
+talks_bound a b offer input piece out out' t p l =
+    let said = replies (added offer input piece) t.verdicts in
+    let few : length said ≤ longest_reply = replies_once (Fair a b) (fair_len a b) offer input piece t.verdicts p l t.judged in
+    let P : List ℕ → Type 0 = λ x. length x ≤ length out + longest_reply in
+    let sum : length (out ++ said) ≤ length out + longest_reply = omega (arith, length-append out said, few) in
+    subst P (sym t.exact) sum
 
 -- A piece was taken in.
 pub feeds_on : {A : Type 0} (old new : Facts) (o : Offer) (before after : Inbox A) (starved : Bool) (s : State) (piece out out' : List ℕ) (result : Status)
@@ -97,6 +110,7 @@ feeds_on old new o before after starved s piece out out' result v f k p m n ende
       talks = λ q input a. (fed input a).talks;
       ended = λ q. ended;
       awake = λ q. f;
+      bound = λ input a t k. talks_bound old new x.offer input piece out out' (fed input a).talks (sym (a f).phase ∙ t) k;
       starved = λ e. absurd (n e);
       stays = λ e. absurd (n e);
       for_good = λ t. let z : false ≡ true = sym f ∙ t in absurd (let q : ⊥ = cc in q);

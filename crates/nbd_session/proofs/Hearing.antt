@@ -41,7 +41,7 @@ Shorter n Partial = Unit {0}
 Shorter n Halt = Unit {0}
 Shorter n (Whole m rest) = length rest < n
 
-front_of-shorter : (n : ℕ) (header rest : List ℕ) (o : Option ℕ) → length rest < n → Shorter n (front_of header rest o)
+pub front_of-shorter : (n : ℕ) (header rest : List ℕ) (o : Option ℕ) → length rest < n → Shorter n (front_of header rest o)
 front_of-shorter n header rest None h = tt
 front_of-shorter n header rest (Some k) h =
     elim (cases_lt (length rest) k) [

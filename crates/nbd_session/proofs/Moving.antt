@@ -14,6 +14,7 @@ use Rattle.nbd_session.specs.Talk.{Bytes, Heard, Refused, Verdict, hear, hear_fr
 use Rattle.nbd_session.specs.Export.{Counted, Facts, Fair, Keeps, eios, is_eio}
 use Rattle.nbd_session.specs.Conversation.{Answered, AppendsMove, Moves, Stands, message_of}
 use Rattle.nbd_session.specs.Inbox.{Waits, HasBody}
+use Rattle.nbd_session.proofs.Costs.{spent_none, spent_on}
 use Rattle.nbd_session.proofs.Hearing.{Shorter, front-shorter, hear-front, hear-ended, hear-append, go_on, Judged-append, Judged-weaker, replies-append}
 
 -- verdicts of a part of the time are verdicts of the whole
@@ -37,10 +38,12 @@ Keeps-trans a b c h k = record {
   steady = λ content s. k.steady content (h.steady content s);
   failures = omega (arith, h.failures, k.failures);
   lack = λ o l s. k.lack o l (h.lack o l s);
+  reads = omega (arith, h.reads, k.reads);
+  cost = λ o l n s. k.cost o l n (h.cost o l n s);
 }
 
 pub Keeps-refl : (a : Facts) → Keeps a a
-Keeps-refl a = record { size = refl; block = refl; serve = λ o bytes s. s; refuse = λ o l s. s; steady = λ content s. s; failures = omega arith; lack = λ o l s. s }
+Keeps-refl a = record { size = refl; block = refl; serve = λ o bytes s. s; refuse = λ o l s. s; steady = λ content s. s; failures = omega arith; lack = λ o l s. s; reads = omega arith; cost = λ o l n s. s }
 
 -- as many failures as EIOs
 
@@ -65,19 +68,19 @@ counted_on a b c vs ws k h l = λ content s. let p = h content s in let q = l co
 
 -- one turn
 
-pub stands_partial : {A : Type 0} (old new : Facts) → Keeps old new → (offer : Offer) (phase : Phase) (bytes : List ℕ) (inbox : Inbox A) → inbox.phase ≡ phase → front phase bytes ≡ Partial → Waits inbox bytes → Stands old new (hear offer phase bytes) inbox []
-stands_partial old new k offer phase bytes inbox p f w =
-    let P : Heard → Type 0 = λ h. Stands old new h inbox [] in
-    subst P (sym (hear-front offer phase bytes ∙ ap (hear_front offer phase bytes (hear offer)) f)) (record { phase = p; waits = w; verdicts = []; judged = tt; counted = counted_none old new k; exact = refl })
+pub stands_partial : {A : Type 0} (now : Facts) (offer : Offer) (phase : Phase) (bytes : List ℕ) (inbox : Inbox A) → inbox.phase ≡ phase → front phase bytes ≡ Partial → Waits inbox bytes → Stands now now (hear offer phase bytes) inbox []
+stands_partial now offer phase bytes inbox p f w =
+    let P : Heard → Type 0 = λ h. Stands now now h inbox [] in
+    subst P (sym (hear-front offer phase bytes ∙ ap (hear_front offer phase bytes (hear offer)) f)) (record { phase = p; waits = w; verdicts = []; judged = tt; counted = counted_none now now (Keeps-refl now); spent = spent_none now; exact = refl })
 
-pub stands_halt : {A : Type 0} (old new : Facts) → Keeps old new → (offer : Offer) (phase : Phase) (bytes : List ℕ) (inbox : Inbox A) → inbox.phase ≡ Ended → front phase bytes ≡ Halt → Waits inbox [] → Stands old new (hear offer phase bytes) inbox []
-stands_halt old new k offer phase bytes inbox p f w =
-    let P : Heard → Type 0 = λ h. Stands old new h inbox [] in
-    subst P (sym (hear-front offer phase bytes ∙ ap (hear_front offer phase bytes (hear offer)) f)) (record { phase = p; waits = w; verdicts = []; judged = tt; counted = counted_none old new k; exact = refl })
+pub stands_halt : {A : Type 0} (now : Facts) (offer : Offer) (phase : Phase) (bytes : List ℕ) (inbox : Inbox A) → inbox.phase ≡ Ended → front phase bytes ≡ Halt → Waits inbox [] → Stands now now (hear offer phase bytes) inbox []
+stands_halt now offer phase bytes inbox p f w =
+    let P : Heard → Type 0 = λ h. Stands now now h inbox [] in
+    subst P (sym (hear-front offer phase bytes ∙ ap (hear_front offer phase bytes (hear offer)) f)) (record { phase = p; waits = w; verdicts = []; judged = tt; counted = counted_none now now (Keeps-refl now); spent = spent_none now; exact = refl })
 
 stands_answer : {A : Type 0} (old new : Facts) → Keeps old new → (a : Answer) (phase : Phase) (inbox : Inbox A) (said : List ℕ) → inbox.phase ≡ phase → Waits inbox [] → Answered old new a said → Stands old new (record { answers = a ∷ []; phase = phase; unfinished = [] }) inbox said
-stands_answer old new k (Says bytes) phase inbox said p w e = record { phase = p; waits = w; verdicts = []; judged = tt; counted = counted_none old new k; exact = e ∙ sym (append-nil bytes) }
-stands_answer old new k (Asks o l cookie) phase inbox said p w e = record { phase = p; waits = w; verdicts = e.0 ∷ []; judged = (e.1, tt); counted = counted_one old new o l e.0 k e.1; exact = e.2 ∙ sym (append-nil (read_reply cookie e.0)) }
+stands_answer old new k (Says bytes) phase inbox said p w e = record { phase = p; waits = w; verdicts = []; judged = tt; counted = counted_none old new k; spent = record { cost = 0; reads = let r = e.1 in omega (arith, r); spends = refl }; exact = e.0 ∙ sym (append-nil bytes) }
+stands_answer old new k (Asks o l cookie) phase inbox said p w e = record { phase = p; waits = w; verdicts = e.0 ∷ []; judged = (e.1, tt); counted = counted_one old new o l e.0 k e.1; spent = record { cost = e.3.0; reads = e.3.1; spends = (e.3.0, 0, e.3.2, refl, omega arith) }; exact = e.2 ∙ sym (append-nil (read_reply cookie e.0)) }
 
 -- what a message's body is matters to options alone, and there it is what is held
 same_answer : (offer : Offer) (phase : Phase) (held body : List ℕ) → HasBody phase held body → answer offer phase (record { header = (message_of phase held).header; body = body }) ≡ answer offer phase (message_of phase held)
@@ -115,6 +118,7 @@ stands_on a b c offer h mid after piece said said' k l s t =
       waits = t.waits;
       verdicts = s.verdicts ++ t.verdicts;
       counted = counted_on a b c s.verdicts t.verdicts k s.counted t.counted;
+      spent = spent_on a b c h.answers next.answers l s.spent t.spent;
       judged = Judged-append (Fair a c) h.answers next.answers s.verdicts t.verdicts
           (Judged-weaker (Fair a b) (Fair a c) h.answers s.verdicts (Fair-later a b c l) s.judged)
           (Judged-weaker (Fair b c) (Fair a c) next.answers t.verdicts (Fair-earlier a b c k) t.judged);
@@ -133,15 +137,17 @@ moves_on a b c offer before mid after piece piece' said said' k l m n = λ u w.
 
 -- an option's answer, from what the code cuts off
 pub answers_option : (old new : Facts) (offer : Offer) (phase : Phase) (f z : Bool) (size number : ℕ) (message header body : List ℕ) → phase ≡ Options f z → size ≡ header_size phase
-    → header ≡ take size message → body ≡ drop size message → number ≡ number_at 8 4 header → Answered old new (answer offer phase (message_of phase message)) (option_answer offer z number body)
-answers_option old new offer Flags f z size number message header body p e eh eb en = absurd (let q : ⊥ = cc in q)
-answers_option old new offer (Options f' z') f z size number message header body p e eh eb en =
-    let zz : z ≡ z' = cc in
-    ap (λ x. option_answer offer x number body) zz
-    ∙ ap (λ n. option_answer offer z' n body) (en ∙ ap (number_at 8 4) (eh ∙ ap (λ k. take k message) e))
-    ∙ ap (λ b. option_answer offer z' (number_at 8 4 (take 16 message)) b) (eb ∙ ap (λ k. drop k message) e)
-answers_option old new offer Transmission f z size number message header body p e eh eb en = absurd (let q : ⊥ = cc in q)
-answers_option old new offer Ended f z size number message header body p e eh eb en = absurd (let q : ⊥ = cc in q)
+    → header ≡ take size message → body ≡ drop size message → number ≡ number_at 8 4 header → new.reads ≡ old.reads → Answered old new (answer offer phase (message_of phase message)) (option_answer offer z number body)
+answers_option old new offer Flags f z size number message header body p e eh eb en r = absurd (let q : ⊥ = cc in q)
+answers_option old new offer (Options f' z') f z size number message header body p e eh eb en r =
+    let zz : z ≡ z' = cc in (
+      ap (λ x. option_answer offer x number body) zz
+          ∙ ap (λ n. option_answer offer z' n body) (en ∙ ap (number_at 8 4) (eh ∙ ap (λ k. take k message) e))
+          ∙ ap (λ b. option_answer offer z' (number_at 8 4 (take 16 message)) b) (eb ∙ ap (λ k. drop k message) e),
+      r,
+    )
+answers_option old new offer Transmission f z size number message header body p e eh eb en r = absurd (let q : ⊥ = cc in q)
+answers_option old new offer Ended f z size number message header body p e eh eb en r = absurd (let q : ⊥ = cc in q)
 
 ended_rest : (u : List ℕ) → front Ended u ≡ Partial → u ≡ []
 ended_rest [] f = refl
@@ -155,13 +161,13 @@ moves_ended facts offer inbox piece e = λ u w.
     let f : front Ended u ≡ Partial = ap (λ p. front p u) (sym e) ∙ w.partial in
     let n : u ≡ [] = ended_rest u f in
     let W : List ℕ → Type 0 = λ v. Waits inbox v in
-    subst P (sym e) (subst Q (sym (hear-ended offer (u ++ piece))) (record { phase = e; waits = subst W n w; verdicts = []; judged = tt; counted = counted_none facts facts (Keeps-refl facts); exact = refl }))
+    subst P (sym e) (subst Q (sym (hear-ended offer (u ++ piece))) (record { phase = e; waits = subst W n w; verdicts = []; judged = tt; counted = counted_none facts facts (Keeps-refl facts); spent = spent_none facts; exact = refl }))
 
 -- no bytes move nothing
 pub moves_none : {A : Type 0} (facts : Facts) (offer : Offer) (inbox : Inbox A) → Moves facts facts offer inbox inbox [] []
 moves_none facts offer inbox = λ u w.
     let P : List ℕ → Type 0 = λ v. Stands facts facts (hear offer inbox.phase v) inbox [] in
-    subst P (sym (append-nil u)) (stands_partial facts facts (Keeps-refl facts) offer inbox.phase u inbox refl w.partial w)
+    subst P (sym (append-nil u)) (stands_partial facts offer inbox.phase u inbox refl w.partial w)
 
 -- what is unfinished is no whole message
 rest_front : (offer : Offer) (phase : Phase) (bytes : List ℕ) (f : Front) → front phase bytes ≡ f → ((p : Phase) (r : List ℕ) → length r < length bytes → front (hear offer p r).phase (hear offer p r).unfinished ≡ Partial)

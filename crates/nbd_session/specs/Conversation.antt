@@ -6,7 +6,7 @@ use Rattle.nbd_session.specs.declared.inbox.Inbox.{Inbox}
 use Rattle.nbd_session.specs.Messages.{Message, header_size}
 use Rattle.nbd_session.specs.Transmission.{Answer, Says, Asks}
 use Rattle.nbd_session.specs.Talk.{Heard, hear, Verdict, Judged, read_reply, replies}
-use Rattle.nbd_session.specs.Export.{Facts, Fair, Counted}
+use Rattle.nbd_session.specs.Export.{Facts, Fair, Counted, Costs, Spent}
 use Rattle.nbd_session.specs.Inbox.{Waits}
 
 abbrev pub message_of : Phase → List ℕ → Message
@@ -14,8 +14,9 @@ message_of phase bytes = record { header = take (header_size phase) bytes; body 
 
 -- what is said to one message, between two moments of the export
 abbrev pub Answered : Facts → Facts → Answer → List ℕ → Type 0
-Answered old new (Says bytes) said = said ≡ bytes
-Answered old new (Asks offset len cookie) said = (verdict : Verdict) × Fair old new offset len verdict × (said ≡ read_reply cookie verdict)
+Answered old new (Says bytes) said = (said ≡ bytes) × (new.reads ≡ old.reads)
+Answered old new (Asks offset len cookie) said =
+    (verdict : Verdict) × Fair old new offset len verdict × (said ≡ read_reply cookie verdict) × Costs old new offset len
 
 abbrev pub AppendsAnswer : Facts → Facts → Answer → (before after : List ℕ) → Type 0
 AppendsAnswer old new a before after = (said : List ℕ) × (after ≡ before ++ said) × Answered old new a said
@@ -31,6 +32,7 @@ pub record Stands {A : Type 0} (old new : Facts) (h : Heard) (inbox : Inbox A) (
   pub verdicts : List Verdict
   pub judged : Judged (Fair old new) h.answers verdicts
   pub counted : Counted old new verdicts
+  pub spent : Spent old new h.answers
   pub exact : said ≡ replies h.answers verdicts
 
 -- A piece was taken in, whatever had come before it.

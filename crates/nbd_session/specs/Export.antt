@@ -3,6 +3,7 @@ use Rattle.std.specs.Prelude.{◌≡◌, ℕ, ◌+◌, ◌==◌, if◌then◌els
 use Rattle.nbd_session.specs.declared.export.ExportFault.{ExportFault}
 use Rattle.nbd_session.specs.declared.export.ExportFault.TheVariants.{Io, NoMemory}
 use Rattle.nbd_session.specs.Protocol.{nbd_eio, nbd_enomem}
+use Rattle.nbd_session.specs.Transmission.{Answer, Says, Asks}
 use Rattle.nbd_session.specs.Talk.{Verdict, Bytes, Refused}
 
 -- an export at one moment
@@ -18,6 +19,10 @@ pub record Facts : Type 1 where
   -- the whole content is this
   pub steady : List ℕ → Type 0
   pub failures : ℕ
+  -- how often the device was read
+  pub reads : ℕ
+  -- holds of each number by which one read of a range raised that count
+  pub may_cost : (offset len n : ℕ) → Type 0
 
 -- what no read changes or takes back
 pub record Keeps (old new : Facts) : Type 0 where
@@ -28,6 +33,8 @@ pub record Keeps (old new : Facts) : Type 0 where
   pub lack : (offset len : ℕ) → old.may_lack offset len → new.may_lack offset len
   pub steady : (content : List ℕ) → old.steady content → new.steady content
   pub failures : old.failures ≤ new.failures
+  pub reads : old.reads ≤ new.reads
+  pub cost : (offset len n : ℕ) → old.may_cost offset len n → new.may_cost offset len n
 
 -- these bytes were given between two moments; where the content is known, they are its slice
 pub record Served (old new : Facts) (offset len : ℕ) (bytes : List ℕ) : Type 0 where
@@ -67,3 +74,19 @@ eios (Refused error ∷ verdicts) = is_eio error + eios verdicts
 -- where the content is known, failures rose by one at least for each EIO
 abbrev pub Counted : Facts → Facts → List Verdict → Type 0
 Counted old new verdicts = (content : List ℕ) → old.steady content → old.failures + eios verdicts ≤ new.failures
+
+-- one read of a range lies between two moments
+abbrev pub Costs : Facts → Facts → ℕ → ℕ → Type 0
+Costs old new offset len = (n : ℕ) × (new.reads ≡ old.reads + n) × new.may_cost offset len n
+
+-- each range that is asked for is read once, which costs n in all
+abbrev pub Spends : (may_cost : ℕ → ℕ → ℕ → Type 0) → List Answer → ℕ → Type 0
+Spends may_cost [] n = n ≡ 0
+Spends may_cost (Says bytes ∷ answers) n = Spends may_cost answers n
+Spends may_cost (Asks offset len cookie ∷ answers) n = (one more : ℕ) × may_cost offset len one × Spends may_cost answers more × (n ≡ one + more)
+
+-- and nothing else is read between two moments
+pub record Spent (old new : Facts) (answers : List Answer) : Type 0 where
+  pub cost : ℕ
+  pub reads : new.reads ≡ old.reads + cost
+  pub spends : Spends new.may_cost answers cost

@@ -7,6 +7,7 @@ pub mod Answers
 pub mod Talk
 pub mod Export
 pub mod Session
+pub mod Short
 pub mod Texts
 pub mod Inbox
 pub mod Conversation

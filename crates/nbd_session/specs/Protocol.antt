@@ -1,6 +1,6 @@
 -- The numbers of the NBD protocol, under the names that the NBD project's doc/proto.md gives them.
 -- In quotes: the sections of that document.
-use Rattle.std.specs.Prelude.{ℕ}
+use Rattle.std.specs.Prelude.{ℕ, ◌+◌}
 
 -- "Newstyle negotiation"
 
@@ -116,3 +116,11 @@ max_option_data = 65536
 
 abbrev pub max_length : ℕ
 max_length = 33554432
+
+-- the size of a request's header: a piece as short as it makes one request whole at most
+abbrev pub short : ℕ
+short = 28
+
+-- the longest reply to a request: magic, error and cookie, and a READ's bytes
+abbrev pub longest_reply : ℕ
+longest_reply = 16 + max_length

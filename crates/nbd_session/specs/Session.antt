@@ -1,13 +1,14 @@
 -- A session as its callers see it, and what a feed does.
-use Rattle.std.specs.Prelude.{◌≡◌, ◌≢◌, ◌↔◌, ℕ, Bool, true, false, List, ◌++◌}
+use Rattle.std.specs.Prelude.{◌≡◌, ◌≢◌, ◌↔◌, ◌≤◌, ◌+◌, ℕ, Bool, true, false, List, ◌++◌, length}
 use Rattle.nbd_session.specs.declared.phase.Phase.{Phase}
-use Rattle.nbd_session.specs.declared.phase.Phase.TheVariants.{Flags, Ended}
+use Rattle.nbd_session.specs.declared.phase.Phase.TheVariants.{Flags, Transmission, Ended}
 use Rattle.nbd_session.specs.declared.offer.Offer.{Offer}
 use Rattle.nbd_session.specs.declared.status.Status.{Status}
 use Rattle.nbd_session.specs.declared.status.Status.TheVariants as status
+use Rattle.nbd_session.specs.Protocol.{short, longest_reply}
 use Rattle.nbd_session.specs.Transmission.{Answer}
 use Rattle.nbd_session.specs.Talk.{Heard, hear, Verdict, Judged, replies, talk}
-use Rattle.nbd_session.specs.Export.{Facts, Keeps, Fair, Counted}
+use Rattle.nbd_session.specs.Export.{Facts, Keeps, Fair, Counted, Spent}
 use Rattle.nbd_session.specs.Inbox.{kept, missing_of}
 
 pub record State : Type 0 where
@@ -37,6 +38,7 @@ pub record TalksOn (old new : Facts) (offer : Offer) (input piece out out' : Lis
   pub verdicts : List Verdict
   pub judged : Judged (Fair old new) (added offer input piece) verdicts
   pub counted : Counted old new verdicts
+  pub spent : Spent old new (added offer input piece)
   pub exact : out' ≡ out ++ replies (added offer input piece) verdicts
 
 -- What a feed does to a session and an output, between two moments of its export.
@@ -48,7 +50,9 @@ pub record Feeds (old new : Facts) (before after : State) (piece out out' : List
   pub talks : result ≢ status.Starved → (input : List ℕ) → IsAt before input → TalksOn old new before.offer input piece out out'
   pub ended : result ≢ status.Starved → (result ≡ status.Ended) ↔ (after.phase ≡ Ended)
   pub awake : result ≢ status.Starved → after.starved ≡ false
-  -- Want of memory: nothing was said, and the session stays where it was.
+  -- A piece as short as a request's header adds one reply at most, once the negotiation is over.
+  pub bound : (input : List ℕ) → IsAt before input → before.phase ≡ Transmission → length piece ≤ short → length out' ≤ length out + longest_reply
+  -- Want of memory: nothing was said.
   pub starved : result ≡ status.Starved → (out' ≡ out) × (after.starved ≡ true)
   pub stays : result ≡ status.Starved → (input : List ℕ) → IsAt before input → IsAt after input
   -- Once starved it stays so, and once ended it stays so.

@@ -1,7 +1,7 @@
 //! What a session reads from.
 
-ghost use Rattle.std.specs.Prelude.{◌≡◌, ◌≤◌, ◌+◌, ◌++◌, ℕ, List, OnOk, OnErr, IsErrOf};
-ghost use Rattle.nbd_session.specs.Export.{Facts, Failed, Keeps, Lacked, Served};
+ghost use Rattle.std.specs.Prelude.{◌≡◌, ◌≤◌, ◌<◌, ◌+◌, ◌++◌, ℕ, List, OnOk, OnErr, IsErrOf, vec_len, vec_capacity};
+ghost use Rattle.nbd_session.specs.Export.{Costs, Facts, Failed, Keeps, Lacked, Served};
 
 use std::alloc::Allocator;
 
@@ -18,7 +18,8 @@ pub enum ExportFault {
 ///
 /// Contracts see its `facts` at a moment: `size` and `block`; `may_serve`, which holds of each answer that was given;
 /// `may_refuse` and `may_lack`, which hold of each range that was refused; `steady content`, which says that the whole
-/// content is known; and a count of `failures`. No read takes any of them back.
+/// content is known; a count of `failures` and one of `reads` of the device, and `may_cost`, which holds of each number by
+/// which one read of a range raised the second. No read takes any of them back.
 pub trait Export {
     ghost facts: { Self → Facts };
 
@@ -36,8 +37,8 @@ pub trait Export {
     /// Appends the `len` bytes from `offset` on. The caller owes a range that doesn't go past the end.
     ///
     /// Where the content is steady, they are its slice. `Io` comes with leave to refuse this range, and where the
-    /// content is steady only if the count of failures rose; `NoMemory` comes with leave to lack memory for it. On
-    /// both `out` is as before.
+    /// content is steady only if the count of failures rose; `NoMemory` comes with leave to lack memory for it, only where
+    /// `out` hadn't the room for `len` bytes, and then the device wasn't read. On both `out` is as before.
     fn read_at<A: Allocator>(
         &mut self,
         offset: u64,
@@ -51,6 +52,9 @@ pub trait Export {
             × Served (facts self.old) (facts self.new) offset len bytes) }
         ensures io { IsErrOf result ExportFault.Io → Failed (facts self.old) (facts self.new) offset len }
         ensures lack { IsErrOf result ExportFault.NoMemory → Lacked (facts self.old) (facts self.new) offset len }
+        ensures room { IsErrOf result ExportFault.NoMemory → vec_capacity out.old < vec_len out.old + len }
+        ensures unread { IsErrOf result ExportFault.NoMemory → (facts self.new).reads ≡ (facts self.old).reads }
+        ensures costs { Costs (facts self.old) (facts self.new) offset len }
         ensures unchanged { OnErr result (out.new.items ≡ out.old.items) };
 
     /// No read at all is one number of reads.

@@ -4,8 +4,9 @@ ghost use Rattle.std.specs.Prelude.{◌≡◌, ◌++◌, List, [], ℕ};
 ghost use Rattle.nbd_session.specs.declared.offer.Offer.{Offer};
 ghost use Rattle.nbd_session.specs.Handshake.{greeting};
 ghost use Rattle.nbd_session.specs.Talk.{talk};
-ghost use Rattle.nbd_session.specs.Export.{Keeps};
+ghost use Rattle.nbd_session.specs.Export.{Fair, Keeps};
 ghost use Rattle.nbd_session.specs.Session.{HearingGoesOn, Talked, TalksOn};
+ghost use Rattle.nbd_session.specs.Short.{AsksOnce, RepliesOnce};
 
 use crate::export::Export;
 
@@ -25,4 +26,14 @@ pub fn talk_goes_on<E: Export>()
         → Keeps (E.facts a) (E.facts b) → Keeps (E.facts b) (E.facts c)
         → Talked (E.facts a) (E.facts b) offer input said → TalksOn (E.facts b) (E.facts c) offer input piece [] more
         → Talked (E.facts a) (E.facts c) offer (input ++ piece) (said ++ more) }
+{}
+
+/// A piece as short as a request's header makes one READ whole at most.
+pub fn short_pieces_ask_once()
+    ensures { AsksOnce }
+{}
+
+/// And in transmission what it adds is one reply at most, of 33,554,448 bytes at most.
+pub fn short_pieces_reply_once<E: Export>()
+    ensures { (a b : E) → RepliesOnce (Fair (E.facts a) (E.facts b)) }
 {}

@@ -43,8 +43,6 @@ mod options;
 mod phase;
 mod session;
 mod status;
-#[cfg(test)]
-mod tests;
 mod transmission;
 mod wire;
 

@@ -3,6 +3,7 @@
 ghost use Rattle.std.specs.Prelude.{◌≡◌, ◌≤◌, ◌+◌, ◌++◌, [], false, IfOk, OnOk, OnErr, IsOk, Err, vec_len, vec_capacity};
 ghost use Rattle.nbd_session.specs.Handshake.{greeting};
 ghost use Rattle.nbd_session.specs.Session.{Feeds, IsAt};
+ghost use Rattle.nbd_session.specs.Conversation.{Grows};
 
 use crate::conversation::turns;
 use crate::export::Export;
@@ -77,7 +78,8 @@ impl<A: Allocator> Session<A> {
     ///
     /// For every input that the session was at, it is then at that input and the piece, and what it appended is what
     /// the longer talk adds. A READ that is allowed and not empty asks the export once; its bytes go straight into
-    /// `out`. Want of memory of the export is answered ENOMEM.
+    /// `out`. Want of memory of the export is answered ENOMEM. Once the negotiation is over, a piece of at most 28 bytes, as
+    /// short as a request's header, adds at most 33,554,448.
     ///
     /// [`Status::Ended`] exactly where the talk has ended. [`Status::Starved`] where memory was refused for the input
     /// or for a reply's framing: `out` is then as before the feed. Both answers last, and append nothing further.
@@ -90,6 +92,7 @@ impl<A: Allocator> Session<A> {
         requires { self.old.offer.size ≡ (E.facts export.old).size }
         ensures feeds { Feeds (E.facts export.old) (E.facts export.new) self.old self.new piece.now out.old.items out.new.items result }
         ensures later { E.later export.old export.new }
+        ensures grows { Grows out.old.items out.new.items }
     {
         if self.starved {
             return Status::Starved;

@@ -1,58 +1,14 @@
 //! Memory refused to one session, in turn at each request that needs more than the ones before.
 
-ghost use Rattle.std.specs.Prelude.{◌≡◌, IfOk, length};
+ghost use Rattle.std.specs.Prelude.{◌≡◌, length};
 
 use crate::clients::*;
 use linked_list_allocator::LocalHeap;
-use nbd_session::{Export, ExportFault, ExportName, Session, Status};
-use std::alloc::{AllocError, Allocator, Global};
+use nbd_session::{ExportName, Session, Status};
+use std::alloc::{Allocator, Global};
 use std::test::Fail;
+use talking_tests::{Image, make_image};
 use test_volumes::STEP;
-
-/// An export of 8,704 bytes 5a.
-#[derive(Drop)]
-struct Image {
-    bytes: Vec<u8>,
-}
-
-impl Export for Image {
-    ghost facts = { λ image. record { size = length image.bytes.items; block = 512; may_serve = λ _ _. Unit {0}; may_refuse = λ _ _. Unit {0}; may_lack = λ _ _. Unit {0}; steady = λ _. ⊥; failures = 0 } };
-
-    ghost later = { λ _ _. Unit {0} };
-
-    fn size(&self) -> u64 {
-        self.bytes.len() as u64
-    }
-
-    fn block(&self) -> u32 {
-        512
-    }
-
-    fn read_at<A: Allocator>(
-        &mut self,
-        offset: u64,
-        len: usize,
-        out: &mut Vec<u8, A>,
-    ) -> Result<(), ExportFault> {
-        let start = offset as usize;
-        match out.extend_from_slice(&self.bytes[start..start + len]) {
-            Ok(()) => Ok(()),
-            Err(_) => Err(ExportFault::NoMemory),
-        }
-    }
-
-    ghost later_same = { λ _. tt };
-
-    ghost later_on = { λ _ _ _ _ _. tt };
-}
-
-fn make_image(alloc: Global) -> Result<Image, AllocError>
-    ensures { IfOk result (λ image. length image.bytes.items ≡ 8704) }
-{
-    Ok(Image {
-        bytes: vec![in alloc; 0x5a; 8_704]?,
-    })
-}
 
 /// A session and what it reads from.
 #[derive(Drop)]
@@ -65,7 +21,7 @@ struct Talk<A: Allocator> {
 impl<A: Allocator> Talk<A> {
     /// A session that has greeted.
     fn open(alloc: Global, memory: A) -> Result<Talk<A>, Fail> {
-        let image = make_image(alloc)?;
+        let image = make_image(alloc, None)?;
         let name = ExportName::new(b"vol")?;
         let mut greeting = Vec::new(alloc);
         let session = Session::open(memory, name, 8_704, 512, &mut greeting)?;

@@ -7,3 +7,4 @@ pub mod Turns
 pub mod Finishes
 pub mod Compares
 pub mod Closings
+pub mod Ahead

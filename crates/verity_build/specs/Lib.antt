@@ -7,3 +7,4 @@ pub mod Parameters
 pub mod Faults
 pub mod Texts
 pub mod Differences
+pub mod Ahead

@@ -15,6 +15,7 @@ ghost use Rattle.verity_build.specs.Climb.{AreEmpty};
 ghost use Rattle.verity_build.specs.Progress.{Growing, Grown, Settling, IsRight};
 ghost use Rattle.verity_build.specs.Device.{AreStored, StaysRight, StaysStored, WritesFrom};
 
+use crate::leaves::{Leaves, bytes_at_a_time};
 use crate::open_tree::OpenTree;
 use crate::prepare::{prepare, superblock_of, zeros};
 use crate::{BuildFault, Params};
@@ -61,18 +62,19 @@ fn write_done<A: Allocator, H: BlockStore>(
     Ok(())
 }
 
-/// Reads the data blocks in their order and writes each hash block as soon as it is done.
+/// Reads the data blocks in their order, several at a time, and writes each hash block as soon as the digests that it holds are made.
 fn write_tree<A: Allocator, D: BlockStore, H: BlockStore>(
     tree: &mut OpenTree<A>,
     data_store: &mut D,
     hash_store: &mut H,
     start: u64,
-    data_block: &mut [u8],
+    buffer: &mut [u8],
 ) -> Result<(), Which>
     requires empty { AreEmpty tree.old.blocks.items }
     requires rootless { tree.old.root ≡ None }
     requires blocks { length (D.content data_store.old) ≡ tree.old.geometry.blocks }
-    requires data_size { length data_block.old ≡ D.size data_store.old }
+    requires data_size { D.size data_store.old ≡ tree.old.geometry.data_size }
+    requires data_buffer { tree.old.geometry.data_size ≤ length buffer.old }
     requires hash_size { H.size hash_store.old ≡ tree.old.geometry.hash_size }
     requires near { start ≤ 2 ^ 40 }
     requires room { start + total_of tree.old.geometry ≤ length (H.content hash_store.old) }
@@ -91,11 +93,12 @@ fn write_tree<A: Allocator, D: BlockStore, H: BlockStore>(
     ensures data_unfailed { OnOk result (D.failures data_store.new ≡ D.failures data_store.old) }
     ensures hash_unfailed { OnOk result (H.failures hash_store.new ≡ H.failures hash_store.old) }
 {
+    let mut leaves = Leaves::new();
     for n in 0..tree.geometry.blocks() {
-        let Ok(()) = data_store.read(n, data_block) else {
+        let Ok(digest) = leaves.next(tree, data_store, n, buffer) else {
             return Err(Which::Data);
         };
-        tree.take(data_block);
+        tree.take(digest);
         let Ok(()) = write_done(tree, hash_store, start, n + 1) else {
             return Err(Which::Hash);
         };
@@ -168,14 +171,7 @@ fn write_device<A: Allocator, D: BlockStore, H: BlockStore>(
     let Ok(()) = hash_store.set_len(blocks) else {
         return Err(Which::Hash);
     };
-    let data_size = tree.geometry.data_size();
-    write_tree(
-        tree,
-        data_store,
-        hash_store,
-        start,
-        &mut buffer[..data_size],
-    )?;
+    write_tree(tree, data_store, hash_store, start, buffer)?;
     let hash_size = tree.geometry.hash_size();
     let block = &mut buffer[..hash_size];
     let Ok(()) = write_superblock(hash_store, start - 1, superblock, block) else {
@@ -235,8 +231,10 @@ pub fn build<A: Allocator + Copy, P: Allocator, D: BlockStore, H: BlockStore>(
 /// U2 the hash store's content is open, but for the blocks in front, which are as they were.
 ///
 /// It reads and hashes each data block once, and hashes and writes each block of the tree once. It takes
-/// memory for the salt, twice, for one hash block a level, and for one block of the larger size, all of
-/// it before the first write, as is the hash store's room.
+/// memory for the salt, twice, for one hash block a level, and for one buffer, all of it before the first
+/// write, as is the hash store's room. The buffer has the bytes of eight data blocks, or of fewer where
+/// eight are more than 512 KiB, but at least of one data block and of one hash block: as many data blocks
+/// as it has room for, eight at most, are read and hashed before the hash blocks above them are written.
 pub fn build_at<A: Allocator + Copy, P: Allocator, D: BlockStore, H: BlockStore>(
     alloc: A,
     data_store: &mut D,
@@ -267,7 +265,7 @@ pub fn build_at<A: Allocator + Copy, P: Allocator, D: BlockStore, H: BlockStore>
 {
     let (start, mut tree) = prepare(alloc, data_store, hash_store, params, offset)?;
     let superblock = superblock_of(alloc, &tree.geometry, params)?;
-    let size = tree.geometry.data_size().max(tree.geometry.hash_size());
+    let size = bytes_at_a_time(tree.geometry.data_size()).max(tree.geometry.hash_size());
     let mut buffer = zeros(alloc, size)?;
     let Ok(()) = hash_store.reserve(start + tree.geometry.total()) else {
         return Err(BuildFault::NoMemory);

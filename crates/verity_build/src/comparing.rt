@@ -13,6 +13,7 @@ ghost use Rattle.verity_build.specs.Progress.{closed, Growing, Grown, Settling, 
 ghost use Rattle.verity_build.specs.Device.{StaysRight};
 ghost use Rattle.verity_build.specs.Differences as spec;
 
+use crate::leaves::{Leaves, bytes_at_a_time};
 use crate::open_tree::OpenTree;
 use crate::prepare::{prepare, zeros};
 use crate::{BuildFault, Compared, Params};
@@ -107,20 +108,21 @@ fn compare_done<A: Allocator, H: BlockStore>(
     Ok(found)
 }
 
-/// Reads the data blocks in their order and compares each hash block as soon as it is done. Answers the
-/// first that differs, in the order of the device.
+/// Reads the data blocks in their order, several at a time, and compares each hash block as soon as the
+/// digests that it holds are made. Answers the first that differs, in the order of the device.
 fn compare_tree<A: Allocator, D: BlockStore, H: BlockStore>(
     tree: &mut OpenTree<A>,
     data_store: &mut D,
     hash_store: &mut H,
     start: u64,
-    data_block: &mut [u8],
+    buffer: &mut [u8],
     hash_block: &mut [u8],
 ) -> Result<Option<Place>, Which>
     requires empty { AreEmpty tree.old.blocks.items }
     requires rootless { tree.old.root ≡ None }
     requires blocks { length (D.content data_store.old) ≡ tree.old.geometry.blocks }
-    requires data_size { length data_block.old ≡ D.size data_store.old }
+    requires data_size { D.size data_store.old ≡ tree.old.geometry.data_size }
+    requires data_buffer { tree.old.geometry.data_size ≤ length buffer.old }
     requires hash_size { H.size hash_store.old ≡ tree.old.geometry.hash_size }
     requires room { length hash_block.old ≡ tree.old.geometry.hash_size }
     requires near { start ≤ 2 ^ 40 }
@@ -140,12 +142,13 @@ fn compare_tree<A: Allocator, D: BlockStore, H: BlockStore>(
     ensures hash_unfailed { OnOk result (H.failures hash_store.new ≡ H.failures hash_store.old) }
     ensures hash_reads { H.reads hash_store.new ≤ H.reads hash_store.old + total_of tree.old.geometry }
 {
+    let mut leaves = Leaves::new();
     let mut found = None;
     for n in 0..tree.geometry.blocks() {
-        let Ok(()) = data_store.read(n, data_block) else {
+        let Ok(digest) = leaves.next(tree, data_store, n, buffer) else {
             return Err(Which::Data);
         };
-        tree.take(data_block);
+        tree.take(digest);
         let Ok(first) = compare_done(tree, hash_store, start, n + 1, hash_block, found) else {
             return Err(Which::Hash);
         };
@@ -195,8 +198,9 @@ pub fn compare<A: Allocator + Copy, P: Allocator, D: BlockStore, H: BlockStore>(
 /// U2 with the store of which a read failed.
 ///
 /// It reads and hashes each data block once, and reads each block of the tree at most once, and hashes
-/// it from its digests once. It takes memory for the salt, one hash block a level, a data block and a
-/// hash block, all before the first read.
+/// it from its digests once. It takes memory for the salt, one hash block a level, the data blocks that
+/// are read at a time (eight, or fewer where eight are more than 512 KiB, at least one) and a hash block,
+/// all before the first read.
 pub fn compare_at<A: Allocator + Copy, P: Allocator, D: BlockStore, H: BlockStore>(
     alloc: A,
     data_store: &mut D,
@@ -222,14 +226,14 @@ pub fn compare_at<A: Allocator + Copy, P: Allocator, D: BlockStore, H: BlockStor
     ensures refused_unfailed { IfErr result (λ fault. fault ≢ BuildFault.Store Which.Data → fault ≢ BuildFault.Store Which.Hash → (D.failures data_store.new ≡ D.failures data_store.old) × (H.failures hash_store.new ≡ H.failures hash_store.old)) }
 {
     let (start, mut tree) = prepare(alloc, data_store, hash_store, params, offset)?;
-    let mut data_block = zeros(alloc, tree.geometry.data_size())?;
+    let mut buffer = zeros(alloc, bytes_at_a_time(tree.geometry.data_size()))?;
     let mut hash_block = zeros(alloc, tree.geometry.hash_size())?;
     let found = match compare_tree(
         &mut tree,
         data_store,
         hash_store,
         start,
-        &mut data_block,
+        &mut buffer,
         &mut hash_block,
     ) {
         Ok(found) => found,

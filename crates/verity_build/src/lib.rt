@@ -3,9 +3,10 @@
 //! [`build_at`] writes, behind the blocks that stay in front, the superblock and the hash tree of the data
 //! store's blocks (cryptsetup's on-disk format of verity, "Verity hash table format" of the Linux dm-verity
 //! documentation); [`compare_at`] names the first hash block that isn't the tree's. [`build`] and
-//! [`compare`] are these with the superblock at byte 0. Both read the data blocks once, in their order, and
-//! hold one hash block a level (`OpenTree`): a data block's digest comes to level 0, a block that no digest
-//! will come to any more is written or compared, and its digest comes to the next level.
+//! [`compare`] are these with the superblock at byte 0. Both read the data blocks once, in their order, up to
+//! eight at a time, which are hashed side by side (`Leaves`), and hold one hash block a level (`OpenTree`): a
+//! data block's digest comes to level 0, a block that no digest will come to any more is written or compared,
+//! and its digest comes to the next level.
 //!
 //! The one contract that the layers above rely on: over stores that tell, a hash store that was built is
 //! `hash_blocks` of `verity_superblock`, all of it, and the answer is the image's root; `Same` is answered
@@ -16,13 +17,15 @@
 //!
 //! The definitions stand in `specs/`: `Parameters` (what is built, and from what), `Differences` (what a
 //! comparison finds), `Faults` (when which error comes), `Texts`; of the walk `Open` and `Climb` (the hash
-//! blocks that are being filled), `Progress` (how far the digests have come), `Device` (what is written).
+//! blocks that are being filled), `Ahead` (digests that are made ahead of their turn), `Progress` (how far the
+//! digests have come), `Device` (what is written).
 #![tactic(auto)]
 
 mod building;
 mod compared;
 mod comparing;
 mod fault;
+mod leaves;
 mod open_block;
 mod open_tree;
 mod params;

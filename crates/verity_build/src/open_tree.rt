@@ -1,5 +1,6 @@
 //! The hash blocks that are being filled, one a level.
-ghost use Rattle.std.specs.Prelude.{◌≡◌, ℕ, suc, ◌+◌, ◌/◌, ◌^◌, ◌<◌, ◌≤◌, ◌↔◌, ◌∷◌, [], length, IsTrue, IfOk, None};
+ghost use Rattle.std.specs.Prelude.{◌≡◌, ℕ, suc, ◌+◌, ◌*◌, ◌/◌, ◌^◌, ◌<◌, ◌≤◌, ◌↔◌, ◌∷◌, [], length, slice_index_or, IsTrue, IfOk, None};
+ghost use Rattle.std.specs.Fork.{slice_chunk};
 ghost use Rattle.verity_digest.specs.Hash.{size_of, hashing, salted_digest};
 ghost use Rattle.verity_digest.specs.Tree.{hash_block};
 ghost use Rattle.verity_geometry.specs.Geometry.{IsShape, digests_per_block, levels_of};
@@ -65,15 +66,29 @@ impl<A: Allocator> OpenTree<A> {
         }
     }
 
-    /// Takes the next data block: its digest comes to level 0.
-    pub(crate) fn take(&mut self, data_block: &[u8])
-        requires room { 0 < length self.old.blocks.items
-            → length (open_at self.old.blocks.items 0).digests < digests_per_block self.old.geometry }
-        ensures comes { Comes 0 (salted_digest self.old.hasher.salted data_block.now) self.old.blocks.items self.new.blocks.items self.old.root self.new.root }
+    /// Writes the digests of data blocks, which stand one after the other.
+    pub(crate) fn digest_run(&mut self, data_blocks: &[u8], out: &mut [Digest])
+        requires { length data_blocks.now ≡ length out.old * self.old.geometry.data_size }
+        ensures digests { (j : ℕ) → j < length out.old
+            → slice_index_or out.new j [] ≡ salted_digest self.old.hasher.salted (slice_chunk data_blocks.now self.old.geometry.data_size j) }
+        ensures opens { self.new.blocks.items ≡ self.old.blocks.items }
+        ensures root { self.new.root ≡ self.old.root }
         ensures salted { self.new.hasher.salted ≡ self.old.hasher.salted }
         ensures geometry { self.new.geometry ≡ self.old.geometry }
     {
-        let digest = self.hasher.digest(data_block);
+        let size = self.geometry.data_size();
+        self.hasher.digest_many(data_blocks, size, out);
+    }
+
+    /// Takes the digest of the next data block: it comes to level 0.
+    pub(crate) fn take(&mut self, digest: Digest)
+        requires sized { length digest ≡ self.old.geometry.digest_size }
+        requires room { 0 < length self.old.blocks.items
+            → length (open_at self.old.blocks.items 0).digests < digests_per_block self.old.geometry }
+        ensures comes { Comes 0 digest self.old.blocks.items self.new.blocks.items self.old.root self.new.root }
+        ensures salted { self.new.hasher.salted ≡ self.old.hasher.salted }
+        ensures geometry { self.new.geometry ≡ self.old.geometry }
+    {
         self.put(0, digest);
     }
 

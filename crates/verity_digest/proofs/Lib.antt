@@ -12,4 +12,5 @@ pub mod Growth
 pub mod Rows
 pub mod Sized
 pub mod TreeLaws
+pub mod Groups
 mod Worked

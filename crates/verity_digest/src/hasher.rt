@@ -8,6 +8,8 @@ use std::alloc::{Allocator, Global};
 use std::marker::Model;
 use verity_count::Count;
 
+mod many;
+
 /// Makes the digests of blocks under one algorithm and salt. A contract sees these, and how many
 /// digests it made.
 #[derive(Drop)]

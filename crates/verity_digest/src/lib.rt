@@ -6,7 +6,8 @@
 //! contracts see how many it made.
 //!
 //! The one contract that the layers above rely on: `Hasher::digest` is `salted_digest`, and the
-//! count rises by one. Its only errors are those of `Salt::new`.
+//! count rises by one; `Hasher::digest_many` is that of many blocks of one size, each counted. Its
+//! only errors are those of `Salt::new`.
 //!
 //! The definitions stand in `specs/`: `Hash` (salted digests), `Tree` (packing, rounds, root, tree),
 //! `Rows` (the same by rows, and the block at a place), `Shape` (the tree in numbers). [`laws`] has
@@ -18,8 +19,6 @@ mod digest;
 mod hasher;
 pub mod laws;
 mod salt;
-#[cfg(test)]
-mod tests;
 
 pub use algorithm::Algorithm;
 pub use digest::Digest;

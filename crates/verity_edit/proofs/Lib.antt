@@ -1,3 +1,4 @@
+mod Frames
 mod Untouched
 mod Kept
 mod ParentLemmas
@@ -19,6 +20,7 @@ mod CarriedLemmas
 mod LastLemmas
 mod PlanLemmas
 mod DeviceLemmas
+mod CommitLemmas
 mod OpeningLemmas
 mod AnswerLemmas
 mod RunLemmas

@@ -9,6 +9,7 @@ pub mod Parents
 pub mod Applied
 pub mod Levels
 pub mod Texts
+pub mod Faults
 pub mod Slots
 pub mod Remade
 pub mod Plan

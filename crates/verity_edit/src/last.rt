@@ -1,7 +1,8 @@
 //! The last data block where the count fell: it keeps its digest, but what stood behind it in its hash block goes.
-ghost use Rattle.std.specs.Prelude.{◌≡◌, ℕ, ◌+◌, ◌-◌, ◌*◌, ◌<◌, ◌≤◌, true, List, length, take, drop, IfErr, OnOk, ◌⊎◌};
+ghost use Rattle.std.specs.Prelude.{◌≡◌, ◌+◌, ◌-◌, ◌*◌, ◌<◌, ◌≤◌, true, length, take, drop, OnOk};
 ghost use Rattle.verity_digest.specs.Hash.{size_of};
-ghost use Rattle.verity_edit.specs.Edits.{Edits};
+ghost use Rattle.verity_store.specs.Stores.{IsOnlyRead};
+ghost use Rattle.verity_edit.specs.Faults.{PlansOrFails};
 ghost use Rattle.verity_edit.specs.Slots.{AreSized, AreWithin};
 ghost use Rattle.verity_edit.specs.Making.{IsChange};
 ghost use Rattle.verity_edit.specs.Last.{AddsLast, NamesLast, AreChanged, AreEdited, NamesEdited};
@@ -48,15 +49,11 @@ pub fn add_last<H: BlockStore, A: Allocator>(
     requires sized { length block.old ≡ H.size hash_store.old }
     requires fell { change.now.new.blocks < change.now.old.blocks }
     ensures added { OnOk result (AddsLast (size_of algorithm) (change.now.new.blocks - 1) leaves.old.items leaves.new.items) }
-    ensures named { OnOk result (H.tells hash_store.old ≡ true → NamesLast change.now (H.content hash_store.old) leaves.old.items leaves.new.items) }
-    ensures error { IfErr result (λ fault. (fault ≡ EditFault.NoMemory) ⊎ ((fault ≡ EditFault.Store Which.Hash) × (H.failures hash_store.old < H.failures hash_store.new))) }
-    ensures unfailed { OnOk result (H.failures hash_store.new ≡ H.failures hash_store.old) }
-    ensures failures { H.failures hash_store.old ≤ H.failures hash_store.new }
+    ensures named { OnOk result (H.tells hash_store.old ≡ true
+        → NamesLast change.now (H.content hash_store.old) leaves.old.items leaves.new.items) }
+    ensures fails { PlansOrFails result (H.failures hash_store.old) (H.failures hash_store.new) }
     ensures reads { H.reads hash_store.new ≤ H.reads hash_store.old + 1 }
-    ensures content { H.content hash_store.new ≡ H.content hash_store.old }
-    ensures tells { H.tells hash_store.new ≡ H.tells hash_store.old }
-    ensures size { H.size hash_store.new ≡ H.size hash_store.old }
-    ensures room { H.room hash_store.new ≡ H.room hash_store.old }
+    ensures read_only { IsOnlyRead H.BlockStore hash_store.old hash_store.new }
 {
     let _shaped = change.old.levels();
     let _some = change.new.blocks();
@@ -94,17 +91,13 @@ pub fn add_fallen<H: BlockStore, A: Allocator + Copy>(
     requires leaves_sized { AreSized (size_of algorithm) leaves.old.items }
     requires leaves_within { AreWithin change.now.new.blocks leaves.old.items }
     ensures edited { OnOk result (AreEdited pending.now leaves.new.items) }
-    ensures named { OnOk result (H.tells hash_store.old ≡ true → NamesEdited change.now (H.content hash_store.old) pending.now leaves.old.items leaves.new.items) }
+    ensures named { OnOk result (H.tells hash_store.old ≡ true
+        → NamesEdited change.now (H.content hash_store.old) pending.now leaves.old.items leaves.new.items) }
     ensures edited_sized { OnOk result (AreSized (size_of algorithm) leaves.new.items) }
     ensures edited_within { OnOk result (AreWithin change.now.new.blocks leaves.new.items) }
-    ensures error { IfErr result (λ fault. (fault ≡ EditFault.NoMemory) ⊎ ((fault ≡ EditFault.Store Which.Hash) × (H.failures hash_store.old < H.failures hash_store.new))) }
-    ensures unfailed { OnOk result (H.failures hash_store.new ≡ H.failures hash_store.old) }
-    ensures failures { H.failures hash_store.old ≤ H.failures hash_store.new }
+    ensures fails { PlansOrFails result (H.failures hash_store.old) (H.failures hash_store.new) }
     ensures reads { change.now.new.blocks ≡ change.now.old.blocks → H.reads hash_store.new ≡ H.reads hash_store.old }
-    ensures content { H.content hash_store.new ≡ H.content hash_store.old }
-    ensures tells { H.tells hash_store.new ≡ H.tells hash_store.old }
-    ensures size { H.size hash_store.new ≡ H.size hash_store.old }
-    ensures room { H.room hash_store.new ≡ H.room hash_store.old }
+    ensures read_only { IsOnlyRead H.BlockStore hash_store.old hash_store.new }
 {
     pending.facts();
     if pending.keeps_last() {

@@ -1,7 +1,10 @@
 //! One level of the tree that is made again.
-ghost use Rattle.std.specs.Prelude.{◌≡◌, ℕ, ◌+◌, ◌*◌, ◌^◌, ◌<◌, ◌≤◌, true, List, [], ◌∷◌, length, map, slice_index, slice_index_or, ◌++◌, ◌⊎◌, OnOk, OnErr, IfErr, IfOk, IfSome};
+ghost use Rattle.std.specs.Prelude.{◌≡◌, ℕ, ◌+◌, ◌*◌, ◌<◌, ◌≤◌, true, List, [], ◌∷◌, length};
+ghost use Rattle.std.specs.Prelude.{map, slice_index, slice_index_or, ◌++◌, OnOk, IfOk, IfSome};
 ghost use Rattle.verity_digest.specs.Tree.{pack};
 ghost use Rattle.verity_digest.specs.Hash.{hashing, size_of};
+ghost use Rattle.verity_store.specs.Stores.{IsOnlyRead, TellsFailure};
+ghost use Rattle.verity_edit.specs.Faults.{PlansOrFails};
 ghost use Rattle.verity_edit.specs.Slots.{slots, AreSized};
 ghost use Rattle.verity_edit.specs.Plan.{numbers_of, places, ArePlanned, AddsPlanned, AddsChild, made_blocks, made_digests};
 
@@ -49,17 +52,13 @@ fn read_old<H: BlockStore>(
 ) -> Result<(), StoreFault>
     requires level { IsLevel level.now (length (H.content hash_store.old)) (H.size hash_store.old) level.now.digest_size }
     requires sized { length block.old ≡ H.size hash_store.old }
-    ensures read { OnOk result (H.tells hash_store.old ≡ true → index < level.now.old.len → block.new ≡ slice_index_or (H.content hash_store.old) (level.now.old.start + index) []) }
+    ensures read { OnOk result (H.tells hash_store.old ≡ true → index < level.now.old.len
+        → block.new ≡ slice_index_or (H.content hash_store.old) (level.now.old.start + index) []) }
     ensures first { OnOk result (level.now.old.len ≤ index → index ≡ 0
         → IfSome level.now.old.first (λ digest. slice_index_or (slots level.now.digest_size level.now.per_block block.new) 0 [] ≡ digest)) }
-    ensures failed { OnErr result (H.failures hash_store.old < H.failures hash_store.new) }
-    ensures unfailed { OnOk result (H.failures hash_store.new ≡ H.failures hash_store.old) }
-    ensures failures { H.failures hash_store.old ≤ H.failures hash_store.new }
+    ensures fails { TellsFailure result (H.failures hash_store.old) (H.failures hash_store.new) }
     ensures reads { H.reads hash_store.new ≤ H.reads hash_store.old + 1 }
-    ensures content { H.content hash_store.new ≡ H.content hash_store.old }
-    ensures tells { H.tells hash_store.new ≡ H.tells hash_store.old }
-    ensures size { H.size hash_store.new ≡ H.size hash_store.old }
-    ensures room { H.room hash_store.new ≡ H.room hash_store.old }
+    ensures read_only { IsOnlyRead H.BlockStore hash_store.old hash_store.new }
 {
     let _len = hash_store.len();
     if index < level.old.len {
@@ -87,20 +86,17 @@ fn make_again<H: BlockStore, A: Allocator>(
     requires children { AreChildren level.now children.now }
     requires sized { length block.old ≡ H.size hash_store.old }
     requires index { index * level.now.per_block < level.now.digests }
-    ensures made { IfOk result (λ digest. H.tells hash_store.old ≡ true → (old new : List (List ℕ)) → let h = hashing hasher.old.salted (length block.old) in
-        length new ≡ level.now.digests → Holds h old level.now.old (H.content hash_store.old) → Renews level.now.digest_size old new children.now
+    ensures made { IfOk result (λ digest. H.tells hash_store.old ≡ true → (old new : List (List ℕ))
+        → let h = hashing hasher.old.salted (length block.old) in
+        length new ≡ level.now.digests → Holds h old level.now.old (H.content hash_store.old)
+        → Renews level.now.digest_size old new children.now
         → (block.new ≡ slice_index_or (pack h new) index []) × (digest ≡ h.digest (slice_index_or (pack h new) index []))) }
     ensures digest_size { IfOk result (λ digest. length digest ≡ level.now.digest_size) }
     ensures salted { hasher.new.salted ≡ hasher.old.salted }
     ensures hashed { OnOk result (hasher.new.hashed ≡ hasher.old.hashed + 1) }
-    ensures failed { OnErr result (H.failures hash_store.old < H.failures hash_store.new) }
-    ensures unfailed { OnOk result (H.failures hash_store.new ≡ H.failures hash_store.old) }
-    ensures failures { H.failures hash_store.old ≤ H.failures hash_store.new }
+    ensures fails { TellsFailure result (H.failures hash_store.old) (H.failures hash_store.new) }
     ensures reads { H.reads hash_store.new ≤ H.reads hash_store.old + 1 }
-    ensures content { H.content hash_store.new ≡ H.content hash_store.old }
-    ensures tells { H.tells hash_store.new ≡ H.tells hash_store.old }
-    ensures size { H.size hash_store.new ≡ H.size hash_store.old }
-    ensures room { H.room hash_store.new ≡ H.room hash_store.old }
+    ensures read_only { IsOnlyRead H.BlockStore hash_store.old hash_store.new }
 {
     read_old(hash_store, level, index, block)?;
     let per_block = level.per_block;
@@ -126,21 +122,19 @@ fn make_block<H: BlockStore, A: Allocator + Copy>(
     requires children { AreChildren level.now children.now }
     requires sized { length block.old ≡ H.size hash_store.old }
     requires index { index * level.now.per_block < level.now.digests }
-    ensures made { OnOk result (H.tells hash_store.old ≡ true → (old new : List (List ℕ)) → let h = hashing hasher.old.salted (length block.old) in
-        length new ≡ level.now.digests → Holds h old level.now.old (H.content hash_store.old) → Renews level.now.digest_size old new children.now
-        → (plan.new.items ≡ plan.old.items ++ made_blocks h new level.now.start (index ∷ [])) × (next.new.items ≡ next.old.items ++ made_digests h new (index ∷ []))) }
+    ensures made { OnOk result (H.tells hash_store.old ≡ true → (old new : List (List ℕ))
+        → let h = hashing hasher.old.salted (length block.old) in
+        length new ≡ level.now.digests → Holds h old level.now.old (H.content hash_store.old)
+        → Renews level.now.digest_size old new children.now
+        → (plan.new.items ≡ plan.old.items ++ made_blocks h new level.now.start (index ∷ []))
+        × (next.new.items ≡ next.old.items ++ made_digests h new (index ∷ []))) }
     ensures planned { OnOk result (AddsPlanned (length block.old) plan.old.items plan.new.items (level.now.start + index)) }
     ensures next { OnOk result (AddsChild level.now.digest_size next.old.items next.new.items index) }
     ensures salted { hasher.new.salted ≡ hasher.old.salted }
     ensures hashed { OnOk result (hasher.new.hashed ≡ hasher.old.hashed + 1) }
-    ensures error { IfErr result (λ fault. (fault ≡ EditFault.NoMemory) ⊎ ((fault ≡ EditFault.Store Which.Hash) × (H.failures hash_store.old < H.failures hash_store.new))) }
-    ensures unfailed { OnOk result (H.failures hash_store.new ≡ H.failures hash_store.old) }
-    ensures failures { H.failures hash_store.old ≤ H.failures hash_store.new }
+    ensures fails { PlansOrFails result (H.failures hash_store.old) (H.failures hash_store.new) }
     ensures reads { H.reads hash_store.new ≤ H.reads hash_store.old + 1 }
-    ensures content { H.content hash_store.new ≡ H.content hash_store.old }
-    ensures tells { H.tells hash_store.new ≡ H.tells hash_store.old }
-    ensures size { H.size hash_store.new ≡ H.size hash_store.old }
-    ensures room { H.room hash_store.new ≡ H.room hash_store.old }
+    ensures read_only { IsOnlyRead H.BlockStore hash_store.old hash_store.new }
 {
     let Ok(digest) = make_again(hash_store, hasher, level, children, index, block) else {
         return Err(EditFault::Store(Which::Hash));
@@ -177,23 +171,21 @@ pub fn make_level<H: BlockStore, A: Allocator + Copy>(
     requires children { AreChildren level.now children.now }
     requires sized { length block.old ≡ H.size hash_store.old }
     requires below { (t : ℕ) → t < length numbers.now → slice_index numbers.now t * level.now.per_block < level.now.digests }
-    ensures made { IfOk result (λ next. H.tells hash_store.old ≡ true → (old new : List (List ℕ)) → let h = hashing hasher.old.salted (length block.old) in
-        length new ≡ level.now.digests → Holds h old level.now.old (H.content hash_store.old) → Renews level.now.digest_size old new children.now
-        → (plan.new.items ≡ plan.old.items ++ made_blocks h new level.now.start numbers.now) × (next.items ≡ made_digests h new numbers.now)) }
+    ensures made { IfOk result (λ next. H.tells hash_store.old ≡ true → (old new : List (List ℕ))
+        → let h = hashing hasher.old.salted (length block.old) in
+        length new ≡ level.now.digests → Holds h old level.now.old (H.content hash_store.old)
+        → Renews level.now.digest_size old new children.now
+        → (plan.new.items ≡ plan.old.items ++ made_blocks h new level.now.start numbers.now)
+        × (next.items ≡ made_digests h new numbers.now)) }
     ensures numbers { IfOk result (λ next. numbers_of next.items ≡ numbers.now) }
     ensures next_sized { IfOk result (λ next. AreSized level.now.digest_size next.items) }
     ensures places { OnOk result (places plan.new.items ≡ places plan.old.items ++ map (λ i. level.now.start + i) numbers.now) }
     ensures planned { OnOk result (ArePlanned (length block.old) plan.old.items → ArePlanned (length block.old) plan.new.items) }
     ensures salted { hasher.new.salted ≡ hasher.old.salted }
     ensures hashed { OnOk result (hasher.new.hashed ≡ hasher.old.hashed + length numbers.now) }
-    ensures error { IfErr result (λ fault. (fault ≡ EditFault.NoMemory) ⊎ ((fault ≡ EditFault.Store Which.Hash) × (H.failures hash_store.old < H.failures hash_store.new))) }
-    ensures unfailed { OnOk result (H.failures hash_store.new ≡ H.failures hash_store.old) }
-    ensures failures { H.failures hash_store.old ≤ H.failures hash_store.new }
+    ensures fails { PlansOrFails result (H.failures hash_store.old) (H.failures hash_store.new) }
     ensures reads { H.reads hash_store.new ≤ H.reads hash_store.old + length numbers.now }
-    ensures content { H.content hash_store.new ≡ H.content hash_store.old }
-    ensures tells { H.tells hash_store.new ≡ H.tells hash_store.old }
-    ensures size { H.size hash_store.new ≡ H.size hash_store.old }
-    ensures room { H.room hash_store.new ≡ H.room hash_store.old }
+    ensures read_only { IsOnlyRead H.BlockStore hash_store.old hash_store.new }
 {
     let mut next = Vec::new(alloc);
     for index in numbers {

@@ -1,11 +1,13 @@
 //! The plan of a commit: all that it reads and hashes and all memory that it takes, before the first change.
-ghost use Rattle.std.specs.Prelude.{◌≡◌, ℕ, ◌+◌, ◌-◌, ◌^◌, ◌<◌, ◌≤◌, true, List, [], length, drop, replicate, IfErr, IfOk, OnOk, ◌⊎◌};
+ghost use Rattle.std.specs.Prelude.{◌≡◌, ℕ, ◌+◌, ◌^◌, ◌≤◌, true, List, length, drop, replicate, IfErr, IfOk};
 ghost use Rattle.verity_digest.specs.Hash.{size_of, hashing};
 ghost use Rattle.verity_digest.specs.Tree.{root, tree};
 ghost use Rattle.verity_geometry.specs.Geometry.{IsShape, digests_per_block, levels_of, total_of};
 ghost use Rattle.verity_profile.specs.Profile.{IsBlockCount, zero_block};
 ghost use Rattle.verity_superblock.specs.Superblock.{salted};
 ghost use Rattle.verity_superblock.specs.Image.{superblock_block};
+ghost use Rattle.verity_store.specs.Stores.{IsOnlyRead};
+ghost use Rattle.verity_edit.specs.Faults.{PlansOrFails};
 ghost use Rattle.verity_edit.specs.Draft.{edits_of};
 ghost use Rattle.verity_edit.specs.Touched.{bound, touched_count};
 ghost use Rattle.verity_edit.specs.Plan.{ArePlanned};
@@ -43,7 +45,7 @@ pub struct CommitPlan<A: Allocator> {
     pub zero: Vec<u8, A>,
 }
 
-ghost use Rattle.verity_edit.specs.Planning.{volume_shape, change_of, IsPlan, IsRight, ReadsTouched};
+ghost use Rattle.verity_edit.specs.Planning.{volume_shape, IsPlan, IsRight, ReadsTouched};
 
 /// So many zero bytes.
 pub fn zeros<A: Allocator>(alloc: A, len: usize) -> Result<Vec<u8, A>, EditFault>
@@ -140,30 +142,29 @@ fn plan_tree<H: BlockStore, A: Allocator + Copy>(
     zero: &[u8],
     block: &mut [u8],
 ) -> Result<NewTree<A>, EditFault>
-    requires change { IsChange change.now (length (H.content hash_store.old)) (H.size hash_store.old) (size_of hasher.old.salted.algorithm) }
+    requires change { IsChange change.now (length (H.content hash_store.old)) (H.size hash_store.old)
+        (size_of hasher.old.salted.algorithm) }
     requires committed { pending.now.committed ≡ change.now.old.blocks }
     requires working { pending.now.working ≡ change.now.new.blocks }
     requires zero { zero.now ≡ zero_block pending.now.size }
     requires sized { length block.old ≡ H.size hash_store.old }
     ensures right { IfOk result (λ plan. H.tells hash_store.old ≡ true → (image : List (List ℕ)) → length image ≡ pending.now.committed
-        → let h = hashing hasher.old.salted (length block.old) in BeginsWith (drop change.now.first (H.content hash_store.old)) (tree h image) → change.now.root ≡ root h image
-        → (plan.made.items ≡ touched_blocks h (edits_of image pending.now) change.now.first change.now.new.blocks (levels_of change.now.new))
+        → let h = hashing hasher.old.salted (length block.old) in BeginsWith (drop change.now.first (H.content hash_store.old))
+        (tree h image) → change.now.root ≡ root h image
+        → (plan.made.items ≡ touched_blocks h (edits_of image pending.now) change.now.first change.now.new.blocks
+        (levels_of change.now.new))
         × (plan.root ≡ root h (edits_of image pending.now).working)) }
     ensures planned { IfOk result (λ plan. ArePlanned (length block.old) plan.made.items) }
     ensures places { IfOk result (λ plan. AreInTree change.now.first (total_of change.now.new) plan.made.items) }
     ensures root_size { IfOk result (λ plan. length plan.root ≡ size_of hasher.old.salted.algorithm) }
-    ensures hashed { IfOk result (λ plan. (image : List (List ℕ)) → length image ≡ pending.now.committed → plan.hashed ≡ bound (digests_per_block change.now.new) (edits_of image pending.now)) }
+    ensures hashed { IfOk result (λ plan. (image : List (List ℕ)) → length image ≡ pending.now.committed
+        → plan.hashed ≡ bound (digests_per_block change.now.new) (edits_of image pending.now)) }
     ensures counted { IfOk result (λ plan. hasher.new.hashed ≡ hasher.old.hashed + plan.hashed) }
     ensures salted { hasher.new.salted ≡ hasher.old.salted }
-    ensures error { IfErr result (λ fault. (fault ≡ EditFault.NoMemory) ⊎ ((fault ≡ EditFault.Store Which.Hash) × (H.failures hash_store.old < H.failures hash_store.new))) }
-    ensures unfailed { OnOk result (H.failures hash_store.new ≡ H.failures hash_store.old) }
-    ensures failures { H.failures hash_store.old ≤ H.failures hash_store.new }
+    ensures fails { PlansOrFails result (H.failures hash_store.old) (H.failures hash_store.new) }
     ensures reads { (image : List (List ℕ)) → length image ≡ pending.now.committed → change.now.new.blocks ≡ change.now.old.blocks
         → H.reads hash_store.new ≤ H.reads hash_store.old + touched_count (digests_per_block change.now.new) (edits_of image pending.now) }
-    ensures content { H.content hash_store.new ≡ H.content hash_store.old }
-    ensures tells { H.tells hash_store.new ≡ H.tells hash_store.old }
-    ensures size { H.size hash_store.new ≡ H.size hash_store.old }
-    ensures room { H.room hash_store.new ≡ H.room hash_store.old }
+    ensures read_only { IsOnlyRead H.BlockStore hash_store.old hash_store.new }
 {
     pending.facts();
     let algorithm = hasher.algorithm();
@@ -198,16 +199,13 @@ pub fn plan_commit<H: BlockStore, A: Allocator + Copy>(
     requires root_size { length root ≡ size_of superblock.now.params.algorithm }
     requires within { first + total_of (volume_shape superblock.now.params superblock.now.data_blocks) ≤ length (H.content hash_store.old) }
     ensures plan { IfOk result (λ plan. IsPlan superblock.now pending.now first root plan) }
-    ensures right { IfOk result (λ plan. H.tells hash_store.old ≡ true → IsRight superblock.now pending.now first root (H.content hash_store.old) plan) }
+    ensures right { IfOk result (λ plan. H.tells hash_store.old ≡ true
+        → IsRight superblock.now pending.now first root (H.content hash_store.old) plan) }
     ensures counted { IfOk result (λ plan. hasher.new.hashed ≡ hasher.old.hashed + plan.hashed) }
     ensures salted { hasher.new.salted ≡ hasher.old.salted }
-    ensures error { IfErr result (λ fault. (fault ≡ EditFault.NoMemory) ⊎ ((fault ≡ EditFault.Store Which.Hash) × (H.failures hash_store.old < H.failures hash_store.new))) }
-    ensures unfailed { OnOk result (H.failures hash_store.new ≡ H.failures hash_store.old) }
-    ensures failures { H.failures hash_store.old ≤ H.failures hash_store.new }
+    ensures fails { PlansOrFails result (H.failures hash_store.old) (H.failures hash_store.new) }
     ensures reads { ReadsTouched superblock.now pending.now (H.reads hash_store.old) (H.reads hash_store.new) }
-    ensures content { H.content hash_store.new ≡ H.content hash_store.old }
-    ensures tells { H.tells hash_store.new ≡ H.tells hash_store.old }
-    ensures size { H.size hash_store.new ≡ H.size hash_store.old }
+    ensures read_only { IsOnlyRead H.BlockStore hash_store.old hash_store.new }
 {
     let blocks = pending.blocks();
     let change = Change {

@@ -1,9 +1,11 @@
 //! The tree that a commit makes again, level by level.
-ghost use Rattle.std.specs.Prelude.{◌≡◌, ℕ, suc, ◌+◌, ◌^◌, ◌<◌, ◌≤◌, true, List, [], ◌++◌, length, map, IfOk, IfErr, OnOk, ◌⊎◌};
+ghost use Rattle.std.specs.Prelude.{◌≡◌, ℕ, suc, ◌+◌, ◌^◌, ◌<◌, ◌≤◌, true, List, [], ◌++◌, length, map, IfOk, OnOk};
 ghost use Rattle.verity_digest.specs.Tree.{root};
 ghost use Rattle.verity_digest.specs.Hash.{hashing, size_of};
 ghost use Rattle.verity_digest.specs.Shape.{row_len};
 ghost use Rattle.verity_geometry.specs.Geometry.{digests_per_block, levels_of, start_of};
+ghost use Rattle.verity_store.specs.Stores.{IsOnlyRead};
+ghost use Rattle.verity_edit.specs.Faults.{PlansOrFails};
 ghost use Rattle.verity_edit.specs.Parents.{parents};
 ghost use Rattle.verity_edit.specs.Level.{Holds, Renews};
 ghost use Rattle.verity_edit.specs.Edits.{Edits};
@@ -100,32 +102,34 @@ fn make_next<H: BlockStore, A: Allocator + Copy>(
     block: &mut [u8],
     plan: &mut Vec<Made<A>, A>,
 ) -> Result<Vec<Child, A>, EditFault>
-    requires change { IsChange change.now (length (H.content hash_store.old)) (H.size hash_store.old) (size_of hasher.old.salted.algorithm) }
+    requires change { IsChange change.now (length (H.content hash_store.old)) (H.size hash_store.old)
+        (size_of hasher.old.salted.algorithm) }
     requires there { level < levels_of change.now.new }
     requires sized { length block.old ≡ H.size hash_store.old }
     requires children_sized { AreSized (size_of hasher.old.salted.algorithm) children.now }
     requires children_within { AreWithin (row_len (digests_per_block change.now.new) change.now.new.blocks level) children.now }
-    ensures made { IfOk result (λ next. H.tells hash_store.old ≡ true → (old new : List (List ℕ)) → let h = hashing hasher.old.salted (length block.old) in
+    ensures made { IfOk result (λ next. H.tells hash_store.old ≡ true → (old new : List (List ℕ))
+        → let h = hashing hasher.old.salted (length block.old) in
         length new ≡ row_len (digests_per_block change.now.new) change.now.new.blocks level
         → Holds h old (level_of change.now level).old (H.content hash_store.old) → Renews h.digest_size old new children.now
         → let up = parents (digests_per_block change.now.new) (numbers_of children.now) in
-        (plan.new.items ≡ plan.old.items ++ made_blocks h new (change.now.first + start_of change.now.new level) up) × (next.items ≡ made_digests h new up)) }
+        (plan.new.items ≡ plan.old.items ++ made_blocks h new (change.now.first + start_of change.now.new level) up)
+        × (next.items ≡ made_digests h new up)) }
     ensures numbers { IfOk result (λ next. numbers_of next.items ≡ parents (digests_per_block change.now.new) (numbers_of children.now)) }
-    ensures next_within { IfOk result (λ next. AreWithin (row_len (digests_per_block change.now.new) change.now.new.blocks (suc level)) next.items) }
+    ensures next_within { IfOk result (λ next. AreWithin (row_len (digests_per_block change.now.new) change.now.new.blocks
+        (suc level)) next.items) }
     ensures next_sized { IfOk result (λ next. AreSized (size_of hasher.old.salted.algorithm) next.items) }
     ensures places { OnOk result (places plan.new.items ≡ places plan.old.items
-        ++ map (λ i. change.now.first + start_of change.now.new level + i) (parents (digests_per_block change.now.new) (numbers_of children.now))) }
+        ++ map (λ i. change.now.first + start_of change.now.new level + i)
+        (parents (digests_per_block change.now.new) (numbers_of children.now))) }
     ensures planned { OnOk result (ArePlanned (length block.old) plan.old.items → ArePlanned (length block.old) plan.new.items) }
     ensures salted { hasher.new.salted ≡ hasher.old.salted }
-    ensures hashed { OnOk result (hasher.new.hashed ≡ hasher.old.hashed + length (parents (digests_per_block change.now.new) (numbers_of children.now))) }
-    ensures error { IfErr result (λ fault. (fault ≡ EditFault.NoMemory) ⊎ ((fault ≡ EditFault.Store Which.Hash) × (H.failures hash_store.old < H.failures hash_store.new))) }
-    ensures unfailed { OnOk result (H.failures hash_store.new ≡ H.failures hash_store.old) }
-    ensures failures { H.failures hash_store.old ≤ H.failures hash_store.new }
-    ensures reads { H.reads hash_store.new ≤ H.reads hash_store.old + length (parents (digests_per_block change.now.new) (numbers_of children.now)) }
-    ensures content { H.content hash_store.new ≡ H.content hash_store.old }
-    ensures tells { H.tells hash_store.new ≡ H.tells hash_store.old }
-    ensures size { H.size hash_store.new ≡ H.size hash_store.old }
-    ensures room { H.room hash_store.new ≡ H.room hash_store.old }
+    ensures hashed { OnOk result (hasher.new.hashed
+        ≡ hasher.old.hashed + length (parents (digests_per_block change.now.new) (numbers_of children.now))) }
+    ensures fails { PlansOrFails result (H.failures hash_store.old) (H.failures hash_store.new) }
+    ensures reads { H.reads hash_store.new
+        ≤ H.reads hash_store.old + length (parents (digests_per_block change.now.new) (numbers_of children.now)) }
+    ensures read_only { IsOnlyRead H.BlockStore hash_store.old hash_store.new }
 {
     let made = change.level(level);
     let Ok(numbers) = parents(alloc, children, made.per_block) else {
@@ -158,31 +162,30 @@ pub fn make_tree<H: BlockStore, A: Allocator + Copy>(
     block: &mut [u8],
     plan: &mut Vec<Made<A>, A>,
 ) -> Result<Digest, EditFault>
-    requires change { IsChange change.now (length (H.content hash_store.old)) (H.size hash_store.old) (size_of hasher.old.salted.algorithm) }
+    requires change { IsChange change.now (length (H.content hash_store.old)) (H.size hash_store.old)
+        (size_of hasher.old.salted.algorithm) }
     requires sized { length block.old ≡ H.size hash_store.old }
     requires empty { plan.old.items ≡ [] }
     requires leaves_sized { AreSized (size_of hasher.old.salted.algorithm) leaves.items }
     requires leaves_within { AreWithin change.now.new.blocks leaves.items }
-    ensures made { IfOk result (λ digest. H.tells hash_store.old ≡ true → (e : Edits) → IsEdited e change.now.old.blocks change.now.new.blocks leaves.items
+    ensures made { IfOk result (λ digest. H.tells hash_store.old ≡ true → (e : Edits)
+        → IsEdited e change.now.old.blocks change.now.new.blocks leaves.items
         → let h = hashing hasher.old.salted (length block.old) in
         StandsFor h e change.now.first (H.content hash_store.old) change.now.root leaves.items
-        → (plan.new.items ≡ touched_blocks h e change.now.first change.now.new.blocks (levels_of change.now.new)) × (digest ≡ root h e.working)) }
+        → (plan.new.items ≡ touched_blocks h e change.now.first change.now.new.blocks (levels_of change.now.new))
+        × (digest ≡ root h e.working)) }
     ensures places { OnOk result ((e : Edits) → IsEdited e change.now.old.blocks change.now.new.blocks leaves.items
-        → places plan.new.items ≡ touched_places (digests_per_block change.now.new) e change.now.first change.now.new.blocks (levels_of change.now.new)) }
+        → places plan.new.items ≡ touched_places (digests_per_block change.now.new) e change.now.first change.now.new.blocks
+        (levels_of change.now.new)) }
     ensures planned { OnOk result (ArePlanned (length block.old) plan.new.items) }
     ensures digest_size { IfOk result (λ digest. length digest ≡ size_of hasher.old.salted.algorithm) }
     ensures salted { hasher.new.salted ≡ hasher.old.salted }
     ensures hashed { OnOk result ((e : Edits) → IsEdited e change.now.old.blocks change.now.new.blocks leaves.items
         → hasher.new.hashed ≡ hasher.old.hashed + touched_count (digests_per_block change.now.new) e) }
-    ensures error { IfErr result (λ fault. (fault ≡ EditFault.NoMemory) ⊎ ((fault ≡ EditFault.Store Which.Hash) × (H.failures hash_store.old < H.failures hash_store.new))) }
-    ensures unfailed { OnOk result (H.failures hash_store.new ≡ H.failures hash_store.old) }
-    ensures failures { H.failures hash_store.old ≤ H.failures hash_store.new }
+    ensures fails { PlansOrFails result (H.failures hash_store.old) (H.failures hash_store.new) }
     ensures reads { (e : Edits) → IsEdited e change.now.old.blocks change.now.new.blocks leaves.items
         → H.reads hash_store.new ≤ H.reads hash_store.old + touched_count (digests_per_block change.now.new) e }
-    ensures content { H.content hash_store.new ≡ H.content hash_store.old }
-    ensures tells { H.tells hash_store.new ≡ H.tells hash_store.old }
-    ensures size { H.size hash_store.new ≡ H.size hash_store.old }
-    ensures room { H.room hash_store.new ≡ H.room hash_store.old }
+    ensures read_only { IsOnlyRead H.BlockStore hash_store.old hash_store.new }
 {
     let mut children = leaves;
     for level in 0..change.new.levels() {

@@ -14,8 +14,6 @@
 mod fault;
 mod geometry;
 pub mod laws;
-#[cfg(test)]
-mod tests;
 
 pub use fault::GeometryFault;
 pub use geometry::Geometry;

@@ -1,5 +1,5 @@
 -- What a verifier's answer says as an export's.
-use Rattle.std.proofs.Common.{◌≢◌, Result, Ok, Err, OnOk, IfErr}
+use Rattle.std.proofs.Common.{◌≡◌, ◌≢◌, Result, Ok, Err, OnOk, IfErr, refl}
 use Rattle.std.specs.Result.{IsErrOf}
 use Rattle.nbd_session.specs.declared.export.ExportFault.TheVariants as export
 use Rattle.verity_check.specs.declared.fault.CheckFault.{CheckFault}
@@ -23,3 +23,12 @@ io_answer (Err (check.Mismatch place)) P Q R f p q is = f (check.Mismatch place)
 io_answer (Err (check.Store which)) P Q R f p q is = f (check.Store which) (λ e. let no : ⊥ = cc in no) p q
 io_answer (Err check.Lengths) P Q R f p q is = f check.Lengths (λ e. let no : ⊥ = cc in no) p q
 io_answer (Err check.CacheSize) P Q R f p q is = f check.CacheSize (λ e. let no : ⊥ = cc in no) p q
+
+-- NoMemory comes of want of memory alone
+pub lack_answer : (a : Result (Unit {0}) CheckFault) (R : Type 0) → IfErr a (λ fault. fault ≡ check.NoMemory → R) → IsErrOf (answer_of a) export.NoMemory → R
+lack_answer (Ok x) R f is = absurd (let no : ⊥ = cc in no)
+lack_answer (Err check.NoMemory) R f is = f refl
+lack_answer (Err (check.Mismatch place)) R f is = absurd (let no : ⊥ = cc in no)
+lack_answer (Err (check.Store which)) R f is = absurd (let no : ⊥ = cc in no)
+lack_answer (Err check.Lengths) R f is = absurd (let no : ⊥ = cc in no)
+lack_answer (Err check.CacheSize) R f is = absurd (let no : ⊥ = cc in no)

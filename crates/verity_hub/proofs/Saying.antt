@@ -15,16 +15,15 @@ use Rattle.verity_hub.specs.Volume.{HoldsFor, facts_of, IsExactFor, IsRightFor, 
 use Rattle.verity_hub.proofs.VolumeLaws.{given_right}
 
 module _ {D H : Type 0} (data_facts : store.Ghosts D) (hash_facts : store.Ghosts H) where
-  pub says_right : ((s : D) (n : ℕ) (b : List ℕ) → data_facts.gave s n b → length b ≡ data_facts.size s) → ((s : H) (n : ℕ) (b : List ℕ) → hash_facts.gave s n b → length b ≡ hash_facts.size s)
-      → (v w : Verifying D H) → IsVerifier data_facts hash_facts w → (image : List (List ℕ)) → Fits w.table image → (offer : Offer) (input said : List ℕ)
+  pub says_right : (v w : Verifying D H) → IsVerifier data_facts hash_facts w → (image : List (List ℕ)) → Fits w.table image → (offer : Offer) (input said : List ℕ)
       → Talked (facts_of data_facts hash_facts v) (facts_of data_facts hash_facts w) offer input said → SaysRight data_facts hash_facts w image offer input said
-  says_right data_sized hash_sized v w ok image fits offer input said t =
+  says_right v w ok image fits offer input said t =
       let a = facts_of data_facts hash_facts v in
       let b = facts_of data_facts hash_facts w in
       record {
         verdicts = t.verdicts;
         judged = Judged-weaker (Fair a b) (IsRightFor data_facts hash_facts w image) (hear offer Flags input).answers t.verdicts
-            (λ o l x f. given_right data_facts hash_facts data_sized hash_sized w ok image fits o l x (Fair-Given a b o l x f)) t.judged;
+            (λ o l x f. given_right data_facts hash_facts w ok image fits o l x (Fair-Given a b o l x f)) t.judged;
         exact = t.exact;
       }
 

@@ -1,5 +1,5 @@
 -- What reads leave of a verifier's facts, and what its answers say as an export's.
-use Rattle.std.proofs.Common.{◌≡◌, ◌≢◌, ◌⊎◌, ◌<◌, ◌≤◌, ◌+◌, ◌*◌, ℕ, true, List, length, take, drop, inl, inr, sym, ap, ◌∙◌, subst, arith}
+use Rattle.std.proofs.Common.{◌≡◌, ◌≢◌, ◌⊎◌, ◌<◌, ◌≤◌, ◌+◌, ◌-◌, ◌*◌, ℕ, true, List, length, take, drop, inl, inr, sym, ap, ◌∙◌, subst, arith}
 use Rattle.verity_digest.specs.Tree.{tree}
 use Rattle.verity_store.specs.declared.store.BlockStore as store
 use Rattle.verity_check.specs.declared.fault.CheckFault.{CheckFault}
@@ -16,10 +16,10 @@ use Rattle.verity_check.proofs.RangeLemmas.{Served-grows}
 use Rattle.verity_check.proofs.RangeLaw.{bytes_right}
 use Rattle.verity_check.proofs.VerifierLemmas.{sized, verifier_after}
 use Rattle.verity_check.proofs.HoldsLaws.{bytes_exact, refusal_failed}
-use Rattle.nbd_session.specs.Export.{Keeps, Served, Failed}
+use Rattle.nbd_session.specs.Export.{Costs, Keeps, Served, Failed}
 use Rattle.nbd_session.specs.Talk.{Verdict, Bytes, Refused}
 use Rattle.nbd_hub.specs.After.{Given as GivenBy}
-use Rattle.verity_hub.specs.Volume.{HoldsFor, failures_of, facts_of, IsRightFor}
+use Rattle.verity_hub.specs.Volume.{HoldsFor, failures_of, reads_of, facts_of, IsRightFor}
 
 module _ {D H : Type 0} (data_facts : store.Ghosts D) (hash_facts : store.Ghosts H) where
   module _ (v w : Verifying D H) (reads : IsOnlyReading data_facts hash_facts v w) where
@@ -69,6 +69,8 @@ module _ {D H : Type 0} (data_facts : store.Ghosts D) (hash_facts : store.Ghosts
       lack = λ offset len x. tt;
       steady = λ content c. (c.0, holds c.0 c.1, c.2);
       failures = let d = reads.data_store.later.failures in let h = reads.hash_store.later.failures in omega arith;
+      reads = let d = reads.data_store.later.reads in let h = reads.hash_store.later.reads in omega arith;
+      cost = λ offset len n x. tt;
     }
 
   -- what stores hold that tell, and are known by their contents
@@ -77,21 +79,20 @@ module _ {D H : Type 0} (data_facts : store.Ghosts D) (hash_facts : store.Ghosts
   holds_at v image data_tell hash_tell content h =
       record { data_tell = data_tell; hash_tell = hash_tell; fits = h.fits; data_begins = ap (take (length image)) content ∙ h.data_begins; tree_begins = h.tree_begins }
 
-  module _ (data_sized : (s : D) (n : ℕ) (b : List ℕ) → data_facts.gave s n b → length b ≡ data_facts.size s) (hash_sized : (s : H) (n : ℕ) (b : List ℕ) → hash_facts.gave s n b → length b ≡ hash_facts.size s) where
-    -- bytes that a verifier served are right for each image that fits its table line
-    pub serves_right : (v : Verifying D H) → IsVerifier data_facts hash_facts v → (image : List (List ℕ)) → Fits v.table image → (offset len : ℕ) (bytes : List ℕ)
-        → ServesBytes v.table (given_to data_facts hash_facts v) offset len bytes → AreRight v.table (given_to data_facts hash_facts v) image offset len bytes
-    serves_right v ok image fits offset len bytes s =
-        bytes_right v.table image ok.table fits (given_to data_facts hash_facts v) (sized data_facts hash_facts data_sized hash_sized v ok) offset len bytes s
+  -- bytes that a verifier served are right for each image that fits its table line
+  pub serves_right : (v : Verifying D H) → IsVerifier data_facts hash_facts v → (image : List (List ℕ)) → Fits v.table image → (offset len : ℕ) (bytes : List ℕ)
+      → ServesBytes v.table (given_to data_facts hash_facts v) offset len bytes → AreRight v.table (given_to data_facts hash_facts v) image offset len bytes
+  serves_right v ok image fits offset len bytes s =
+      bytes_right v.table image ok.table fits (given_to data_facts hash_facts v) (sized data_facts hash_facts v ok) offset len bytes s
 
-    -- so each verdict that it gave is right
-    pub given_right : (v : Verifying D H) → IsVerifier data_facts hash_facts v → (image : List (List ℕ)) → Fits v.table image → (offset len : ℕ) (verdict : Verdict)
-        → GivenBy (facts_of data_facts hash_facts v) offset len verdict → IsRightFor data_facts hash_facts v image offset len verdict
-    given_right v ok image fits offset len (Bytes bytes) g =
-        let P : ℕ → Type 0 = λ n. AreRight v.table (given_to data_facts hash_facts v) image offset n bytes in
-        (g.0, subst P g.0 (serves_right v ok image fits offset (length bytes) bytes g.1))
-    given_right v ok image fits offset len (Refused error) (inl e) = inl e.0
-    given_right v ok image fits offset len (Refused error) (inr e) = inr e
+  -- so each verdict that it gave is right
+  pub given_right : (v : Verifying D H) → IsVerifier data_facts hash_facts v → (image : List (List ℕ)) → Fits v.table image → (offset len : ℕ) (verdict : Verdict)
+      → GivenBy (facts_of data_facts hash_facts v) offset len verdict → IsRightFor data_facts hash_facts v image offset len verdict
+  given_right v ok image fits offset len (Bytes bytes) g =
+      let P : ℕ → Type 0 = λ n. AreRight v.table (given_to data_facts hash_facts v) image offset n bytes in
+      (g.0, subst P g.0 (serves_right v ok image fits offset (length bytes) bytes g.1))
+  given_right v ok image fits offset len (Refused error) (inl e) = inl e.0
+  given_right v ok image fits offset len (Refused error) (inr e) = inr e
 
   module _ (v w : Verifying D H) (was : IsVerifier data_facts hash_facts v) (reads : IsOnlyReading data_facts hash_facts v w) where
     ok : IsVerifier data_facts hash_facts w
@@ -104,8 +105,14 @@ module _ {D H : Type 0} (data_facts : store.Ghosts D) (hash_facts : store.Ghosts
         record {
           exact = s.whole;
           given = subst P (sym s.whole) s;
-          content = λ content c. bytes_exact data_facts hash_facts w.table ok.table w.data_store w.hash_store c.0 (holds v w reads c.0 c.1) offset len bytes s ∙ ap (λ x. take len (drop offset x)) (sym c.2);
+          content = λ content c. bytes_exact data_facts hash_facts w.table ok.table w.since w.data_store w.hash_store c.0 (holds v w reads c.0 c.1) offset len bytes s ∙ ap (λ x. take len (drop offset x)) (sym c.2);
         }
+
+    -- what the stores were read
+    pub costs : (offset len : ℕ) → Costs (facts_of data_facts hash_facts v) (facts_of data_facts hash_facts w) offset len
+    costs offset len =
+        let d = reads.data_store.later.reads in let h = reads.hash_store.later.reads in
+        (reads_of data_facts hash_facts w - reads_of data_facts hash_facts v, omega arith, tt)
 
     either_rose : DataFailed data_facts hash_facts v w ⊎ HashFailed data_facts hash_facts v w → failures_of data_facts hash_facts v < failures_of data_facts hash_facts w
     either_rose (inl f) = let l = reads.hash_store.later.failures in omega arith
@@ -116,7 +123,7 @@ module _ {D H : Type 0} (data_facts : store.Ghosts D) (hash_facts : store.Ghosts
         → Refuses w.table (given_to data_facts hash_facts w) (DataFailed data_facts hash_facts v w) (HashFailed data_facts hash_facts v w) offset len fault
         → failures_of data_facts hash_facts v < failures_of data_facts hash_facts w
     rose image h offset len range fault not why =
-        either_rose (refusal_failed data_facts hash_facts w.table ok.table w.data_store w.hash_store image (holds v w reads image h) (DataFailed data_facts hash_facts v w) (HashFailed data_facts hash_facts v w) offset len fault range why not)
+        either_rose (refusal_failed data_facts hash_facts w.table ok.table w.since w.data_store w.hash_store image (holds v w reads image h) (DataFailed data_facts hash_facts v w) (HashFailed data_facts hash_facts v w) offset len fault range why not)
 
     -- a refusal, as an export's
     pub failed : (offset len : ℕ) → offset + len ≤ v.table.data_blocks * v.table.data_block_size → (fault : CheckFault) → fault ≢ faults.NoMemory

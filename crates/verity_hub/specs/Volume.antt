@@ -39,7 +39,11 @@ module _ {D H : Type 0} (data_facts : store.Ghosts D) (hash_facts : store.Ghosts
   abbrev pub failures_of : Verifying D H → ℕ
   failures_of v = data_facts.failures v.data_store + hash_facts.failures v.hash_store
 
-  -- what a session sees of a verifier; memory may be lacked for any range
+  -- how often the two stores were read
+  abbrev pub reads_of : Verifying D H → ℕ
+  reads_of v = data_facts.reads v.data_store + hash_facts.reads v.hash_store
+
+  -- what a session sees of a verifier; memory may be lacked for any range, and a range may cost any number of reads
   abbrev pub facts_of : Verifying D H → Facts
   facts_of v = record {
     size = v.table.data_blocks * v.table.data_block_size;
@@ -49,6 +53,8 @@ module _ {D H : Type 0} (data_facts : store.Ghosts D) (hash_facts : store.Ghosts
     may_lack = λ offset len. Unit {0};
     steady = IsContent v;
     failures = failures_of v;
+    reads = reads_of v;
+    may_cost = λ offset len n. Unit {0};
   }
 
   -- The verdict is right for an image: its bytes, unless a store gave a block that clashes with it; or want of memory; or

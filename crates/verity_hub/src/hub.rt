@@ -1,6 +1,7 @@
 //! Many sessions over one verifier.
 
 ghost use Rattle.std.specs.Prelude.{◌≡◌, ◌≢◌, ◌↔◌, ◌≤◌, ◌<◌, ◌+◌, ◌*◌, ◌++◌, length, List, [], ℕ, Some, None, IfOk, OnOk, OnErr, Err};
+ghost use Rattle.nbd_session.specs.Conversation.{Grows};
 ghost use Rattle.nbd_session.specs.Handshake.{greeting};
 ghost use Rattle.verity_check.specs.Right.{Fits};
 ghost use Rattle.verity_check.specs.Verifier.{IsOnlyReading, IsVerifier};
@@ -90,6 +91,7 @@ impl<D: BlockStore, H: BlockStore, A: Allocator + Copy + Drop> Hub<D, H, A> {
         ensures unknown { OnErr result (lookup id self.old.0.sessions ≡ None) }
         ensures after { IfOk result (λ status. (history : List Step) → IsAfter (facts_of D.BlockStore H.BlockStore self.old.1) self.old.0 history
             → FedAfter (facts_of D.BlockStore H.BlockStore self.new.1) self.new.0 history id piece.now status out.old.items out.new.items) }
+        ensures grows { Grows out.old.items out.new.items }
     {
         self.sessions.feed(id, piece, out)
     }

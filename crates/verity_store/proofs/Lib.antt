@@ -4,3 +4,4 @@ pub mod GivenLemmas
 pub mod MoveLemmas
 pub mod ScriptLemmas
 pub mod StoreLemmas
+pub mod RunLemmas

@@ -9,7 +9,7 @@
 //!
 //! Four stores: `MemStore` in memory and `FileStore` in a file, which are honest; `ScriptStore`, which gives what it was told to
 //! give, and `FailStore`, some of whose calls fail, which are for whoever wants to see what a layer above makes of them.
-//! `move_run` moves a run of blocks within any store.
+//! `move_run` moves a run of blocks within any store, and `read_run` reads one into a buffer.
 //!
 //! Definitions: `specs/Blocks.antt` (lists of blocks), `specs/Moves.antt` (runs that are moved), `specs/Stores.antt` (what
 //! calls leave of a store's facts), `specs/Script.antt` and `specs/Failing.antt` (those two stores), `specs/RawFile.antt` (the
@@ -25,10 +25,9 @@ mod mem_file;
 mod memory;
 mod moves;
 mod raw_file;
+mod runs;
 mod script;
 mod store;
-#[cfg(test)]
-mod tests;
 
 pub use answer::Answer;
 pub use block::Block;
@@ -39,5 +38,6 @@ pub use mem_file::MemFile;
 pub use memory::MemStore;
 pub use moves::move_run;
 pub use raw_file::RawFile;
+pub use runs::read_run;
 pub use script::ScriptStore;
 pub use store::BlockStore;

@@ -22,8 +22,6 @@ mod line;
 mod start;
 mod superblock;
 mod table;
-#[cfg(test)]
-mod tests;
 
 pub use faults::{SuperFault, TableFault};
 pub use start::tree_start;

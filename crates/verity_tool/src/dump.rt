@@ -3,12 +3,14 @@
 use crate::failure::{Failure, Word};
 use crate::fault::Fault;
 use crate::lines::print_superblock;
+use crate::opening::{Access, open_there, whole_store};
 use crate::values::number;
 use crate::words::DumpWords;
+use std::alloc::Global;
 use std::fs::File;
 use std::io::Write;
 use std::rt::Files;
-use verity_store::{BlockStore, FileStore};
+use verity_store::BlockStore;
 use verity_superblock::{SuperFault, Superblock, tree_start};
 
 /// The bytes of a superblock, and of the blocks in which a hash device is read before its own block size is known.
@@ -21,21 +23,18 @@ pub fn dump<R: Files<File = File> + AllocGlobal, W: Write>(
     output: &mut W,
 ) -> Result<(), Failure> {
     let offset = number(Word::HashOffset, words.hash_offset)?;
-    let (superblock, start) = read_superblock(rt, words.hash_path, offset)?;
+    let hash = open_there(rt, words.hash_path, Access::Read)?;
+    let (superblock, start) = read_superblock(rt.alloc(), hash.file, offset)?;
     print_superblock(rt.alloc(), &superblock, start, output)
 }
 
-/// The superblock that stands at a byte offset of the file at a path, and the hash block at which its tree begins. B10
-/// where the offset is no multiple of 512, or of the superblock's own hash blocks; B1 where the file ends before it.
-pub fn read_superblock<R: Files<File = File> + AllocGlobal>(
-    rt: &R,
-    path: &str,
-    offset: u64,
-) -> Result<(Superblock, u64), Fault> {
-    let mut hash_store = FileStore::open(rt, path, SUPERBLOCK_SIZE, false)?;
+/// The superblock that stands at a byte offset of a file, and the hash block at which its tree begins. B10 where the
+/// offset is no multiple of 512, or of the superblock's own hash blocks; B1 where the file ends before it.
+pub fn read_superblock(alloc: Global, file: File, offset: u64) -> Result<(Superblock, u64), Fault> {
+    let mut hash_store = whole_store(file, SUPERBLOCK_SIZE)?;
     let mut bytes = [0; SUPERBLOCK_SIZE];
     read_bytes(&mut hash_store, offset, &mut bytes)?;
-    let superblock = Superblock::decode(rt.alloc(), &bytes)?;
+    let superblock = Superblock::decode(alloc, &bytes)?;
     let start = tree_start(offset, superblock.hash_block_size())?;
     Ok((superblock, start))
 }

@@ -3,22 +3,28 @@
 use crate::dump::read_superblock;
 use crate::failure::{Failure, Word};
 use crate::fault::Fault;
+use crate::identity::check_apart;
 use crate::lines::Devices;
+use crate::opening::{Access, Opened, fault_of, open_there, whole_store};
 use crate::script::{read_script, run_script};
 use crate::values::{check_paths, number};
+use crate::volume_file::VolumeFile;
 use crate::words::EditWords;
+use std::alloc::Global;
 use std::fs::File;
-use std::io;
 use std::io::Write;
 use std::rt::Files;
 use verity_edit::{EditFault, Editor};
 use verity_store::{FileStore, StoreFault};
 use verity_superblock::SuperFault;
 
+/// An editor over two files.
+type FileEditor = Editor<FileStore<VolumeFile>, FileStore<VolumeFile>>;
+
 /// Does the lines of SCRIPT over the volume in DATA and HASH, and prints their answers.
 ///
-/// The words are read first, then the superblock, both files opened (DATA first) with the sizes found there, the volume
-/// opened, and the script read.
+/// The words are read first, then both files opened and told apart, the superblock read, the volume opened, and the
+/// script read.
 pub fn edit<R: Files<File = File> + AllocGlobal, W: Write>(
     rt: &R,
     words: &EditWords<'_>,
@@ -27,24 +33,67 @@ pub fn edit<R: Files<File = File> + AllocGlobal, W: Write>(
     let alloc = rt.alloc();
     check_paths(words.data_path, words.hash_path)?;
     let offset = number(Word::HashOffset, words.hash_offset)?;
-    let (superblock, start) = match read_superblock(rt, words.hash_path, offset) {
-        Ok(found) => found,
-        Err(fault) => return Err(not_a_volume(fault).into()),
-    };
-    let data_store = FileStore::open(rt, words.data_path, superblock.data_block_size(), true)?;
-    let hash_store = FileStore::open(rt, words.hash_path, superblock.hash_block_size(), true)?;
-    let mut editor = match Editor::open_at(alloc, data_store, hash_store, offset) {
-        Ok(editor) => editor,
-        Err(refused) => return Err(refused.fault.into()),
-    };
-    let script = open_script(rt, words.script_path)?;
-    let script = read_script(alloc, &mut &script)?;
+    let (mut editor, hash_start_block) = open_editor(rt, words, offset)?;
+    let script = script_bytes(rt, words.script_path)?;
     let devices = Devices {
         data_path: words.data_path,
         hash_path: words.hash_path,
-        hash_start_block: start,
+        hash_start_block,
     };
     run_script(alloc, &mut editor, devices, &script, output)
+}
+
+/// The editor of the volume whose superblock stands at an offset of HASH, and the hash block at which its tree begins.
+fn open_editor<R: Files<File = File> + AllocGlobal>(
+    rt: &R,
+    words: &EditWords<'_>,
+    offset: u64,
+) -> Result<(FileEditor, u64), Failure> {
+    let (data, hash) = open_both(rt, words)?;
+    let sizes = read_sizes(rt.alloc(), &hash.file, offset)?;
+    let data_store = whole_store(data?.file, sizes.data_block_size)?;
+    let hash_store = whole_store(hash.file, sizes.hash_block_size)?;
+    match Editor::open_at(rt.alloc(), data_store, hash_store, offset) {
+        Ok(editor) => Ok((editor, sizes.hash_start_block)),
+        Err(refused) => Err(refused.fault.into()),
+    }
+}
+
+/// Opens both files. That there is no DATA is told only once HASH was found to hold a superblock.
+fn open_both<R: Files<File = File>>(
+    rt: &R,
+    words: &EditWords<'_>,
+) -> Result<(Result<Opened, StoreFault>, Opened), Failure> {
+    let hash = open_there(rt, words.hash_path, Access::Write)?;
+    let data = open_there(rt, words.data_path, Access::Write);
+    if let Ok(data) = &data {
+        check_apart(data.identity, hash.identity)?;
+    }
+    Ok((data, hash))
+}
+
+/// What a volume's files are opened with.
+#[derive(Clone, Copy)]
+struct Sizes {
+    data_block_size: usize,
+    hash_block_size: usize,
+    hash_start_block: u64,
+}
+
+/// What the superblock at an offset of HASH says of them.
+fn read_sizes(alloc: Global, file: &File, offset: u64) -> Result<Sizes, Failure> {
+    let file = match file.try_clone() {
+        Ok(file) => file,
+        Err(error) => return Err(fault_of(error).into()),
+    };
+    match read_superblock(alloc, file, offset) {
+        Ok((superblock, hash_start_block)) => Ok(Sizes {
+            data_block_size: superblock.data_block_size(),
+            hash_block_size: superblock.hash_block_size(),
+            hash_start_block,
+        }),
+        Err(fault) => Err(not_a_volume(fault).into()),
+    }
 }
 
 /// E12 where no superblock can stand at the offset, E9 where there is none.
@@ -56,13 +105,13 @@ fn not_a_volume(fault: Fault) -> Fault {
     }
 }
 
-/// S1 where the script can't be opened.
-fn open_script<R: Files<File = File>>(rt: &R, path: &str) -> Result<File, Failure> {
+/// The bytes of the script at a path. S1 where it can't be opened or read, or is too long.
+fn script_bytes<R: Files<File = File> + AllocGlobal>(
+    rt: &R,
+    path: &str,
+) -> Result<Vec<u8>, Failure> {
     match File::open(rt, path) {
-        Ok(file) => Ok(file),
-        Err(error) => match error.kind() {
-            io::ErrorKind::OutOfMemory => Err(Failure::NoMemory),
-            _ => Err(StoreFault::Device.into()),
-        },
+        Ok(file) => read_script(rt.alloc(), &mut &file),
+        Err(error) => Err(fault_of(error).into()),
     }
 }

@@ -1,60 +1,149 @@
 //! The command `format`: makes the hash device of a block image.
 
 use crate::failure::{Failure, Word};
+use crate::identity::{Identity, check_apart};
 use crate::lines::{Volume, table_line};
+use crate::opening::{
+    Access, check_block_size, open_or_make, open_there, replaced_store, unmake, whole_store,
+};
 use crate::values::{algorithm, block_size, check_paths, number, salt, salt_bytes, uuid};
+use crate::volume_file::VolumeFile;
 use crate::words::FormatWords;
+use std::alloc::Global;
 use std::fs::File;
 use std::io::Write;
 use std::rt::Files;
+use uuid::Uuid;
 use verity_build::{Params, build_at};
+use verity_digest::{Algorithm, Digest};
 use verity_store::{BlockStore, FileStore, StoreFault};
 use verity_superblock::tree_start;
 
+/// The numbers and names among the words.
+#[derive(Clone, Copy)]
+struct Shape {
+    data_block_size: usize,
+    hash_block_size: usize,
+    hash_offset: u64,
+    algorithm: Algorithm,
+    uuid: Uuid,
+}
+
+/// A hash device that was made: of how many data blocks, where its tree begins, and its root hash.
+#[derive(Clone, Copy)]
+struct Made {
+    data_blocks: u64,
+    hash_start_block: u64,
+    root: Digest,
+}
+
 /// Makes HASH, the hash device of DATA, and prints the table line.
 ///
-/// The words are read first, then the salt is made, DATA opened, HASH created (opened for writing where the
-/// superblock doesn't stand at its beginning), and the device built.
+/// The words are read first, then the salt is made, DATA opened, HASH opened or created, both told apart, and the device
+/// built. What stands in HASH stays until the first block is written. A HASH that was created is removed where none was.
 pub fn format<R: Files<File = File> + AllocGlobal, W: Write>(
     rt: &R,
     words: &FormatWords<'_>,
     output: &mut W,
 ) -> Result<(), Failure> {
-    let alloc = rt.alloc();
     check_paths(words.data_path, words.hash_path)?;
-    let data_block_size = block_size(Word::DataBlockSize, words.data_block_size)?;
-    let hash_block_size = block_size(Word::HashBlockSize, words.hash_block_size)?;
-    let offset = number(Word::HashOffset, words.hash_offset)?;
-    let algorithm = algorithm(words.algorithm)?;
-    let uuid = uuid(words.uuid)?;
-    let bytes = salt_bytes(alloc, words.salt)?;
-    let params = Params::new(salt(alloc, &bytes)?, uuid, algorithm);
-    let mut data_store = FileStore::open(rt, words.data_path, data_block_size, false)?;
-    let mut hash_store = open_hash(rt, words.hash_path, hash_block_size, offset)?;
-    let root = build_at(alloc, &mut data_store, &mut hash_store, &params, offset)?;
-    let volume = Volume {
-        data_path: words.data_path,
-        hash_path: words.hash_path,
-        data_block_size,
-        hash_block_size,
-        data_blocks: data_store.len(),
-        hash_start_block: tree_start(offset, hash_store.block_size())?,
-        salt: &bytes,
-    };
-    let line = table_line(alloc, &volume, root)?;
+    let shape = read_shape(words)?;
+    let bytes = salt_bytes(rt.alloc(), words.salt)?;
+    let made = make(rt, words, &shape, &bytes)?;
+    let line = made_line(rt.alloc(), words, &shape, &made, &bytes)?;
     writeln!(output, "{line}")?;
     Ok(())
 }
 
-fn open_hash<R: Files<File = File>>(
+/// The table line of a device that was made.
+fn made_line(
+    alloc: Global,
+    words: &FormatWords<'_>,
+    shape: &Shape,
+    made: &Made,
+    salt: &[u8],
+) -> Result<String, Failure> {
+    let volume = Volume {
+        data_path: words.data_path,
+        hash_path: words.hash_path,
+        data_block_size: shape.data_block_size,
+        hash_block_size: shape.hash_block_size,
+        data_blocks: made.data_blocks,
+        hash_start_block: made.hash_start_block,
+        salt,
+    };
+    table_line(alloc, &volume, made.root)
+}
+
+fn read_shape(words: &FormatWords<'_>) -> Result<Shape, Failure> {
+    Ok(Shape {
+        data_block_size: block_size(Word::DataBlockSize, words.data_block_size)?,
+        hash_block_size: block_size(Word::HashBlockSize, words.hash_block_size)?,
+        hash_offset: number(Word::HashOffset, words.hash_offset)?,
+        algorithm: algorithm(words.algorithm)?,
+        uuid: uuid(words.uuid)?,
+    })
+}
+
+fn make<R: Files<File = File> + AllocGlobal>(
+    rt: &R,
+    words: &FormatWords<'_>,
+    shape: &Shape,
+    salt_bytes: &[u8],
+) -> Result<Made, Failure> {
+    let params = Params::new(salt(rt.alloc(), salt_bytes)?, shape.uuid, shape.algorithm);
+    let (mut data_store, data) = open_data(rt, words.data_path, shape.data_block_size)?;
+    let (mut hash_store, is_new) = open_hash(rt, words.hash_path, shape, data)?;
+    let hash_size = hash_store.block_size();
+    match build_at(
+        rt.alloc(),
+        &mut data_store,
+        &mut hash_store,
+        &params,
+        shape.hash_offset,
+    ) {
+        Ok(root) => Ok(Made {
+            data_blocks: data_store.len(),
+            hash_start_block: tree_start(shape.hash_offset, hash_size)?,
+            root,
+        }),
+        Err(fault) => {
+            if is_new {
+                unmake(rt, words.hash_path);
+            }
+            Err(fault.into())
+        }
+    }
+}
+
+/// DATA, and which file it is.
+fn open_data<R: Files<File = File>>(
     rt: &R,
     path: &str,
     size: usize,
-    offset: u64,
-) -> Result<FileStore<File>, StoreFault> {
-    if offset == 0 {
-        FileStore::create(rt, path, size)
+) -> Result<(FileStore<VolumeFile>, Identity), StoreFault> {
+    check_block_size(size)?;
+    let data = open_there(rt, path, Access::Read)?;
+    let identity = data.identity;
+    Ok((whole_store(data.file, size)?, identity))
+}
+
+/// HASH, which is another file than DATA, and whether it was created. It is, and what stands in it counts for nothing,
+/// where the superblock stands at its beginning.
+fn open_hash<R: Files<File = File> + AllocGlobal>(
+    rt: &R,
+    path: &str,
+    shape: &Shape,
+    data: Identity,
+) -> Result<(FileStore<VolumeFile>, bool), Failure> {
+    check_block_size(shape.hash_block_size)?;
+    if shape.hash_offset == 0 {
+        let (hash, is_new) = open_or_make(rt, path)?;
+        check_apart(data, hash.identity)?;
+        Ok((replaced_store(hash.file, shape.hash_block_size)?, is_new))
     } else {
-        FileStore::open(rt, path, size, true)
+        let hash = open_there(rt, path, Access::Write)?;
+        check_apart(data, hash.identity)?;
+        Ok((whole_store(hash.file, shape.hash_block_size)?, false))
     }
 }

@@ -9,8 +9,10 @@ mod edit;
 mod failure;
 mod fault;
 mod format;
+mod identity;
 mod lines;
 mod opened;
+mod opening;
 mod program;
 mod scratch;
 mod script;
@@ -19,6 +21,7 @@ mod status;
 mod talk;
 mod values;
 mod verify;
+mod volume_file;
 mod words;
 
 pub use program::run;

@@ -1,6 +1,8 @@
 //! The volume that a table line names, opened to be read.
 
 use crate::failure::Failure;
+use crate::opening::{Access, open_there, whole_store};
+use crate::volume_file::VolumeFile;
 use nbd_session::ExportName;
 use std::fs::File;
 use std::rt::Files;
@@ -10,10 +12,10 @@ use verity_store::FileStore;
 use verity_superblock::Table;
 
 /// A verifier over two files.
-pub type FileVerifier = Verifier<FileStore<File>, FileStore<File>>;
+pub type FileVerifier = Verifier<FileStore<VolumeFile>, FileStore<VolumeFile>>;
 
 /// A hub over two files.
-pub type FileHub = Hub<FileStore<File>, FileStore<File>>;
+pub type FileHub = Hub<FileStore<VolumeFile>, FileStore<VolumeFile>>;
 
 /// Opens the two files that a table line names, the data device first, and makes their verifier.
 pub fn open_verifier<R: Files<File = File> + AllocGlobal>(
@@ -21,8 +23,10 @@ pub fn open_verifier<R: Files<File = File> + AllocGlobal>(
     table: Table,
     cache: usize,
 ) -> Result<FileVerifier, Failure> {
-    let data_store = FileStore::open(rt, table.dev(), table.data_block_size(), false)?;
-    let hash_store = FileStore::open(rt, table.hash_dev(), table.hash_block_size(), false)?;
+    let data = open_there(rt, table.dev(), Access::Read)?;
+    let data_store = whole_store(data.file, table.data_block_size())?;
+    let hash = open_there(rt, table.hash_dev(), Access::Read)?;
+    let hash_store = whole_store(hash.file, table.hash_block_size())?;
     let verifier = Verifier::new(rt.alloc(), table, data_store, hash_store, cache)?;
     Ok(verifier)
 }

@@ -10,8 +10,6 @@ mod built;
 mod committed;
 mod device;
 mod refusal;
-#[cfg(test)]
-mod tests;
 
 pub use built::build_and_serve;
 pub use committed::commit_and_serve;

@@ -4,7 +4,7 @@ use Rattle.std.proofs.KnownBytes.{Consumes-nil}
 use Rattle.nbd_session.specs.Session.{State, IsAt, Talked}
 use Rattle.nbd_session.specs.Handshake.{greeting}
 use Rattle.nbd_session.proofs.Moving.{Keeps-refl, Keeps-trans}
-use Rattle.nbd_hub.proofs.Turns.{talked_first, sets_none, sets_on, sets_at, some_is, on_err, on_ok, turned, served_err, ended_if, open_if, turned_first, turned_on}
+use Rattle.nbd_hub.proofs.Turns.{talked_first, taken_at, taken_on, sets_none, sets_on, sets_at, some_is, on_err, on_ok, turned, served_err, ended_if, open_if, turned_first, turned_on}
 use Rattle.nbd_hub.proofs.stream.turns.Goals as goal
 
 pub returns-then-is_err-clause-served : goal.returns-then-is_err-clause-served
@@ -13,7 +13,7 @@ returns-then-is_err-clause-served g c =
     let q = on_err c.write_out.result _ c.if-is_err.ensures.value c.write_out.ensures.err in
     let e : greeting ≡ q.0 ++ q.1 = sym c.requires.greets ∙ sym c.deref.ensures.value ∙ q.2 in
     let P : List ℕ → Type 0 = λ x. Talked (f c.args.hub.now.1) (f c.args.hub.now.1) c.args.hub.now.0.offer [] x in
-    ([], q.0, q.1, record { reads = Consumes-nil (g.R.Read.remaining c.args.reader.now); writes = q.3 }, subst P e (talked_first (f c.args.hub.now.1) c.args.hub.now.0.offer))
+    ([], q.0, q.1, record { reads = Consumes-nil (g.R.Read.remaining c.args.reader.now); writes = q.3 }, subst P e (talked_first (f c.args.hub.now.1) c.args.hub.now.0.offer), taken_at c.args.hub.now.0.offer c.args.limit 0 [] (λ e. let z : ⊥ = cc in z) (omega arith) (omega arith))
 
 pub returns-then-is_err-clause-after : goal.returns-then-is_err-clause-after
 returns-then-is_err-clause-after g c = λ history x. turned_first (g.E.Export.facts c.args.hub.now.1) c.args.hub.now.0 history c.args.id x
@@ -41,6 +41,7 @@ loop-turn-init g c =
         o.3,
         o.4,
         sets_none c.args.hub.now.0.sessions c.args.id (Some o.0) o.1,
+        omega arith,
         omega arith,
         λ e. let z : ⊥ = cc in z,
       );
@@ -91,7 +92,8 @@ returns-in-Err-exchange-clause-served g c =
     let A : State → Type 0 = λ s. IsAt s n.0 in
     let at : IsAt x.0 n.0 = subst A (some_is n.2 x.0 (sym (sets_at c.args.hub.now.0.sessions c.loop-turn.hub.0.sessions c.args.id (Some n.2) n.8) ∙ x.2)) n.5 in
     served_err (f c.args.hub.now.1) (f c.loop-turn.hub.1) (f c.exchange.new.hub.1) c.args.hub.now.0.offer x.0 x.1 (R c.args.reader.now) (R c.loop-turn.reader) (R c.read.new.self)
-    (W c.args.writer.now) (W c.loop-turn.writer) (W c.exchange.new.writer) c.args.limit n.0 n.1 piece c.in-Err-exchange.fault i.keeps e.keeps (x.3 ∙ i.offer) n.3 n.4 at c.in-Ok.ensures.bytes.0 x.6
+    (W c.args.writer.now) (W c.loop-turn.writer) (W c.exchange.new.writer) c.args.limit n.0 n.1 piece c.in-Err-exchange.fault i.keeps e.keeps (x.3 ∙ i.offer) n.3 n.4 at c.in-Ok.ensures.bytes.0
+    (taken_on c.args.hub.now.0.offer c.args.limit c.loop-turn.turn n.0 piece n.11 n.10 (omega arith) (omega (arith, c.in-Ok.ensures.bound.0, c.in-Ok.ensures.bound.1))) x.6
 
 pub returns-then-over-clause-served : goal.returns-then-over-clause-served
 returns-then-over-clause-served g c =
@@ -112,14 +114,8 @@ returns-then-over-clause-served g c =
       n.1 ++ y.0,
       t.moved,
       t.talked,
-      inr (record {
-        front = n.0;
-        piece = piece;
-        parts = refl;
-        short = omega (arith, c.in-Ok.ensures.bound.0, c.in-Ok.ensures.bound.1);
-        before = n.10;
-        after = ended_if c.in-Ok-exchange.over c.args.hub.now.0.offer x.1 (n.0 ++ piece) (x.4 ∙ i.offer) y.4 t.at y.3 c.if-over.true;
-      }),
+      taken_on c.args.hub.now.0.offer c.args.limit c.loop-turn.turn n.0 piece n.11 n.10 (omega arith) (omega (arith, c.in-Ok.ensures.bound.0, c.in-Ok.ensures.bound.1)),
+      inr (ended_if c.in-Ok-exchange.over c.args.hub.now.0.offer x.1 (n.0 ++ piece) (x.4 ∙ i.offer) y.4 t.at y.3 c.if-over.true),
     )
 
 pub loop-turn-preserved : goal.loop-turn-preserved
@@ -155,6 +151,7 @@ loop-turn-preserved g c =
         x.4 ∙ i.offer,
         sets_on c.args.hub.now.0.sessions c.loop-turn.hub.0.sessions c.exchange.new.hub.0.sessions c.args.id (Some n.2) (Some x.1) n.8 x.5,
         omega (arith, length-append n.0 piece, c.in-Ok.ensures.bound.1, n.9, c.if-taken-eq0.false),
+        omega (arith, length-append n.0 piece, c.in-Ok.ensures.bound.0, c.in-Ok.ensures.bound.1, n.10),
         open_if c.in-Ok-exchange.over c.args.hub.now.0.offer x.1 (n.0 ++ piece) (x.4 ∙ i.offer) y.4 t.at y.3 c.if-over.false,
       );
     }
@@ -167,3 +164,15 @@ returns-then-over-clause-later g c = g.met.E.Export.later_on c.args.hub.now.1 c.
 
 pub returns-in-Err-exchange-clause-later : goal.returns-in-Err-exchange-clause-later
 returns-in-Err-exchange-clause-later g c = g.met.E.Export.later_on c.args.hub.now.1 c.loop-turn.hub.1 c.exchange.new.hub.1 c.loop-turn.invariant.later c.in-Err-exchange.ensures.later
+
+pub returns-clause-served : goal.returns-clause-served
+returns-clause-served g c =
+    let n = c.loop-turn.invariant.ran in (
+      n.0,
+      n.1,
+      n.3,
+      n.4,
+      taken_at c.args.hub.now.0.offer c.args.limit c.loop-turn.turn n.0 n.11 n.10 c.loop-turn.auto.turn-end,
+      omega (arith, n.9),
+      n.11,
+    )

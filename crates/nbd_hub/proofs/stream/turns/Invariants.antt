@@ -1,10 +1,10 @@
-use Rattle.std.proofs.Common.{◌≡◌, ◌≤◌, List, ℕ, Some, length, false}
+use Rattle.std.proofs.Common.{◌≡◌, ◌≤◌, ◌*◌, List, ℕ, Some, length, false}
 use Rattle.nbd_session.specs.Export.{Keeps}
 use Rattle.nbd_session.specs.Session.{State, IsAt, Talked}
 use Rattle.nbd_hub.specs.History.{Step}
 use Rattle.nbd_hub.specs.Sessions.{SetsOnly}
 use Rattle.nbd_hub.specs.After.{IsAfter}
-use Rattle.nbd_hub.specs.Stream.{Moved, HasEnded, TurnedAfter}
+use Rattle.nbd_hub.specs.Stream.{Moved, HasEnded, turn_bytes, TurnedAfter}
 use Rattle.nbd_hub.proofs.stream.turns.Given as goal
 
 abbrev pub invariant-loop-turn : goal.invariant-loop-turn
@@ -22,5 +22,5 @@ invariant-loop-turn g l =
           × Talked (facts l.fn.hub.1) (facts l.hub.1) l.fn.hub.0.offer input said
           × IsAt session input × (session.starved ≡ false) × (session.offer ≡ l.fn.hub.0.offer)
           × SetsOnly l.fn.hub.0.sessions l.hub.0.sessions l.id (Some session)
-          × (l.turn ≤ length input) × (HasEnded l.fn.hub.0.offer input → ⊥);
+          × (l.turn ≤ length input) × (length input ≤ turn_bytes * l.turn) × (HasEnded l.fn.hub.0.offer input → ⊥);
     }

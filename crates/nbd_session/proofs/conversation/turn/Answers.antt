@@ -5,7 +5,7 @@ use Rattle.nbd_session.specs.Talk.{hear}
 use Rattle.nbd_session.specs.Conversation.{Answered, Stands, message_of}
 use Rattle.nbd_session.specs.Answers.{answer, next_phase}
 use Rattle.nbd_session.specs.Inbox.{Progressed}
-use Rattle.nbd_session.proofs.Moving.{Keeps-refl, stands_partial, stands_halt, stands_whole}
+use Rattle.nbd_session.proofs.Moving.{stands_partial, stands_halt, stands_whole}
 use Rattle.nbd_session.proofs.conversation.turn.Goals as goal
 
 pub returns-in-Partial-clause-moves : goal.returns-in-Partial-clause-moves
@@ -17,7 +17,7 @@ returns-in-Partial-clause-moves g c = (
       let P : Progress → Type 0 = λ p. Progressed c.take.new.self p bytes in
       let m = subst P c.in-Partial.is (c.in_ok-taken.ensures.moved u w) in
       let Q : Phase → Type 0 = λ p. Stands (g.E.Export.facts c.args.export.now) (g.E.Export.facts c.args.export.now) (hear c.args.offer.now p bytes) c.take.new.self [] in
-      subst Q c.in_ok-taken.ensures.phase (stands_partial _ _ (Keeps-refl _) c.args.offer.now c.take.new.self.phase bytes c.take.new.self (λ i. c.take.new.self.phase) m.partial m),
+      subst Q c.in_ok-taken.ensures.phase (stands_partial _ c.args.offer.now c.take.new.self.phase bytes c.take.new.self (λ i. c.take.new.self.phase) m.partial m),
 )
 
 pub returns-in_ok-next-in-Whole-clause-moves : goal.returns-in_ok-next-in-Whole-clause-moves
@@ -46,5 +46,5 @@ returns-in-Halt-clause-moves g c = (
       let P : Progress → Type 0 = λ p. Progressed c.take.new.self p bytes in
       let m = subst P c.in-Halt.is (c.in_ok-taken.ensures.moved u w) in
       let Q : Phase → Type 0 = λ p. Stands (g.E.Export.facts c.args.export.now) (g.E.Export.facts c.args.export.now) (hear c.args.offer.now p bytes) c.begin-in-Halt.new.self [] in
-      subst Q c.in_ok-taken.ensures.phase (stands_halt _ _ (Keeps-refl _) c.args.offer.now c.take.new.self.phase bytes c.begin-in-Halt.new.self c.begin-in-Halt.ensures.phase m c.begin-in-Halt.ensures.waits),
+      subst Q c.in_ok-taken.ensures.phase (stands_halt _ c.args.offer.now c.take.new.self.phase bytes c.begin-in-Halt.new.self c.begin-in-Halt.ensures.phase m c.begin-in-Halt.ensures.waits),
 )

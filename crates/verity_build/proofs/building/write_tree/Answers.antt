@@ -4,12 +4,14 @@ use Rattle.verity_digest.specs.Hash.{Salted, hashing, salted_digest}
 use Rattle.verity_digest.specs.Tree.{Hashing, tree}
 use Rattle.verity_geometry.specs.Geometry.{Shape, digests_per_block, levels_of}
 use Rattle.verity_geometry.proofs.Shapes.{wide, some}
-use Rattle.verity_store.specs.Stores.{IsLater, IsOnlyRead}
+use Rattle.verity_store.specs.Stores.{IsOnlyRead}
 use Rattle.verity_store.proofs.StoreLemmas.{only_read_same, only_read_then}
 use Rattle.verity_build.specs.Open.{Open}
+use Rattle.verity_build.specs.Ahead.{AreAhead}
 use Rattle.verity_build.specs.Climb.{Comes}
 use Rattle.verity_build.specs.Progress.{Growing, Grown, Settling, IsRight}
 use Rattle.verity_build.specs.Device.{AreStored, StaysRight, StaysStored}
+use Rattle.verity_build.proofs.Ahead.{ahead_none, comes_now}
 use Rattle.verity_build.proofs.Settles.{growing_empty, settling_from}
 use Rattle.verity_build.proofs.Rightly.{right_empty}
 use Rattle.verity_build.proofs.Turns.{come_right, come_stored}
@@ -33,11 +35,17 @@ loop-n-init g c =
       right = λ tells. subst (λ r. IsRight h image first.blocks.items r) (sym c.requires.rootless) (right_empty h image first.blocks.items c.requires.empty);
       stored = λ td th l i there below. let zeros = (c.requires.empty l there).1 in absurd (omega arith);
       data_store = only_read_same D c.args.data_store.now;
-      data_reads = omega arith;
+      ahead = ahead_none D first.hasher.salted 0 c.args.data_store.now c.new-leaves.result.digests c.new-leaves.result.taken c.new-leaves.result.held (omega (arith, c.new-leaves.ensures.taken, c.new-leaves.ensures.held)) (omega arith);
+      data_reads = omega (arith, c.new-leaves.ensures.taken, c.new-leaves.ensures.held);
       hash_store = writes_none H c.args.start c.args.hash_store.now;
       data_unfailed = refl;
       hash_unfailed = refl;
     }
+
+pub next-requires-clause-ahead : goal.next-requires-clause-ahead
+next-requires-clause-ahead g c =
+    subst (λ x. AreAhead g.D.BlockStore x c.loop-n.n c.loop-n.data_store c.loop-n.leaves.digests c.loop-n.leaves.taken c.loop-n.leaves.held)
+    (sym c.loop-n.invariant.salted) c.loop-n.invariant.ahead
 
 pub write_done-requires-clause-come : goal.write_done-requires-clause-come
 write_done-requires-clause-come g c =
@@ -46,10 +54,11 @@ write_done-requires-clause-come g c =
     let mid = c.take.new.self in
     let kept = c.loop-n.invariant in
     let n : ℕ = c.loop-n.n in
-    let same = c.take.ensures.geometry ∙ kept.geometry in
+    let same = c.take.ensures.geometry ∙ c.in-Ok.ensures.geometry ∙ kept.geometry in
     let growing = kept.growing (omega (arith, c.loop-n-test.true, c.blocks-n-end.ensures.value)) in
+    let comes = comes_now c.in-Ok.digest now.blocks.items c.next.new.tree.blocks.items mid.blocks.items now.root c.next.new.tree.root mid.root c.in-Ok.ensures.opens c.in-Ok.ensures.root c.take.ensures.comes in
     subst (λ t. Settling (digests_per_block t) (n + 1) t.blocks 0 mid.blocks.items mid.root) (sym same)
-    (settling_from (digests_per_block s) n (salted_digest now.hasher.salted c.read.new.out) now.blocks.items mid.blocks.items now.root mid.root growing c.take.ensures.comes s.blocks)
+    (settling_from (digests_per_block s) n c.in-Ok.digest now.blocks.items mid.blocks.items now.root mid.root growing comes s.blocks)
 
 pub loop-n-preserved : goal.loop-n-preserved
 loop-n-preserved g c =
@@ -64,21 +73,23 @@ loop-n-preserved g c =
     let mid = c.take.new.self in
     let new = c.write_done.new.tree in
     let kept = c.loop-n.invariant in
-    let read = c.in-Ok.ensures in
+    let next = c.in-Ok.ensures in
     let wrote = c.in-Ok-write_done.ensures in
     let n : ℕ = c.loop-n.n in
-    let block : List ℕ = c.read.new.out in
-    let geometry = c.take.ensures.geometry ∙ kept.geometry in
-    let same_salted = c.take.ensures.salted ∙ kept.salted in
+    let digest : List ℕ = c.in-Ok.digest in
+    let block : List ℕ = get_or image n [] in
+    let geometry = c.take.ensures.geometry ∙ next.geometry ∙ kept.geometry in
+    let same_salted = c.take.ensures.salted ∙ next.salted ∙ kept.salted in
     let hashes : hashing mid.hasher.salted mid.geometry.hash_size ≡ h = λ i. hashing (same_salted i) (geometry i).hash_size in
     let below : n < s.blocks = omega (arith, c.loop-n-test.true, c.blocks-n-end.ensures.value) in
     let growing = kept.growing below in
     let levels : length now.blocks.items ≡ levels_of s = now.levels ∙ ap levels_of kept.geometry in
-    let comes : Comes 0 (salted_digest salted block) now.blocks.items mid.blocks.items now.root mid.root =
-    subst (λ x. Comes 0 (salted_digest x block) now.blocks.items mid.blocks.items now.root mid.root) kept.salted c.take.ensures.comes in
+    let comes = comes_now digest now.blocks.items c.next.new.tree.blocks.items mid.blocks.items now.root c.next.new.tree.root mid.root next.opens next.root c.take.ensures.comes in
+    let comes_right : D.tells c.args.data_store.now ≡ true → Comes 0 (salted_digest salted block) now.blocks.items mid.blocks.items now.root mid.root = λ tells.
+    subst (λ d. Comes 0 d now.blocks.items mid.blocks.items now.root mid.root)
+    (next.right (kept.data_store.later.tells ∙ tells) ∙ (λ i. salted_digest (kept.salted i) (get_or (kept.data_store.content i) n []))) comes in
     let mid_right : D.tells c.args.data_store.now ≡ true → IsRight h image mid.blocks.items mid.root = λ tells.
-    come_right salted s n block now.blocks.items mid.blocks.items now.root mid.root first.shaped first.sized levels growing comes image c.requires.blocks below
-    (ap (λ blocks. get_or blocks n []) (sym kept.data_store.content) ∙ read.right (kept.data_store.later.tells ∙ tells)) (kept.right tells) in
+    come_right salted s n block now.blocks.items mid.blocks.items now.root mid.root first.shaped first.sized levels growing (comes_right tells) image c.requires.blocks below refl (kept.right tells) in
     let stays_right : StaysRight h s.blocks mid.blocks.items mid.root new.blocks.items new.root =
     let P : ℕ → Type 0 = λ b. StaysRight h b mid.blocks.items mid.root new.blocks.items new.root in
     let Q : Hashing → Type 0 = λ x. StaysRight x mid.geometry.blocks mid.blocks.items mid.root new.blocks.items new.root in
@@ -87,7 +98,6 @@ loop-n-preserved g c =
     let P : Shape → Type 0 = λ t. StaysStored h t c.args.start mid.blocks.items mid.root (H.content c.loop-n.hash_store) new.blocks.items (H.content c.write_done.new.hash_store) in
     let Q : Hashing → Type 0 = λ x. StaysStored x mid.geometry c.args.start mid.blocks.items mid.root (H.content c.loop-n.hash_store) new.blocks.items (H.content c.write_done.new.hash_store) in
     subst P geometry (subst Q hashes (wrote.stored (kept.hash_store.later.tells ∙ tells))) in
-    let later : IsLater D c.loop-n.data_store c.read.new.self = record { tells = read.tells; size = read.size; gave = read.gave; failures = read.failures; reads = omega (arith, read.counted); room = omega (arith, read.room) } in
     record {
       growing = λ more. subst (λ t. Growing (digests_per_block t) (n + 1) new.blocks.items new.root) geometry (wrote.growing (omega (arith, ap (λ t. t.blocks) geometry)));
       grown = λ last. subst (λ t. Grown (digests_per_block t) (n + 1) new.blocks.items new.root) geometry (wrote.grown (last ∙ sym (ap (λ t. t.blocks) geometry)));
@@ -95,10 +105,11 @@ loop-n-preserved g c =
       geometry = wrote.geometry ∙ geometry;
       right = λ tells. stays_right image c.requires.blocks (mid_right tells);
       stored = λ td th. stays_stored th image c.requires.blocks (mid_right td)
-          (come_stored salted s n block now.blocks.items mid.blocks.items now.root mid.root first.shaped first.sized levels growing comes c.args.start (tree h image) (H.content c.loop-n.hash_store) (kept.stored td th));
-      data_store = only_read_then D c.args.data_store.now c.loop-n.data_store c.read.new.self kept.data_store (record { content = read.content; room = read.room; later = later });
-      data_reads = omega (arith, read.counted, kept.data_reads);
+          (come_stored salted s n block now.blocks.items mid.blocks.items now.root mid.root first.shaped first.sized levels growing (comes_right td) c.args.start (tree h image) (H.content c.loop-n.hash_store) (kept.stored td th));
+      data_store = only_read_then D c.args.data_store.now c.loop-n.data_store c.next.new.data_store kept.data_store next.read;
+      ahead = subst (λ x. AreAhead D x (n + 1) c.next.new.data_store c.next.new.self.digests c.next.new.self.taken c.next.new.self.held) kept.salted next.ahead;
+      data_reads = omega (arith, next.reads, kept.data_reads);
       hash_store = writes_then H c.args.start c.args.hash_store.now c.loop-n.hash_store c.write_done.new.hash_store kept.hash_store wrote.from;
-      data_unfailed = read.unfailed ∙ kept.data_unfailed;
+      data_unfailed = next.unfailed ∙ kept.data_unfailed;
       hash_unfailed = wrote.unfailed ∙ kept.hash_unfailed;
     }

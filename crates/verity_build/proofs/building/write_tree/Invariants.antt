@@ -1,8 +1,9 @@
-use Rattle.std.proofs.Common.{◌≡◌, ◌+◌, ◌<◌, true}
+use Rattle.std.proofs.Common.{◌≡◌, ◌+◌, ◌-◌, ◌<◌, true}
 use Rattle.verity_digest.specs.Hash.{hashing}
 use Rattle.verity_digest.specs.Tree.{tree}
 use Rattle.verity_geometry.specs.Geometry.{digests_per_block}
 use Rattle.verity_store.specs.Stores.{IsOnlyRead}
+use Rattle.verity_build.specs.Ahead.{AreAhead}
 use Rattle.verity_build.specs.Progress.{Growing, Grown, IsRight}
 use Rattle.verity_build.specs.Device.{AreStored, WritesFrom}
 use Rattle.verity_build.proofs.building.write_tree.Given as goal
@@ -22,7 +23,8 @@ invariant-loop-n g l =
       right : D.tells l.fn.data_store ≡ true → IsRight h image l.tree.blocks.items l.tree.root;
       stored : D.tells l.fn.data_store ≡ true → H.tells l.fn.hash_store ≡ true → AreStored s l.start (tree h image) l.tree.blocks.items (H.content l.hash_store);
       data_store : IsOnlyRead D l.fn.data_store l.data_store;
-      data_reads : D.reads l.data_store ≡ D.reads l.fn.data_store + l.n;
+      ahead : AreAhead D l.fn.tree.hasher.salted l.n l.data_store l.leaves.digests l.leaves.taken l.leaves.held;
+      data_reads : D.reads l.data_store ≡ D.reads l.fn.data_store + l.n + (l.leaves.held - l.leaves.taken);
       hash_store : WritesFrom H l.start l.fn.hash_store l.hash_store;
       data_unfailed : D.failures l.data_store ≡ D.failures l.fn.data_store;
       hash_unfailed : H.failures l.hash_store ≡ H.failures l.fn.hash_store;

@@ -4,13 +4,15 @@ use Rattle.verity_digest.specs.Hash.{Salted, hashing, salted_digest}
 use Rattle.verity_digest.specs.Tree.{Hashing, tree}
 use Rattle.verity_geometry.specs.Geometry.{Shape, digests_per_block, levels_of, total_of}
 use Rattle.verity_geometry.proofs.Shapes.{wide, some}
-use Rattle.verity_store.specs.Stores.{IsLater, IsOnlyRead}
+use Rattle.verity_store.specs.Stores.{IsOnlyRead}
 use Rattle.verity_store.proofs.StoreLemmas.{only_read_same, only_read_then}
 use Rattle.verity_build.specs.Open.{Open}
+use Rattle.verity_build.specs.Ahead.{AreAhead}
 use Rattle.verity_build.specs.Climb.{Comes}
 use Rattle.verity_build.specs.Progress.{Growing, Grown, Settling, IsRight}
 use Rattle.verity_build.specs.Device.{StaysRight}
 use Rattle.verity_build.specs.Differences.{AreCompared, StaysCompared}
+use Rattle.verity_build.proofs.Ahead.{ahead_none, comes_now}
 use Rattle.verity_build.proofs.Settles.{growing_empty, settling_from, same_index}
 use Rattle.verity_build.proofs.Rightly.{right_empty}
 use Rattle.verity_build.proofs.Turns.{come_right}
@@ -35,12 +37,18 @@ loop-n-init g c =
       right = λ tells. subst (λ r. IsRight h image first.blocks.items r) (sym c.requires.rootless) (right_empty h image first.blocks.items c.requires.empty);
       compared = λ td th. compared_none s c.args.start (tree h image) (H.content c.args.hash_store.now) first.blocks.items (λ l there. (c.requires.empty l there).1);
       data_store = only_read_same D c.args.data_store.now;
-      data_reads = omega arith;
+      ahead = ahead_none D first.hasher.salted 0 c.args.data_store.now c.new-leaves.result.digests c.new-leaves.result.taken c.new-leaves.result.held (omega (arith, c.new-leaves.ensures.taken, c.new-leaves.ensures.held)) (omega arith);
+      data_reads = omega (arith, c.new-leaves.ensures.taken, c.new-leaves.ensures.held);
       hash_store = only_read_same H c.args.hash_store.now;
       hash_reads = omega arith;
       data_unfailed = refl;
       hash_unfailed = refl;
     }
+
+pub next-requires-clause-ahead : goal.next-requires-clause-ahead
+next-requires-clause-ahead g c =
+    subst (λ x. AreAhead g.D.BlockStore x c.loop-n.n c.loop-n.data_store c.loop-n.leaves.digests c.loop-n.leaves.taken c.loop-n.leaves.held)
+    (sym c.loop-n.invariant.salted) c.loop-n.invariant.ahead
 
 pub compare_done-requires-clause-come : goal.compare_done-requires-clause-come
 compare_done-requires-clause-come g c =
@@ -49,10 +57,11 @@ compare_done-requires-clause-come g c =
     let mid = c.take.new.self in
     let kept = c.loop-n.invariant in
     let n : ℕ = c.loop-n.n in
-    let same = c.take.ensures.geometry ∙ kept.geometry in
+    let same = c.take.ensures.geometry ∙ c.in-Ok.ensures.geometry ∙ kept.geometry in
     let growing = kept.growing (omega (arith, c.loop-n-test.true, c.blocks-n-end.ensures.value)) in
+    let comes = comes_now c.in-Ok.digest now.blocks.items c.next.new.tree.blocks.items mid.blocks.items now.root c.next.new.tree.root mid.root c.in-Ok.ensures.opens c.in-Ok.ensures.root c.take.ensures.comes in
     subst (λ t. Settling (digests_per_block t) (n + 1) t.blocks 0 mid.blocks.items mid.root) (sym same)
-    (settling_from (digests_per_block s) n (salted_digest now.hasher.salted c.read.new.out) now.blocks.items mid.blocks.items now.root mid.root growing c.take.ensures.comes s.blocks)
+    (settling_from (digests_per_block s) n c.in-Ok.digest now.blocks.items mid.blocks.items now.root mid.root growing comes s.blocks)
 
 pub loop-n-preserved : goal.loop-n-preserved
 loop-n-preserved g c =
@@ -67,21 +76,23 @@ loop-n-preserved g c =
     let mid = c.take.new.self in
     let new = c.compare_done.new.tree in
     let kept = c.loop-n.invariant in
-    let read = c.in-Ok.ensures in
+    let next = c.in-Ok.ensures in
     let done = c.in-Ok-compare_done.ensures in
     let n : ℕ = c.loop-n.n in
-    let block : List ℕ = c.read.new.out in
-    let geometry = c.take.ensures.geometry ∙ kept.geometry in
-    let same_salted = c.take.ensures.salted ∙ kept.salted in
+    let digest : List ℕ = c.in-Ok.digest in
+    let block : List ℕ = get_or image n [] in
+    let geometry = c.take.ensures.geometry ∙ next.geometry ∙ kept.geometry in
+    let same_salted = c.take.ensures.salted ∙ next.salted ∙ kept.salted in
     let hashes : hashing mid.hasher.salted mid.geometry.hash_size ≡ h = λ i. hashing (same_salted i) (geometry i).hash_size in
     let below : n < s.blocks = omega (arith, c.loop-n-test.true, c.blocks-n-end.ensures.value) in
     let growing = kept.growing below in
     let levels : length now.blocks.items ≡ levels_of s = now.levels ∙ ap levels_of kept.geometry in
-    let comes : Comes 0 (salted_digest salted block) now.blocks.items mid.blocks.items now.root mid.root =
-    subst (λ x. Comes 0 (salted_digest x block) now.blocks.items mid.blocks.items now.root mid.root) kept.salted c.take.ensures.comes in
+    let comes = comes_now digest now.blocks.items c.next.new.tree.blocks.items mid.blocks.items now.root c.next.new.tree.root mid.root next.opens next.root c.take.ensures.comes in
+    let comes_right : D.tells c.args.data_store.now ≡ true → Comes 0 (salted_digest salted block) now.blocks.items mid.blocks.items now.root mid.root = λ tells.
+    subst (λ d. Comes 0 d now.blocks.items mid.blocks.items now.root mid.root)
+    (next.right (kept.data_store.later.tells ∙ tells) ∙ (λ i. salted_digest (kept.salted i) (get_or (kept.data_store.content i) n []))) comes in
     let mid_right : D.tells c.args.data_store.now ≡ true → IsRight h image mid.blocks.items mid.root = λ tells.
-    come_right salted s n block now.blocks.items mid.blocks.items now.root mid.root first.shaped first.sized levels growing comes image c.requires.blocks below
-    (ap (λ blocks. get_or blocks n []) (sym kept.data_store.content) ∙ read.right (kept.data_store.later.tells ∙ tells)) (kept.right tells) in
+    come_right salted s n block now.blocks.items mid.blocks.items now.root mid.root first.shaped first.sized levels growing (comes_right tells) image c.requires.blocks below refl (kept.right tells) in
     let stays_right : StaysRight h s.blocks mid.blocks.items mid.root new.blocks.items new.root =
     let P : ℕ → Type 0 = λ b. StaysRight h b mid.blocks.items mid.root new.blocks.items new.root in
     let Q : Hashing → Type 0 = λ x. StaysRight x mid.geometry.blocks mid.blocks.items mid.root new.blocks.items new.root in
@@ -92,7 +103,6 @@ loop-n-preserved g c =
     let Q : Hashing → Type 0 = λ x. StaysCompared x mid.geometry c.args.start content mid.blocks.items mid.root c.loop-n.found new.blocks.items c.in-Ok-compare_done.first in
     let R : List (List ℕ) → Type 0 = λ bs. StaysCompared (hashing mid.hasher.salted mid.geometry.hash_size) mid.geometry c.args.start bs mid.blocks.items mid.root c.loop-n.found new.blocks.items c.in-Ok-compare_done.first in
     subst P geometry (subst Q hashes (subst R kept.hash_store.content (done.compared (kept.hash_store.later.tells ∙ tells)))) in
-    let later : IsLater D c.loop-n.data_store c.read.new.self = record { tells = read.tells; size = read.size; gave = read.gave; failures = read.failures; reads = omega (arith, read.counted); room = omega (arith, read.room) } in
     record {
       growing = λ more. subst (λ t. Growing (digests_per_block t) (n + 1) new.blocks.items new.root) geometry (done.growing (omega (arith, ap (λ t. t.blocks) geometry)));
       grown = λ last. subst (λ t. Grown (digests_per_block t) (n + 1) new.blocks.items new.root) geometry (done.grown (last ∙ sym (ap (λ t. t.blocks) geometry)));
@@ -101,12 +111,13 @@ loop-n-preserved g c =
       right = λ tells. stays_right image c.requires.blocks (mid_right tells);
       compared = λ td th. stays_compared th image c.requires.blocks (mid_right td)
           (compared_kept s c.args.start (tree h image) content now.blocks.items mid.blocks.items c.loop-n.found comes.len
-          (λ l there. same_index (digests_per_block s) n (salted_digest salted block) now.blocks.items mid.blocks.items now.root mid.root growing comes l there) (kept.compared td th));
-      data_store = only_read_then D c.args.data_store.now c.loop-n.data_store c.read.new.self kept.data_store (record { content = read.content; room = read.room; later = later });
-      data_reads = omega (arith, read.counted, kept.data_reads);
+          (λ l there. same_index (digests_per_block s) n digest now.blocks.items mid.blocks.items now.root mid.root growing comes l there) (kept.compared td th));
+      data_store = only_read_then D c.args.data_store.now c.loop-n.data_store c.next.new.data_store kept.data_store next.read;
+      ahead = subst (λ x. AreAhead D x (n + 1) c.next.new.data_store c.next.new.self.digests c.next.new.self.taken c.next.new.self.held) kept.salted next.ahead;
+      data_reads = omega (arith, next.reads, kept.data_reads);
       hash_store = only_read_then H c.args.hash_store.now c.loop-n.hash_store c.compare_done.new.hash_store kept.hash_store done.read;
-      hash_reads = omega (arith, done.reads, kept.hash_reads, comes_none (digests_per_block s) n (salted_digest salted block) now.blocks.items mid.blocks.items now.root mid.root growing comes);
-      data_unfailed = read.unfailed ∙ kept.data_unfailed;
+      hash_reads = omega (arith, done.reads, kept.hash_reads, comes_none (digests_per_block s) n digest now.blocks.items mid.blocks.items now.root mid.root growing comes);
+      data_unfailed = next.unfailed ∙ kept.data_unfailed;
       hash_unfailed = done.unfailed ∙ kept.hash_unfailed;
     }
 
@@ -121,13 +132,13 @@ returns-in_default-clause-hash_reads g c =
 pub returns-in_default-compare_done-clause-hash_reads : goal.returns-in_default-compare_done-clause-hash_reads
 returns-in_default-compare_done-clause-hash_reads g c =
     let s : Shape = c.args.tree.now.geometry in
-    let salted : Salted = c.args.tree.now.hasher.salted in
     let now = c.loop-n.tree in
     let mid = c.take.new.self in
     let kept = c.loop-n.invariant in
-    let geometry = c.take.ensures.geometry ∙ kept.geometry in
+    let geometry = c.take.ensures.geometry ∙ c.in-Ok.ensures.geometry ∙ kept.geometry in
     let below : c.loop-n.n < s.blocks = omega (arith, c.loop-n-test.true, c.blocks-n-end.ensures.value) in
-    let none = comes_none (digests_per_block s) c.loop-n.n (salted_digest now.hasher.salted c.read.new.out) now.blocks.items mid.blocks.items now.root mid.root (kept.growing below) c.take.ensures.comes in
+    let comes = comes_now c.in-Ok.digest now.blocks.items c.next.new.tree.blocks.items mid.blocks.items now.root c.next.new.tree.root mid.root c.in-Ok.ensures.opens c.in-Ok.ensures.root c.take.ensures.comes in
+    let none = comes_none (digests_per_block s) c.loop-n.n c.in-Ok.digest now.blocks.items mid.blocks.items now.root mid.root (kept.growing below) comes in
     omega (arith, c.compare_done.ensures.reads_most, ap total_of geometry, kept.hash_reads, none)
 
 pub returns-clause-hash_reads : goal.returns-clause-hash_reads

@@ -1,8 +1,9 @@
-use Rattle.std.proofs.Common.{◌≡◌, ◌+◌, ◌<◌, ◌≤◌, true}
+use Rattle.std.proofs.Common.{◌≡◌, ◌+◌, ◌-◌, ◌<◌, ◌≤◌, true}
 use Rattle.verity_digest.specs.Hash.{hashing}
 use Rattle.verity_digest.specs.Tree.{tree}
 use Rattle.verity_geometry.specs.Geometry.{digests_per_block}
 use Rattle.verity_store.specs.Stores.{IsOnlyRead}
+use Rattle.verity_build.specs.Ahead.{AreAhead}
 use Rattle.verity_build.specs.Progress.{closed, Growing, Grown, IsRight}
 use Rattle.verity_build.specs.Differences.{AreCompared}
 use Rattle.verity_build.proofs.comparing.compare_tree.Given as goal
@@ -22,7 +23,8 @@ invariant-loop-n g l =
       right : D.tells l.fn.data_store ≡ true → IsRight h image l.tree.blocks.items l.tree.root;
       compared : D.tells l.fn.data_store ≡ true → H.tells l.fn.hash_store ≡ true → AreCompared s l.start (tree h image) l.tree.blocks.items (H.content l.fn.hash_store) l.found;
       data_store : IsOnlyRead D l.fn.data_store l.data_store;
-      data_reads : D.reads l.data_store ≡ D.reads l.fn.data_store + l.n;
+      ahead : AreAhead D l.fn.tree.hasher.salted l.n l.data_store l.leaves.digests l.leaves.taken l.leaves.held;
+      data_reads : D.reads l.data_store ≡ D.reads l.fn.data_store + l.n + (l.leaves.held - l.leaves.taken);
       hash_store : IsOnlyRead H l.fn.hash_store l.hash_store;
       hash_reads : H.reads l.hash_store ≤ H.reads l.fn.hash_store + closed l.tree.blocks.items;
       data_unfailed : D.failures l.data_store ≡ D.failures l.fn.data_store;

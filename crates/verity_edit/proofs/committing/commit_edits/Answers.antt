@@ -1,36 +1,55 @@
-use Rattle.std.proofs.Common.{◌≡◌, ℕ, List, arith, subst, sym, ◌∙◌}
+use Rattle.std.proofs.Common.{◌≡◌, ℕ, List, arith, subst, sym, ap, ◌∙◌}
 use Rattle.verity_superblock.specs.Superblock.{Volume}
 use Rattle.verity_edit.specs.declared.tree.Change.{Change}
 use Rattle.verity_edit.specs.Draft.{Draft}
-use Rattle.verity_edit.specs.Planning.{change_of, IsRight}
-use Rattle.verity_edit.specs.Committing.{MakesDevice}
+use Rattle.verity_edit.specs.Planning.{change_of, IsPlan, IsRight}
+use Rattle.verity_edit.specs.Committing.{CanCommit, IsCarriedOut}
+use Rattle.verity_edit.proofs.CommitLemmas.{can_after, carried_before}
+use Rattle.verity_edit.proofs.Frames.{stays_of, stays_then, written_of, written_then}
 use Rattle.verity_edit.proofs.committing.commit_edits.Goals as goal
 
-pub returns-in-Ok-clause-device : goal.returns-in-Ok-clause-device
-returns-in-Ok-clause-device g c = λ told.
+pub carry_out-requires-clause-plan : goal.carry_out-requires-clause-plan
+carry_out-requires-clause-plan g c =
     let v : Volume = c.args.superblock.now in
     let d : Draft = c.args.pending.now in
     let plan = c.in_ok-plan.plan in
-    let is : plan.change ≡ change_of v c.args.first c.args.root d.working = c.in_ok-plan.ensures.plan.change in
-    let old : List (List ℕ) = g.H.BlockStore.content c.args.hash_store.now in
-    let now : List (List ℕ) = g.H.BlockStore.content c.reserve_both.new.hash_store in
-    let same : now ≡ old = c.reserve_both.ensures.hash_content ∙ c.in_ok-plan.ensures.content in
-    let right : IsRight v d c.args.first c.args.root old plan = c.in_ok-plan.ensures.right told in
-    let right_now : IsRight v d plan.change.first plan.change.root now plan =
-    subst (λ (blocks : List (List ℕ)). IsRight v d plan.change.first plan.change.root blocks plan) (sym same)
-    (subst (λ (x : Change). IsRight v d x.first x.root old plan) (sym is) right) in
-    let image : List (List ℕ) = g.D.BlockStore.content c.args.data_store.now in
-    let new : List (List ℕ) = g.H.BlockStore.content c.carry_out.new.hash_store in
-    let told_now = c.reserve_both.ensures.hash_tells ∙ c.in_ok-plan.ensures.tells ∙ told in
-    let made : MakesDevice v d plan.change.first plan.change.root (g.D.BlockStore.content c.reserve_both.new.data_store) now new = c.in-Ok.ensures.device told_now right_now in
-    let made_old : MakesDevice v d plan.change.first plan.change.root image old new =
-    subst (λ (blocks : List (List ℕ)). MakesDevice v d plan.change.first plan.change.root blocks old new) c.reserve_both.ensures.data_content
-    (subst (λ (blocks : List (List ℕ)). MakesDevice v d plan.change.first plan.change.root (g.D.BlockStore.content c.reserve_both.new.data_store) blocks new) same made) in
-    subst (λ (x : Change). MakesDevice v d x.first x.root image old new) is made_old
+    subst (λ (x : Change). IsPlan v d x.first x.root plan) (sym c.in_ok-plan.ensures.plan.change) c.in_ok-plan.ensures.plan
 
-pub returns-in-Ok-clause-hash_reads : goal.returns-in-Ok-clause-hash_reads
-returns-in-Ok-clause-hash_reads g c = λ image len stays.
-    let planned = c.in_ok-plan.ensures.reads image len stays in
-    let reserved = c.reserve_both.ensures.hash_reads in
-    let carried = c.in-Ok.ensures.hash_reads stays in
-    omega arith
+pub carry_out-requires-clause-right : goal.carry_out-requires-clause-right
+carry_out-requires-clause-right g c = λ told.
+    let v : Volume = c.args.superblock.now in
+    let d : Draft = c.args.pending.now in
+    let plan = c.in_ok-plan.plan in
+    let made = c.in_ok-plan.ensures in
+    let content = g.H.BlockStore.content in
+    subst (λ (x : Change). IsRight v d x.first x.root (content c.prepare.new.hash_store) plan) (sym made.plan.change)
+    (subst (λ (blocks : List (List ℕ)). IsRight v d c.args.first c.args.root blocks plan) (sym made.hash_content) (made.right (sym made.hash_store.tells ∙ told)))
+
+pub carry_out-requires-clause-can : goal.carry_out-requires-clause-can
+carry_out-requires-clause-can g c =
+    let D = g.D.BlockStore in
+    let H = g.H.BlockStore in
+    let v : Volume = c.args.superblock.now in
+    let d : Draft = c.args.pending.now in
+    let made = c.in_ok-plan.ensures in
+    let now = c.prepare.new.data_store in
+    let hash_now = c.prepare.new.hash_store in
+    subst (λ (x : Change). CanCommit D H v d x.first x.root now hash_now) (sym made.plan.change)
+    (can_after D H v d c.args.first c.args.root c.args.data_store.now now c.args.hash_store.now hash_now c.requires.can made.data_store.content made.data_store.later.size made.hash_content made.hash_store.size)
+
+pub carry_out-requires-clause-hash_room : goal.carry_out-requires-clause-hash_room
+carry_out-requires-clause-hash_room g c = let room = c.in_ok-plan.ensures.hash_room in let first = ap (λ x. x.first) c.in_ok-plan.ensures.plan.change in omega arith
+
+pub returns-in-Ok-clause-done : goal.returns-in-Ok-clause-done
+returns-in-Ok-clause-done g c =
+    let D = g.D.BlockStore in
+    let H = g.H.BlockStore in
+    let v : Volume = c.args.superblock.now in
+    let d : Draft = c.args.pending.now in
+    let made = c.in_ok-plan.ensures in
+    let now = c.prepare.new.data_store in
+    let hash_now = c.prepare.new.hash_store in
+    let new_data = c.carry_out.new.data_store in
+    let new_hash = c.carry_out.new.hash_store in
+    let done = subst (λ (x : Change). IsCarriedOut D H v d x.first x.root now new_data hash_now new_hash) made.plan.change c.in-Ok.ensures.done in
+    carried_before D H v d c.args.first c.args.root c.args.data_store.now now new_data c.args.hash_store.now hash_now new_hash done made.data_store.content made.data_store.later.tells made.hash_content made.hash_store.tells

@@ -2,6 +2,7 @@ use Rattle.std.proofs.Common.{◌≡◌, ℕ, ◌+◌, ◌<◌, ◌≤◌, ◌++
 use Rattle.std.proofs.lemmas.List.{take_all, map_more, append_assoc, take_more}
 use Rattle.verity_digest.specs.Tree.{Hashing, pack}
 use Rattle.verity_digest.specs.Hash.{hashing, size_of}
+use Rattle.verity_store.proofs.StoreLemmas.{only_read_then}
 use Rattle.verity_edit.specs.declared.plan.Child.{Child}
 use Rattle.verity_edit.specs.Slots.{AreSized, nobody}
 use Rattle.verity_edit.specs.Level.{Holds, IsLevel}
@@ -14,12 +15,12 @@ make_block-requires-clause-level g c =
     let inv = c.loop-index.invariant in
     let P : ℕ → ℕ → ℕ → Type 0 = IsLevel c.args.level.now in
     let store = c.loop-index.hash_store in
-    let a = subst (λ (n : ℕ). P n (g.H.BlockStore.size c.args.hash_store.now) (size_of c.args.hasher.now.salted.algorithm)) (sym (ap length inv.content)) c.requires.level in
-    let b = subst (λ (n : ℕ). P (length (g.H.BlockStore.content store)) n (size_of c.args.hasher.now.salted.algorithm)) (sym inv.size) a in
+    let a = subst (λ (n : ℕ). P n (g.H.BlockStore.size c.args.hash_store.now) (size_of c.args.hasher.now.salted.algorithm)) (sym (ap length inv.read_only.content)) c.requires.level in
+    let b = subst (λ (n : ℕ). P (length (g.H.BlockStore.content store)) n (size_of c.args.hasher.now.salted.algorithm)) (sym inv.read_only.later.size) a in
     subst (λ (n : ℕ). P (length (g.H.BlockStore.content store)) (g.H.BlockStore.size store) n) (sym (ap (λ s. size_of s.algorithm) inv.salted)) b
 
 pub make_block-requires-clause-sized : goal.make_block-requires-clause-sized
-make_block-requires-clause-sized g c = let inv = c.loop-index.invariant in let size = c.requires.sized in omega (arith, inv.size)
+make_block-requires-clause-sized g c = let inv = c.loop-index.invariant in let size = c.requires.sized in omega (arith, inv.read_only.later.size)
 
 pub loop-index-preserved : goal.loop-index-preserved
 loop-index-preserved g c =
@@ -40,10 +41,10 @@ loop-index-preserved g c =
           let here : Hashing = hashing c.loop-index.hasher.salted (length c.loop-index.block) in
           let same : here ≡ h = λ j. hashing (inv.salted j) (len j) in
           let content = g.H.BlockStore.content c.loop-index.hash_store in
-          let held : Holds h old level.old content = subst (λ (blocks : List (List ℕ)). Holds h old level.old blocks) (sym inv.content) holds in
+          let held : Holds h old level.old content = subst (λ (blocks : List (List ℕ)). Holds h old level.old blocks) (sym inv.read_only.content) holds in
           let held_here : Holds here old level.old content = subst (λ (x : Hashing). Holds x old level.old content) (sym same) held in
           let before = inv.made told old new count holds renews in
-          let r = one.made (inv.tells ∙ told) old new count held_here renews in
+          let r = one.made (inv.read_only.later.tells ∙ told) old new count held_here renews in
           let block_of : ℕ → Planned = λ n. record { at = level.start + n; block = get_or (pack h new) n [] } in
           let child_of : ℕ → Child = λ n. record { number = n; digest = h.digest (get_or (pack h new) n []) } in (
             r.0
@@ -71,13 +72,9 @@ loop-index-preserved g c =
           (each_push (λ m. length m.block ≡ length c.args.block.now) nothing_planned c.loop-index.plan.items (record { at = level.start + i; block = planned.block }) (inv.planned sized) (planned.sized ∙ len));
       salted = one.salted ∙ inv.salted;
       hashed = omega arith;
-      unfailed = omega arith;
-      failures = omega arith;
+      unfailed = one.fails ∙ inv.unfailed;
       reads = omega arith;
-      content = one.content ∙ inv.content;
-      tells = one.tells ∙ inv.tells;
-      size = one.size ∙ inv.size;
-      room = one.room ∙ inv.room;
+      read_only = only_read_then g.H.BlockStore _ _ _ inv.read_only one.read_only;
     }
 
 all : (ns : List ℕ) (at : ℕ) → length ns ≤ at → take at ns ≡ ns

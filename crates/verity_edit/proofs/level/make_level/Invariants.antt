@@ -1,5 +1,6 @@
 use Rattle.std.proofs.Common.{◌≡◌, ℕ, ◌+◌, ◌≤◌, ◌++◌, true, List, length, map, take}
 use Rattle.verity_digest.specs.Hash.{hashing}
+use Rattle.verity_store.specs.Stores.{IsOnlyRead}
 use Rattle.verity_edit.specs.Slots.{AreSized}
 use Rattle.verity_edit.specs.Level.{Holds, Renews}
 use Rattle.verity_edit.specs.Plan.{numbers_of, places, ArePlanned, made_blocks, made_digests}
@@ -17,10 +18,6 @@ invariant-loop-index g l = record {
   salted : l.hasher.salted ≡ l.initial.hasher.salted;
   hashed : l.hasher.hashed ≡ l.initial.hasher.hashed + l.index-index;
   unfailed : g.H.BlockStore.failures l.hash_store ≡ g.H.BlockStore.failures l.initial.hash_store;
-  failures : g.H.BlockStore.failures l.initial.hash_store ≤ g.H.BlockStore.failures l.hash_store;
   reads : g.H.BlockStore.reads l.hash_store ≤ g.H.BlockStore.reads l.initial.hash_store + l.index-index;
-  content : g.H.BlockStore.content l.hash_store ≡ g.H.BlockStore.content l.initial.hash_store;
-  tells : g.H.BlockStore.tells l.hash_store ≡ g.H.BlockStore.tells l.initial.hash_store;
-  size : g.H.BlockStore.size l.hash_store ≡ g.H.BlockStore.size l.initial.hash_store;
-  room : g.H.BlockStore.room l.hash_store ≡ g.H.BlockStore.room l.initial.hash_store;
+  read_only : IsOnlyRead g.H.BlockStore l.initial.hash_store l.hash_store;
 }

@@ -6,6 +6,7 @@ use Rattle.verity_digest.proofs.Sha.{IsHashing-hashing}
 use Rattle.verity_profile.proofs.Bounds.{block_size_low}
 use Rattle.verity_geometry.specs.Geometry.{Shape, IsShape, digests_per_block, levels_of}
 use Rattle.verity_geometry.proofs.Shapes.{some}
+use Rattle.verity_store.proofs.StoreLemmas.{only_read_then}
 use Rattle.verity_edit.specs.declared.plan.Child.{Child}
 use Rattle.verity_edit.specs.declared.tree.Change.{Change}
 use Rattle.verity_edit.specs.Edits.{Edits}
@@ -103,11 +104,14 @@ returns-clause-right g c = λ told image len stands is_root.
     let named : AreNamed (λ n. h.digest (get_or e.working n [])) leaves =
     c.in_ok-add_fallen.ensures.named told h image ok (c.requires.sized ∙ sym c.requires.change.old_size) (sym c.requires.change.old_digest) ed.committed stands (c.in-Ok.ensures.named image) in
     let there : StandsFor h e change.first (content c.add_fallen.new.hash_store) change.root leaves = record {
-      tree = subst (λ (blocks : List (List ℕ)). BeginsWith (drop change.first blocks) (tree h image)) (sym c.in_ok-add_fallen.ensures.content) stands;
+      tree = subst (λ (blocks : List (List ℕ)). BeginsWith (drop change.first blocks) (tree h image)) (sym c.in_ok-add_fallen.ensures.read_only.content) stands;
       root = is_root;
       named = named;
     } in
-    let r = c.in_ok-root.ensures.made (c.in_ok-add_fallen.ensures.tells ∙ told) e ed (subst (λ (x : Hashing). StandsFor x e change.first (content c.add_fallen.new.hash_store) change.root leaves) (sym same) there) in (
+    let r = c.in_ok-root.ensures.made (c.in_ok-add_fallen.ensures.read_only.later.tells ∙ told) e ed (subst (λ (x : Hashing). StandsFor x e change.first (content c.add_fallen.new.hash_store) change.root leaves) (sym same) there) in (
       r.0 ∙ ap (λ x. touched_blocks x e change.first change.new.blocks (levels_of change.new)) same,
       r.1 ∙ ap (λ x. root x e.working) same,
     )
+
+pub returns-clause-read_only : goal.returns-clause-read_only
+returns-clause-read_only g c = only_read_then g.H.BlockStore _ _ _ c.in_ok-add_fallen.ensures.read_only c.in_ok-root.ensures.read_only

@@ -11,6 +11,7 @@ use Rattle.verity_digest.proofs.Counts.{row_len-zero}
 use Rattle.verity_profile.proofs.Bounds.{block_size_low}
 use Rattle.verity_geometry.specs.Geometry.{digests_per_block, levels_of, start_of}
 use Rattle.verity_geometry.proofs.Shapes.{branching}
+use Rattle.verity_store.proofs.StoreLemmas.{only_read_same, only_read_then}
 use Rattle.verity_edit.specs.declared.plan.Child.{Child}
 use Rattle.verity_edit.specs.Edits.{Edits}
 use Rattle.verity_edit.specs.Touched.{touched}
@@ -28,12 +29,12 @@ make_next-requires-clause-change g c =
     let inv = c.loop-level.invariant in
     let store = c.loop-level.hash_store in
     let P : ℕ → ℕ → ℕ → Type 0 = IsChange c.args.change.now in
-    let a = subst (λ (n : ℕ). P n (g.H.BlockStore.size c.args.hash_store.now) (size_of c.args.hasher.now.salted.algorithm)) (sym (ap length inv.content)) c.requires.change in
-    let b = subst (λ (n : ℕ). P (length (g.H.BlockStore.content store)) n (size_of c.args.hasher.now.salted.algorithm)) (sym inv.size) a in
+    let a = subst (λ (n : ℕ). P n (g.H.BlockStore.size c.args.hash_store.now) (size_of c.args.hasher.now.salted.algorithm)) (sym (ap length inv.read_only.content)) c.requires.change in
+    let b = subst (λ (n : ℕ). P (length (g.H.BlockStore.content store)) n (size_of c.args.hasher.now.salted.algorithm)) (sym inv.read_only.later.size) a in
     subst (λ (n : ℕ). P (length (g.H.BlockStore.content store)) (g.H.BlockStore.size store) n) (sym (ap (λ s. size_of s.algorithm) inv.salted)) b
 
 pub make_next-requires-clause-sized : goal.make_next-requires-clause-sized
-make_next-requires-clause-sized g c = let inv = c.loop-level.invariant in let size = c.requires.sized in omega (arith, inv.size)
+make_next-requires-clause-sized g c = let inv = c.loop-level.invariant in let size = c.requires.sized in omega (arith, inv.read_only.later.size)
 
 pub make_next-requires-clause-children_sized : goal.make_next-requires-clause-children_sized
 make_next-requires-clause-children_sized g c =
@@ -59,13 +60,9 @@ loop-level-init g c =
       planned = subst (ArePlanned (length c.args.block.now)) (sym c.requires.empty) (λ d below. absurd (omega arith));
       salted = refl;
       hashed = λ e ed. omega arith;
-      unfailed = omega arith;
-      failures = omega arith;
+      unfailed = refl;
       reads = λ e ed. omega arith;
-      content = refl;
-      tells = refl;
-      size = refl;
-      room = refl;
+      read_only = only_read_same g.H.BlockStore c.args.hash_store.now;
     }
 
 pub loop-level-preserved : goal.loop-level-preserved
@@ -105,11 +102,11 @@ loop-level-preserved g c =
           let new : List (List ℕ) = digests_of h e.working l in
           let r = ready_change h change e (length (content c.args.hash_store.now)) size digest l (content c.args.hash_store.now) c.args.leaves.items c.loop-level.children.items ok c.requires.sized refl change_ok ed stands there (inv.numbers e ed) before.1 in
           let long : length new ≡ row_len k n l = length-map (row h e.working l) h.digest ∙ length-row h e.working l (let b = ok.branching in omega arith) ∙ (λ i. row_len (width i) (ed.working i) l) in
-          let held : Holds h r.old (level_of change l).old (content c.loop-level.hash_store) = subst (λ (blocks : List (List ℕ)). Holds h r.old (level_of change l).old blocks) (sym inv.content) r.holds in
+          let held : Holds h r.old (level_of change l).old (content c.loop-level.hash_store) = subst (λ (blocks : List (List ℕ)). Holds h r.old (level_of change l).old blocks) (sym inv.read_only.content) r.holds in
           let held_here : Holds here r.old (level_of change l).old (content c.loop-level.hash_store) = subst (λ (x : Hashing). Holds x r.old (level_of change l).old (content c.loop-level.hash_store)) (sym same) held in
           let renews : Renews h.digest_size r.old new c.deref.result.now = subst (λ (xs : List Child). Renews h.digest_size r.old new xs) (sym c.deref.ensures.value) r.renews in
           let renews_here : Renews here.digest_size r.old new c.deref.result.now = subst (λ (x : Hashing). Renews x.digest_size r.old new c.deref.result.now) (sym same) renews in
-          let made = one.made (inv.tells ∙ told) r.old new long held_here renews_here in
+          let made = one.made (inv.read_only.later.tells ∙ told) r.old new long held_here renews_here in
           let next : c.in_ok-children.children.items ≡ made_digests h new (touched k e l) = made.1 ∙ (λ i. made_digests (same i) new (up e ed i)) in
           let inside : (d : ℕ) → d < length c.in_ok-children.children.items → (child_at c.in_ok-children.children.items d).number < length (row h e.working (suc l)) = λ d below.
           let w = one.next_within d below in
@@ -123,13 +120,9 @@ loop-level-preserved g c =
       planned = subst (λ (m : ℕ). ArePlanned m c.make_next.new.plan.items) (let e : length c.loop-level.block ≡ length c.args.block.now = omega arith in e) (one.planned (subst (λ (m : ℕ). ArePlanned m c.loop-level.plan.items) (let e : length c.args.block.now ≡ length c.loop-level.block = omega arith in e) inv.planned));
       salted = one.salted ∙ inv.salted;
       hashed = λ e ed. let more = touched_below-more k e l (l + 1) refl in let now = ap length (up e ed) in let was = inv.hashed e ed in let h = one.hashed in omega arith;
-      unfailed = omega arith;
-      failures = omega arith;
+      unfailed = one.fails ∙ inv.unfailed;
       reads = λ e ed. let more = touched_below-more k e l (l + 1) refl in let now = ap length (up e ed) in let was = inv.reads e ed in let r = one.reads in omega arith;
-      content = one.content ∙ inv.content;
-      tells = one.tells ∙ inv.tells;
-      size = one.size ∙ inv.size;
-      room = one.room ∙ inv.room;
+      read_only = only_read_then g.H.BlockStore _ _ _ inv.read_only one.read_only;
     }
 
 pub returns-in_err-children-clause-reads : goal.returns-in_err-children-clause-reads

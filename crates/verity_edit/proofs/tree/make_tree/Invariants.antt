@@ -2,6 +2,7 @@ use Rattle.std.proofs.Common.{◌≡◌, ◌+◌, ◌≤◌, true, [], length, g
 use Rattle.verity_digest.specs.Hash.{hashing, size_of}
 use Rattle.verity_digest.specs.Shape.{row_len}
 use Rattle.verity_geometry.specs.Geometry.{digests_per_block}
+use Rattle.verity_store.specs.Stores.{IsOnlyRead}
 use Rattle.verity_edit.specs.Edits.{Edits}
 use Rattle.verity_edit.specs.Digests.{digests_of}
 use Rattle.verity_edit.specs.Slots.{AreNamed, AreSized, AreWithin}
@@ -25,11 +26,7 @@ invariant-loop-level g l = record {
   hashed : (e : Edits) → IsEdited e l.change.old.blocks l.change.new.blocks l.fn.leaves.items
       → l.hasher.hashed ≡ l.initial.hasher.hashed + touched_below (digests_per_block l.change.new) e l.level;
   unfailed : g.H.BlockStore.failures l.hash_store ≡ g.H.BlockStore.failures l.initial.hash_store;
-  failures : g.H.BlockStore.failures l.initial.hash_store ≤ g.H.BlockStore.failures l.hash_store;
   reads : (e : Edits) → IsEdited e l.change.old.blocks l.change.new.blocks l.fn.leaves.items
       → g.H.BlockStore.reads l.hash_store ≤ g.H.BlockStore.reads l.initial.hash_store + touched_below (digests_per_block l.change.new) e l.level;
-  content : g.H.BlockStore.content l.hash_store ≡ g.H.BlockStore.content l.initial.hash_store;
-  tells : g.H.BlockStore.tells l.hash_store ≡ g.H.BlockStore.tells l.initial.hash_store;
-  size : g.H.BlockStore.size l.hash_store ≡ g.H.BlockStore.size l.initial.hash_store;
-  room : g.H.BlockStore.room l.hash_store ≡ g.H.BlockStore.room l.initial.hash_store;
+  read_only : IsOnlyRead g.H.BlockStore l.initial.hash_store l.hash_store;
 }

@@ -22,7 +22,7 @@ returns-clause-right g c = λ image fits.
     let keeps : IsOnlyReading D H v.1 w.1 = subst (λ (x : HubState × Verifying g.row.D.Denot g.row.H.Denot). IsOnlyReading D H x.1 w.1) c.hub.view_is c.serve-result.ensures.later in
     let ok : IsVerifier D H w.1 = subst (λ x. IsVerifier D H x) c.export.ensures c.check.ensures in
     served_weaker (Talked (facts_of D H v.1) (facts_of D H w.1) v.0.offer) (SaysRight D H w.1 image v.0.offer) v.0.offer e c.args.limit c.serve-result.result
-    (says_right D H g.met.D.BlockStore.gave_sized g.met.H.BlockStore.gave_sized v.1 w.1 ok image (subst (λ (t : Table). Fits t image) (sym keeps.table) fits) v.0.offer) served
+    (says_right D H v.1 w.1 ok image (subst (λ (t : Table). Fits t image) (sym keeps.table) fits) v.0.offer) served
 
 pub returns-clause-exact : goal.returns-clause-exact
 returns-clause-exact g c = λ image holds.

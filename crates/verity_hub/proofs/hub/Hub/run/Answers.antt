@@ -31,7 +31,7 @@ returns-clause-ran g c =
           let e = ran history after in (
             e.0,
             (λ image fits. each_weaker (Given (facts_of D H w.1)) (IsRightFor D H w.1 image) v.0.offer history events r.0
-                (given_right D H g.met.D.BlockStore.gave_sized g.met.H.BlockStore.gave_sized w.1 ok image (subst (λ (t : Table). Fits t image) (sym keeps.table) fits)) e.0),
+                (given_right D H w.1 ok image (subst (λ (t : Table). Fits t image) (sym keeps.table) fits)) e.0),
             e.1,
           ),
     )

@@ -1,0 +1,3 @@
+pub mod ChMaj
+pub mod Chunks
+pub mod Rounds

@@ -1,0 +1,236 @@
+use std::alloc::Global;
+use std::test::Fail;
+use uuid::Uuid;
+use verity_digest::{Algorithm, Digest, Salt};
+use verity_superblock::{SuperFault, Superblock, Table, TableFault, tree_start};
+
+const UUID: &str = "01234567-89ab-cdef-0123-456789abcdef";
+
+const ROOT: &str = "5f70bf18a086007016e948b04aed3b82103a36bea41755b6cddfaf10ace3c6ef";
+
+const UPPER_ROOT: &str = "5F70BF18A086007016E948B04AED3B82103A36BEA41755B6CDDFAF10ACE3C6EF";
+
+/// Data blocks of 1024 bytes, hash blocks of 512, one data block, the empty salt.
+fn worked(alloc: Global) -> Result<Superblock, Fail> {
+    let salt = Salt::new(alloc, &[])?;
+    let id = Uuid::parse_str(UUID)?;
+    Ok(Superblock::new(1024, 512, 1, salt, id, Algorithm::Sha256)?)
+}
+
+/// The bytes from one offset to before another, or none where they are not there.
+fn part(bytes: &[u8], from: usize, to: usize) -> &[u8] {
+    if from <= to && to <= bytes.len() {
+        &bytes[from..to]
+    } else {
+        &[]
+    }
+}
+
+#[test]
+fn writes_and_reads_the_worked_superblock(rt: HostRuntime) -> Result<(), Fail> {
+    let bytes = worked(rt.alloc())?.encode();
+    let front = hex::decode(
+        rt.alloc(),
+        "766572697479000001000000010000000123456789abcdef0123456789abcdef736861323536",
+    )?;
+    assert_eq!(rt; part(&bytes, 0, 38), front.as_slice());
+    assert_eq!(rt; part(&bytes, 38, 64), [0; 26].as_slice());
+    assert_eq!(rt;
+        part(&bytes, 64, 80),
+        [0, 4, 0, 0, 0, 2, 0, 0, 1, 0, 0, 0, 0, 0, 0, 0].as_slice()
+    );
+    assert_eq!(rt; part(&bytes, 80, 512), [0; 432].as_slice());
+    let read = Superblock::decode(rt.alloc(), &bytes)?;
+    assert_eq!(rt;
+        (
+            read.data_block_size(),
+            read.hash_block_size(),
+            read.data_blocks()
+        ),
+        (1024, 512, 1)
+    );
+    assert_eq!(rt; read.algorithm(), Algorithm::Sha256);
+    assert_eq!(rt; read.uuid(), Uuid::parse_str(UUID)?);
+    assert_eq!(rt; read.salt().bytes().len(), 0);
+    Ok(())
+}
+
+/// The worked superblock with some bytes changed is answered so.
+#[test]
+fn refuses_the_first_that_applies(rt: HostRuntime) -> Result<(), Fail> {
+    let rows: [(usize, &[u8], Option<SuperFault>); 16] = [
+        (0, b"VERITY", Some(SuperFault::Signature)),
+        (0, b"xerity\0\0\x02", Some(SuperFault::Signature)),
+        (8, &[2], Some(SuperFault::Version)),
+        (12, &[0], Some(SuperFault::HashType)),
+        (32, b"sha256\0rubbish", None),
+        (32, b"SHA256", Some(SuperFault::Algorithm)),
+        (32, b"sha256x", Some(SuperFault::Algorithm)),
+        (
+            32,
+            b"sha256sha256sha256sha256sha25612",
+            Some(SuperFault::Algorithm),
+        ),
+        (64, &[0, 1, 0, 0], Some(SuperFault::BadSize)),
+        (64, &[0, 3, 0, 0], Some(SuperFault::BadSize)),
+        (68, &[0, 0, 16, 0], Some(SuperFault::BadSize)),
+        (72, &[0, 0, 0, 0, 0, 1, 0, 0, 0, 1], None),
+        (72, &[1, 0, 0, 0, 0, 1, 0, 0], Some(SuperFault::BadCount)),
+        (72, &[0], Some(SuperFault::BadCount)),
+        (80, &[1, 1], Some(SuperFault::SaltSize)),
+        (344, b"rubbish", None),
+    ];
+    for (at, field, answer) in rows {
+        let mut bytes = worked(rt.alloc())?.encode();
+        for (i, byte) in field.iter().enumerate() {
+            if let Some(place) = bytes.get_mut(at + i) {
+                *place = *byte;
+            }
+        }
+        let read = Superblock::decode(rt.alloc(), &bytes);
+        assert_eq!(rt; read.err(), answer, "at {at}");
+    }
+    let short = Superblock::decode(rt.alloc(), &[0; 511]);
+    assert_eq!(rt; short.err(), Some(SuperFault::Short));
+    Ok(())
+}
+
+#[test]
+fn refuses_other_lines(rt: HostRuntime) -> Result<(), Fail> {
+    let rows = [
+        ("1 data hash 512 512 1 1 sha256 ROOT", TableFault::Fields),
+        (
+            "1 data hash 512 512 1 1 sha256 ROOT - 1",
+            TableFault::Fields,
+        ),
+        ("1 data  hash 512 512 1 1 sha256 ROOT -", TableFault::Fields),
+        ("1 data hash 512 512 1 1 sha256 ROOT ", TableFault::Fields),
+        ("0 data hash 512 512 x 1 sha256 ROOT -", TableFault::Version),
+        (
+            "01 data hash 512 512 1 1 sha256 ROOT -",
+            TableFault::Version,
+        ),
+        ("1 data hash 513 512 x 1 sha256 ROOT -", TableFault::Number),
+        ("1 data hash +5 512 1 1 sha256 ROOT -", TableFault::Number),
+        (
+            "1 data hash 512 512 000000000000000000001 1 sha256 ROOT -",
+            TableFault::Number,
+        ),
+        (
+            "1 data hash 512 512 18446744073709551616 1 sha256 ROOT -",
+            TableFault::Number,
+        ),
+        ("1 data hash 513 512 0 1 sha256 ROOT -", TableFault::Size),
+        ("1 data hash 512 512 0 1 sha1 ROOT -", TableFault::Count),
+        (
+            "1 data hash 512 512 1 1099511627777 sha256 ROOT -",
+            TableFault::Count,
+        ),
+        ("1 data hash 512 512 1 1 sha1 ROOT -", TableFault::Algorithm),
+        ("1 data hash 512 512 1 1 sha256 ROO -", TableFault::Digest),
+        ("1 data hash 512 512 1 1 sha512 ROOT -", TableFault::Digest),
+        ("1 data hash 512 512 1 1 sha256 ROOT abc", TableFault::Salt),
+        ("1 data hash 512 512 1 1 sha256 ROOT LONG", TableFault::Salt),
+    ];
+    let long = [b'0'; 514];
+    for (text, answer) in rows {
+        let spelt = text.replace(rt.alloc(), "LONG", std::str::from_utf8(&long)?)?;
+        let spelt = spelt.as_str().replace(rt.alloc(), "ROOT", ROOT)?;
+        let read = Table::parse(rt.alloc(), spelt.as_str());
+        assert_eq!(rt; read.err(), Some(answer), "{text}");
+    }
+    Ok(())
+}
+
+#[test]
+fn spells_lines_canonically(rt: HostRuntime) -> Result<(), Fail> {
+    let rows = [
+        (
+            "1 data hash 0512 512 1 0 sha256 ROOT -",
+            "1 data hash 512 512 1 0 sha256 ROOT -",
+        ),
+        (
+            "1 a/b c=d 1024 0000512 17 1099511627776 sha256 ROOT 00FF",
+            "1 a/b c=d 1024 512 17 1099511627776 sha256 ROOT 00ff",
+        ),
+    ];
+    for (text, answer) in rows {
+        let text = text.replace(rt.alloc(), "ROOT", UPPER_ROOT)?;
+        let answer = answer.replace(rt.alloc(), "ROOT", ROOT)?;
+        let table = Table::parse(rt.alloc(), text.as_str())?;
+        assert_eq!(rt; table.text()?.as_str(), answer.as_str());
+    }
+    Ok(())
+}
+
+#[test]
+fn makes_the_line_of_the_stored_run(rt: HostRuntime) -> Result<(), Fail> {
+    let mut root = [0; 32];
+    hex::decode_to_slice(ROOT, &mut root)?;
+    let salt = Salt::new(rt.alloc(), &[])?;
+    let table = Table::new(
+        rt.alloc(),
+        "scratch-data",
+        "scratch-hash",
+        1024,
+        512,
+        1,
+        1,
+        Digest::from_bytes(root),
+        salt,
+    )?;
+    let text = table.text()?;
+    assert_eq!(rt;
+        text.as_str(),
+        "1 scratch-data scratch-hash 1024 512 1 1 sha256 5f70bf18a086007016e948b04aed3b82103a36bea41755b6cddfaf10ace3c6ef -"
+    );
+    let salt = Salt::new(rt.alloc(), &[])?;
+    let spaced = Table::new(
+        rt.alloc(),
+        "scratch data",
+        "hash",
+        513,
+        512,
+        1,
+        1,
+        Digest::from_bytes(root),
+        salt,
+    );
+    assert_eq!(rt; spaced.err(), Some(TableFault::Fields));
+    Ok(())
+}
+
+/// The fields from the block sizes on, as another writer of the format packs them.
+#[test]
+fn packs_a_salted_superblock(rt: HostRuntime) -> Result<(), Fail> {
+    let salt = hex::decode(
+        rt.alloc(),
+        "e48da609055204e89ae53b655ca2216dd983cf3cb829f34f63a297d106d53e2d",
+    )?;
+    let salt = Salt::new(rt.alloc(), salt.as_slice())?;
+    let id = Uuid::parse_str(UUID)?;
+    let bytes = Superblock::new(4096, 512, 1 << 40, salt, id, Algorithm::Sha512)?.encode();
+    let fields = hex::decode(
+        rt.alloc(),
+        "001000000002000000000000000100002000000000000000e48da609055204e89ae53b655ca2216dd983cf3cb829f34f63a297d106d53e2d",
+    )?;
+    assert_eq!(rt; part(&bytes, 64, 120), fields.as_slice());
+    assert_eq!(rt; part(&bytes, 120, 512), [0; 392].as_slice());
+    Ok(())
+}
+
+#[test]
+fn begins_the_tree_behind_the_superblock(rt: HostRuntime) {
+    let rows = [
+        (0, 512, Ok(1)),
+        (1024, 512, Ok(3)),
+        (512, 1024, Err(SuperFault::Offset)),
+        (562_949_953_421_312, 512, Err(SuperFault::Offset)),
+        (562_949_953_420_800, 512, Ok(1 << 40)),
+    ];
+    for (offset, hash_size, answer) in rows {
+        if verity_profile::is_block_size(hash_size) {
+            assert_eq!(rt; tree_start(offset, hash_size), answer, "at {offset}");
+        }
+    }
+}

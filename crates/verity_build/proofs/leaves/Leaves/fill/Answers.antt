@@ -1,0 +1,20 @@
+use Rattle.std.proofs.Common.{◌≡◌, ◌∙◌, ℕ, ◌+◌, [], length, take, ap, sym, get_or, arith}
+use Rattle.std.proofs.lemmas.List.{length-take-le}
+use Rattle.std.specs.Fork.{slice_chunk}
+use Rattle.verity_build.proofs.Ahead.{ahead_made}
+use Rattle.verity_build.proofs.leaves.Leaves.fill.Goals as goal
+
+pub returns-clause-ahead : goal.returns-clause-ahead
+returns-clause-ahead g c =
+    let D = g.D.BlockStore in
+    let n : ℕ = c.args.n in
+    let count : ℕ = c.min-count.result in
+    let run = c.read_run.new.out in
+    let read = c.in_ok-read_run.ensures in
+    let room : length (take count c.args.self.now.digests) ≡ count = length-take-le count c.args.self.now.digests (omega arith) in
+    ahead_made D c.args.tree.now.hasher.salted n c.read_run.new.store c.digest_run.new.out _ run c.args.tree.now.geometry.data_size count
+    (c.digest_run.auto.out ∙ room)
+    (omega (arith, ap length read.read.content))
+    (λ j below. c.digest_run.ensures.digests j (omega (arith, room)))
+    (λ tells j below.
+    ap (λ blocks. get_or blocks (n + j) []) read.read.content ∙ read.right (sym read.read.later.tells ∙ tells) j below ∙ ap (λ size. slice_chunk run size j) c.requires.size)

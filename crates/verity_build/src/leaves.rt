@@ -1,0 +1,123 @@
+//! The digests of the data blocks in their order, of which several are made at a time.
+ghost use Rattle.std.specs.Prelude.{◌≡◌, ◌+◌, ◌-◌, ◌^◌, ◌<◌, ◌≤◌, [], true, length, slice_index_or, OnOk, OnErr, IfOk};
+ghost use Rattle.verity_digest.specs.Hash.{size_of, salted_digest};
+ghost use Rattle.verity_store.specs.Stores.{IsOnlyRead};
+ghost use Rattle.verity_build.specs.Ahead.{AreAhead};
+
+use crate::open_tree::OpenTree;
+use std::alloc::Allocator;
+use verity_digest::Digest;
+use verity_store::{BlockStore, StoreFault, read_run};
+
+/// How many data blocks are hashed side by side.
+const AT_A_TIME: usize = 8;
+
+/// How many bytes of data blocks are read at a time, but for single blocks that are longer.
+const BYTES_AT_A_TIME: usize = 524_288;
+
+/// The bytes of the data blocks that are read at a time: of eight, or of fewer where eight would be more than 512 KiB.
+pub(crate) fn bytes_at_a_time(block_size: usize) -> usize
+    ensures { block_size ≤ result }
+{
+    block_size
+        .saturating_mul(AT_A_TIME)
+        .min(BYTES_AT_A_TIME)
+        .max(block_size)
+}
+
+/// Digests of data blocks that were made ahead of their turn: those from `taken` to before `held`.
+#[derive(Drop)]
+pub(crate) struct Leaves {
+    digests: [Digest; 8],
+    taken: usize,
+    held: usize,
+    ghost order: { taken ≤ held },
+    ghost most: { held ≤ 8 },
+}
+
+impl Leaves {
+    /// No digest yet.
+    pub(crate) fn new() -> Self
+        ensures taken { result.taken ≡ 0 }
+        ensures held { result.held ≡ 0 }
+    {
+        Leaves {
+            digests: [Digest::from_bytes([0; 32]); 8],
+            taken: 0,
+            held: 0,
+        }
+    }
+
+    /// Reads the data blocks from `n` on for which `buffer` has room, eight at most, and makes their digests.
+    fn fill<A: Allocator, D: BlockStore>(
+        &mut self,
+        tree: &mut OpenTree<A>,
+        data_store: &mut D,
+        n: u64,
+        buffer: &mut [u8],
+    ) -> Result<(), StoreFault>
+        requires within { n < tree.old.geometry.blocks }
+        requires blocks { length (D.content data_store.old) ≡ tree.old.geometry.blocks }
+        requires size { D.size data_store.old ≡ tree.old.geometry.data_size }
+        requires room { tree.old.geometry.data_size ≤ length buffer.old }
+        ensures ahead { OnOk result (AreAhead D.BlockStore tree.old.hasher.salted n data_store.new self.new.digests self.new.taken self.new.held) }
+        ensures some { OnOk result (self.new.taken < self.new.held) }
+        ensures reads { OnOk result (D.reads data_store.new ≡ D.reads data_store.old + (self.new.held - self.new.taken)) }
+        ensures reads_most { D.reads data_store.new + n ≤ D.reads data_store.old + tree.old.geometry.blocks }
+        ensures read { IsOnlyRead D.BlockStore data_store.old data_store.new }
+        ensures failed { OnErr result (D.failures data_store.old < D.failures data_store.new) }
+        ensures unfailed { OnOk result (D.failures data_store.new ≡ D.failures data_store.old) }
+        ensures opens { tree.new.blocks.items ≡ tree.old.blocks.items }
+        ensures root { tree.new.root ≡ tree.old.root }
+        ensures salted { tree.new.hasher.salted ≡ tree.old.hasher.salted }
+        ensures geometry { tree.new.geometry ≡ tree.old.geometry }
+    {
+        let size = tree.geometry.data_size();
+        let left = tree.geometry.blocks() - n;
+        let count = (buffer.len() / size).min(AT_A_TIME).min(left as usize);
+        let run = &mut buffer[..count * size];
+        read_run(data_store, n, count, run)?;
+        tree.digest_run(run, &mut self.digests[..count]);
+        self.taken = 0;
+        self.held = count;
+        Ok(())
+    }
+
+    /// The digest of data block `n`, whose turn it is. Where none is ahead, the blocks from `n` on are read into `buffer`, as
+    /// many as it has room for, eight at most.
+    ///
+    /// S1 where a read failed.
+    pub(crate) fn next<A: Allocator, D: BlockStore>(
+        &mut self,
+        tree: &mut OpenTree<A>,
+        data_store: &mut D,
+        n: u64,
+        buffer: &mut [u8],
+    ) -> Result<Digest, StoreFault>
+        requires ahead { AreAhead D.BlockStore tree.old.hasher.salted n data_store.old self.old.digests self.old.taken self.old.held }
+        requires within { n < tree.old.geometry.blocks }
+        requires blocks { length (D.content data_store.old) ≡ tree.old.geometry.blocks }
+        requires size { D.size data_store.old ≡ tree.old.geometry.data_size }
+        requires room { tree.old.geometry.data_size ≤ length buffer.old }
+        ensures sized { IfOk result (λ digest. length digest ≡ size_of tree.old.hasher.salted.algorithm) }
+        ensures right { IfOk result (λ digest. D.tells data_store.old ≡ true
+            → digest ≡ salted_digest tree.old.hasher.salted (slice_index_or (D.content data_store.old) n [])) }
+        ensures ahead { OnOk result (AreAhead D.BlockStore tree.old.hasher.salted (n + 1) data_store.new self.new.digests self.new.taken self.new.held) }
+        ensures reads { OnOk result (D.reads data_store.new + (self.old.held - self.old.taken) ≡ D.reads data_store.old + 1 + (self.new.held - self.new.taken)) }
+        ensures reads_most { D.reads data_store.new + n + (self.old.held - self.old.taken) ≤ D.reads data_store.old + tree.old.geometry.blocks }
+        ensures read { IsOnlyRead D.BlockStore data_store.old data_store.new }
+        ensures failed { OnErr result (D.failures data_store.old < D.failures data_store.new) }
+        ensures unfailed { OnOk result (D.failures data_store.new ≡ D.failures data_store.old) }
+        ensures opens { tree.new.blocks.items ≡ tree.old.blocks.items }
+        ensures root { tree.new.root ≡ tree.old.root }
+        ensures salted { tree.new.hasher.salted ≡ tree.old.hasher.salted }
+        ensures geometry { tree.new.geometry ≡ tree.old.geometry }
+    {
+        if self.taken == self.held {
+            self.fill(tree, data_store, n, buffer)?;
+        }
+        let digest = self.digests[self.taken];
+        self.taken += 1;
+        Ok(digest)
+    }
+}

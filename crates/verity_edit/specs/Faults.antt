@@ -1,0 +1,26 @@
+-- Why a commit's parts fail: for memory before the first change, or where a store failed. No failure is passed over.
+use Rattle.std.specs.Prelude.{◌≡◌, ℕ, ◌<◌, Result, Ok, Err}
+use Rattle.verity_store.specs.declared.fault.Which.{Which}
+use Rattle.verity_store.specs.declared.fault.Which.TheVariants as which
+use Rattle.verity_build.specs.Faults.{HasFailed}
+use Rattle.verity_edit.specs.declared.fault.EditFault.{EditFault}
+use Rattle.verity_edit.specs.declared.fault.EditFault.TheVariants.{NoMemory, Store}
+
+-- of a part that reads the hash store alone, whose failures are counted before and after it
+abbrev pub PlansOrFails : {T : Type 0} → Result T EditFault → ℕ → ℕ → Type 0
+PlansOrFails (Ok made) old new = new ≡ old
+PlansOrFails (Err NoMemory) old new = new ≡ old
+PlansOrFails (Err (Store which.Hash)) old new = old < new
+PlansOrFails (Err _) old new = ⊥
+
+-- of a part that changes both stores
+abbrev pub NamesFailed : {T : Type 0} → Result T Which → ℕ → ℕ → ℕ → ℕ → Type 0
+NamesFailed (Ok done) data_old data_new hash_old hash_new = (data_new ≡ data_old) × (hash_new ≡ hash_old)
+NamesFailed (Err store) data_old data_new hash_old hash_new = HasFailed (data_old < data_new) (hash_old < hash_new) store
+
+-- of a whole commit
+abbrev pub CommitsOrFails : {T : Type 0} → Result T EditFault → ℕ → ℕ → ℕ → ℕ → Type 0
+CommitsOrFails (Ok made) data_old data_new hash_old hash_new = (data_new ≡ data_old) × (hash_new ≡ hash_old)
+CommitsOrFails (Err NoMemory) data_old data_new hash_old hash_new = (data_new ≡ data_old) × (hash_new ≡ hash_old)
+CommitsOrFails (Err (Store store)) data_old data_new hash_old hash_new = HasFailed (data_old < data_new) (hash_old < hash_new) store
+CommitsOrFails (Err _) data_old data_new hash_old hash_new = ⊥

@@ -1,0 +1,12 @@
+-- Which files and devices can hold a volume, and which two are one.
+use Rattle.std.specs.Prelude.{ℕ, Bool, if◌then◌else◌, Option, Some, None}
+use Rattle.verity_tool.specs.declared.identity.Identity.{Identity}
+use Rattle.verity_tool.specs.declared.identity.Identity.TheVariants.{File, Device}
+
+-- a regular file is known by its file system and its number there, a block device by its device number; nothing else
+-- holds blocks
+abbrev pub identity_of : Bool → Bool → ℕ → ℕ → ℕ → Option Identity
+identity_of is_file is_device dev ino rdev =
+    if is_file then Some (File dev ino)
+    else if is_device then Some (Device rdev)
+    else None

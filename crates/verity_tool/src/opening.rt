@@ -1,0 +1,162 @@
+//! Files are opened here, looked at, and nothing is changed in them.
+ghost use Rattle.std.specs.Prelude.{◌≡◌, ◌≢◌, ◌↔◌, OnErr, IsOk, IfErr};
+ghost use Rattle.verity_profile.specs.Profile.{IsBlockSize};
+
+use crate::identity::{Identity, file_identity};
+use crate::volume_file::VolumeFile;
+use std::fs::{File, Metadata, OpenOptions};
+use std::io::ErrorKind;
+use std::rt::Files;
+use std::{fs, io};
+use verity_profile::is_block_size;
+use verity_store::{FileStore, StoreFault};
+
+/// A file or a block device that was opened.
+#[derive(Drop)]
+pub struct Opened {
+    pub file: File,
+    pub identity: Identity,
+}
+
+/// How a file is opened.
+#[derive(Clone, Copy, Debug, PartialEq, Eq)]
+pub enum Access {
+    Read,
+    Write,
+}
+
+/// Opens a file or a block device that is there. S1 where it isn't, or where it is something else, which is not waited
+/// for; S3 for want of memory.
+pub fn open_there<R: Files<File = File>>(
+    rt: &R,
+    path: &str,
+    access: Access,
+) -> Result<Opened, StoreFault> {
+    match fs::metadata(rt, path) {
+        Ok(metadata) => open_seen(rt, path, access, &metadata),
+        Err(error) => Err(fault_of(error)),
+    }
+}
+
+/// Opens a file or a block device to be written, and makes a file where there is nothing. It tells whether it did.
+/// Nothing is cut. S1 and S3 as in `open_there`.
+pub fn open_or_make<R: Files<File = File> + AllocGlobal>(
+    rt: &R,
+    path: &str,
+) -> Result<(Opened, bool), StoreFault> {
+    match fs::metadata(rt, path) {
+        Ok(metadata) => match open_seen(rt, path, Access::Write, &metadata) {
+            Ok(opened) => Ok((opened, false)),
+            Err(fault) => Err(fault),
+        },
+        Err(error) => match error.kind() {
+            ErrorKind::NotFound => match make(rt, path) {
+                Ok(opened) => Ok((opened, true)),
+                Err(fault) => Err(fault),
+            },
+            _ => Err(fault_of(error)),
+        },
+    }
+}
+
+/// A store over all of a file. S2 where its length is not a multiple of `size`.
+pub fn whole_store(file: File, size: usize) -> Result<FileStore<VolumeFile>, StoreFault> {
+    FileStore::over(VolumeFile::new(file), size)
+}
+
+/// A store with no blocks over a file, in which all stays until its length is set.
+pub fn replaced_store(file: File, size: usize) -> Result<FileStore<VolumeFile>, StoreFault> {
+    FileStore::over(VolumeFile::replaced(file), size)
+}
+
+/// S4 for all but the block sizes of the profile.
+pub fn check_block_size(size: usize) -> Result<(), StoreFault>
+    ensures taken { IsOk result ↔ IsBlockSize size }
+    ensures refused { IfErr result (λ e. e ≡ StoreFault.BlockSize) }
+{
+    if is_block_size(size) {
+        Ok(())
+    } else {
+        Err(StoreFault::BlockSize)
+    }
+}
+
+/// Removes a file that this program made, where nothing was written to it yet.
+pub fn unmake<R: Files<File = File> + AllocGlobal>(rt: &R, path: &str) {
+    let Ok(metadata) = fs::metadata(rt, path) else {
+        return;
+    };
+    if metadata.len() == 0 {
+        let _ = remove(rt, path);
+    }
+}
+
+/// Removes the file that a path leads to; of a link, the file that it names.
+fn remove<R: Files<File = File> + AllocGlobal>(rt: &R, path: &str) -> io::Result<()> {
+    if fs::symlink_metadata(rt, path)?.is_symlink() {
+        let target = fs::canonicalize(rt, path)?;
+        fs::remove_file(rt, target.as_str())
+    } else {
+        fs::remove_file(rt, path)
+    }
+}
+
+fn make<R: Files<File = File> + AllocGlobal>(rt: &R, path: &str) -> Result<Opened, StoreFault> {
+    let made = OpenOptions::new()
+        .read(true)
+        .write(true)
+        .create(true)
+        .open(rt, path);
+    match made {
+        Ok(file) => match looked_at(file) {
+            Ok(opened) => Ok(opened),
+            Err(fault) => {
+                unmake(rt, path);
+                Err(fault)
+            }
+        },
+        Err(error) => Err(fault_of(error)),
+    }
+}
+
+/// Opens what was seen at a path. The path's metadata is looked at first, since to open a pipe is to wait.
+fn open_seen<R: Files<File = File>>(
+    rt: &R,
+    path: &str,
+    access: Access,
+    metadata: &Metadata,
+) -> Result<Opened, StoreFault> {
+    if file_identity(metadata).is_none() {
+        return Err(StoreFault::Device);
+    }
+    let opened = OpenOptions::new()
+        .read(true)
+        .write(access == Access::Write)
+        .open(rt, path);
+    match opened {
+        Ok(file) => looked_at(file),
+        Err(error) => Err(fault_of(error)),
+    }
+}
+
+fn looked_at(file: File) -> Result<Opened, StoreFault> {
+    let seen = match file.metadata() {
+        Ok(metadata) => file_identity(&metadata),
+        Err(error) => return Err(fault_of(error)),
+    };
+    match seen {
+        Some(identity) => Ok(Opened { file, identity }),
+        None => Err(StoreFault::Device),
+    }
+}
+
+/// S3 for want of memory, S1 for all else.
+pub fn fault_of(error: io::Error) -> StoreFault
+    ensures size { result ≢ StoreFault.BlockSize }
+    ensures length { result ≢ StoreFault.Ragged }
+{
+    match error.kind() {
+        ErrorKind::OutOfMemory => StoreFault::NoMemory,
+        _ => StoreFault::Device,
+    }
+}
