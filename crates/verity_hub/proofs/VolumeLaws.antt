@@ -8,7 +8,7 @@ use Rattle.verity_check.specs.Table.{Table, hashing_of, path_index}
 use Rattle.verity_check.specs.Right.{Fits, AreRight}
 use Rattle.verity_check.specs.Range.{ServesBytes, Wrong}
 use Rattle.verity_check.specs.Refusal.{Refuses}
-use Rattle.verity_check.specs.Stores.{given_in}
+use Rattle.verity_check.specs.Stores.{Marks, given_in}
 use Rattle.verity_check.specs.Holds.{Holds}
 use Rattle.verity_check.specs.Verifier.{Verifying, given_to, IsOnlyReading, IsVerifier, DataFailed, HashFailed, MayServe, MayRefuse}
 use Rattle.verity_check.proofs.WalkLemmas.{Grows, given_in-grows, WrongAt-grows}
@@ -24,28 +24,30 @@ use Rattle.verity_hub.specs.Volume.{HoldsFor, failures_of, reads_of, facts_of, I
 module _ {D H : Type 0} (data_facts : store.Ghosts D) (hash_facts : store.Ghosts H) where
   module _ (v w : Verifying D H) (reads : IsOnlyReading data_facts hash_facts v w) where
     -- what was given under a table line stays given
-    given_grows : Grows (given_in data_facts hash_facts v.table v.data_store v.hash_store) (given_in data_facts hash_facts v.table w.data_store w.hash_store)
-    given_grows = given_in-grows data_facts hash_facts v.table v.data_store w.data_store v.hash_store w.hash_store reads.data_store reads.hash_store
+    given_grows : Grows (given_in data_facts hash_facts v.table v.since v.data_store v.hash_store) (given_in data_facts hash_facts v.table v.since w.data_store w.hash_store)
+    given_grows = given_in-grows data_facts hash_facts v.table v.since v.data_store w.data_store v.hash_store w.hash_store reads.data_store reads.hash_store
 
     serves : (offset : ℕ) (bytes : List ℕ) → MayServe data_facts hash_facts v offset bytes → MayServe data_facts hash_facts w offset bytes
     serves offset bytes s =
-        let P : Table → Type 0 = λ t. ServesBytes t (given_in data_facts hash_facts t w.data_store w.hash_store) offset (length bytes) bytes in
-        subst P (sym reads.table) (record {
+        let P : Table → Type 0 = λ t. ServesBytes t (given_in data_facts hash_facts t w.since w.data_store w.hash_store) offset (length bytes) bytes in
+        let Q : Marks → Type 0 = λ m. ServesBytes v.table (given_in data_facts hash_facts v.table m w.data_store w.hash_store) offset (length bytes) bytes in
+        subst P (sym reads.table) (subst Q (sym reads.since) (record {
           blocks = s.blocks;
-          served = Served-grows v.table (given_in data_facts hash_facts v.table v.data_store v.hash_store) (given_in data_facts hash_facts v.table w.data_store w.hash_store) given_grows _ s.blocks s.served;
+          served = Served-grows v.table (given_in data_facts hash_facts v.table v.since v.data_store v.hash_store) (given_in data_facts hash_facts v.table v.since w.data_store w.hash_store) given_grows _ s.blocks s.served;
           cut = s.cut;
           whole = s.whole;
-        })
+        }))
 
     refuses : (offset len : ℕ) → MayRefuse data_facts hash_facts v offset len → MayRefuse data_facts hash_facts w offset len
     refuses offset len (inl x) =
-        let P : Table → Type 0 = λ t. Wrong t (given_in data_facts hash_facts t w.data_store w.hash_store) offset len in
-        inl (subst P (sym reads.table) (
+        let P : Table → Type 0 = λ t. Wrong t (given_in data_facts hash_facts t w.since w.data_store w.hash_store) offset len in
+        let Q : Marks → Type 0 = λ m. Wrong v.table (given_in data_facts hash_facts v.table m w.data_store w.hash_store) offset len in
+        inl (subst P (sym reads.table) (subst Q (sym reads.since) (
           x.0,
           x.1,
           x.2,
-          WrongAt-grows v.table (given_in data_facts hash_facts v.table v.data_store v.hash_store) (given_in data_facts hash_facts v.table w.data_store w.hash_store) given_grows x.1 (path_index v.table x.0 x.1) x.3,
-        ))
+          WrongAt-grows v.table (given_in data_facts hash_facts v.table v.since v.data_store v.hash_store) (given_in data_facts hash_facts v.table v.since w.data_store w.hash_store) given_grows x.1 (path_index v.table x.0 x.1) x.3,
+        )))
     refuses offset len (inr (inl f)) = let m = reads.data_mark in let l = reads.data_store.later.failures in inr (inl (omega arith))
     refuses offset len (inr (inr f)) = let m = reads.hash_mark in let l = reads.hash_store.later.failures in inr (inr (omega arith))
 
