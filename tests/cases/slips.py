@@ -1,5 +1,8 @@
-"""Slips: one file under two names, and paths to what is no image. Each file stays as it was, and none is left behind."""
+"""Slips: one file under two names, paths to what is no image, and two at once. Each file stays as it was, and none is left
+behind."""
 import os
+import subprocess
+import threading
 
 from cases.case import UUID, Case, image
 from cases.editing import volume
@@ -99,6 +102,83 @@ def made_through_links():
                     {"data": DATA, "made": b"\x77" * 5000}, (symlink("made", "hash"),), leaves={"made": HASHES})
 
 
+class WhileEdited(Case):
+    """Words while an `edit` of data and hash has them and waits for its script, and what that edit does then."""
+
+    def __init__(self, name, words, output, status, files=None, script="shrink 1\ncommit\n"):
+        small = volume(1)
+        super().__init__(f"slips: while they are edited, {name}", words, output, status,
+                         {"data": DATA, "hash": HASHES, **(files or {})},
+                         {"data": DATA[:512], "hash": small.device(DATA[:512])}, before=(pipe("script"),))
+        self.script = script
+        self.answers = f"ok\ncommitted {small.line(DATA[:512])}\n"
+
+    def differences(self, tool, folder):
+        words = ["dalgovuun", "edit", "data", "hash", "script"]
+        with subprocess.Popen(words, executable=tool, cwd=folder, stdout=subprocess.PIPE) as editor:
+            watch = threading.Timer(60, editor.kill)
+            watch.start()
+            try:
+                with open(os.path.join(folder, "script"), "w") as script:
+                    yield from super().differences(tool, folder)
+                    for name in ("data", "hash"):
+                        with open(os.path.join(folder, name), "rb") as file:
+                            if file.read() != self.files[name]:
+                                yield f"the file {name} was changed"
+                    script.write(self.script)
+                answers = editor.stdout.read().decode()
+            finally:
+                watch.cancel()
+        if answers != self.answers or editor.returncode != 0:
+            yield f"the edit printed {answers!r} with status {editor.returncode}"
+
+
+class WhileServed(Case):
+    """Words while the volume in data and hash is served."""
+
+    def __init__(self, name, words, output, status, files=None):
+        super().__init__(f"slips: while it is served, {name}", words, output, status,
+                         {"data": DATA, "hash": HASHES, "script": b"commit\n", **(files or {})})
+
+    def differences(self, tool, folder):
+        words = ["dalgovuun", "serve", "--table", volume(17).line(DATA), "--name", "vol", "--listen", "127.0.0.1:0"]
+        with subprocess.Popen(words, executable=tool, cwd=folder, stdout=subprocess.PIPE) as server:
+            try:
+                if server.stdout.readline() != b"listening\n":
+                    yield "the server doesn't listen"
+                yield from super().differences(tool, folder)
+            finally:
+                server.kill()
+
+
+def two_at_once():
+    """A volume that another program works on."""
+    line = volume(17).line(DATA)
+    script = {"other": b"commit\n"}
+    beside = {"data2": DATA, "hash2": HASHES}
+    verified = "unchecked 0\nverified\n"
+    edit, listen = ["edit", "data", "hash", "other"], ["--listen", "127.0.0.1:0", "--sessions", "0"]
+    for name, words in (("an edit", edit), ("a format", ["format", "data", "hash", *SMALL]),
+                        ("a format behind an offset", ["format", "data", "hash", *SMALL, "--hash-offset", "1024"]),
+                        ("a format of the same image", ["format", "data", "other", *SMALL]),
+                        ("a verify", ["verify", "--table", line]),
+                        ("a serve", ["serve", "--table", line, "--name", "vol", *listen]),
+                        ("a talk", ["talk", "--table", line, "--name", "vol"])):
+        yield WhileEdited(name, words, "refused S5 data\n", 1, script)
+    for name, words in (("a format onto its device", ["format", "data2", "hash", *SMALL]),
+                        ("an edit of its device", ["edit", "data2", "hash", "other"]),
+                        ("a verify of its device", ["verify", "--table", volume(17).line(DATA, "data2", "hash")])):
+        yield WhileEdited(name, words, "refused S5 hash\n", 1, {**beside, **script})
+    yield WhileEdited("an edit of another volume", ["edit", "data2", "hash2", "other"], f"committed {volume(17).line(DATA, 'data2', 'hash2')}\n",
+                      0, {**beside, **script})
+    yield WhileEdited("a dump", ["dump", "hash"], volume(17).dump(), 0)
+    for name, words in (("an edit", ["edit", "data", "hash", "script"]), ("a format", ["format", "data", "hash", *SMALL])):
+        yield WhileServed(name, words, "refused S5 data\n", 1)
+    yield WhileServed("a format onto its device", ["format", "data2", "hash", *SMALL], "refused S5 hash\n", 1, beside)
+    yield WhileServed("a verify", ["verify", "--table", line], verified, 0)
+    yield WhileServed("a second server", ["serve", "--table", line, "--name", "vol", *listen], "listening\n", 0)
+
+
 def cases():
-    for table in (one_file, no_image, no_device, made_through_links):
+    for table in (one_file, no_image, no_device, made_through_links, two_at_once):
         yield from table()

@@ -1,5 +1,5 @@
 -- The texts of the numbered faults, and what the program makes of them.
-use Rattle.std.specs.Prelude.{ℕ, Bool, true, false, if◌then◌else◌, List, codes}
+use Rattle.std.specs.Prelude.{ℕ, Bool, true, false, if◌then◌else◌, List, ◌++◌, codes}
 use Rattle.nbd_session.specs.declared.fault.SessionFault.TheVariants as session
 use Rattle.nbd_session.specs.Texts.{session_text}
 use Rattle.verity_build.specs.declared.fault.BuildFault.TheVariants as build
@@ -16,13 +16,14 @@ use Rattle.verity_superblock.specs.declared.faults.SuperFault.TheVariants as sup
 use Rattle.verity_superblock.specs.declared.faults.TableFault.TheVariants as table
 use Rattle.verity_superblock.specs.Texts.{super_text, table_text}
 use Rattle.verity_tool.specs.declared.fault.Fault.{Fault}
-use Rattle.verity_tool.specs.declared.fault.Fault.TheVariants.{Store, Salt, Superblock, Table, Build, Check, Edit, Session, Socket}
+use Rattle.verity_tool.specs.declared.fault.Fault.TheVariants.{Store, InUse, Salt, Superblock, Table, Build, Check, Edit, Session, Socket}
 use Rattle.verity_tool.specs.declared.failure.Failure.{Failure}
 use Rattle.verity_tool.specs.declared.failure.Failure.TheVariants.{Refused, NoMemory}
 
 -- the text is that of what it carries
 abbrev pub fault_text : Fault → List ℕ
 fault_text (Store fault) = store_texts.fault_text fault
+fault_text (InUse which) = codes "S5 " ++ store_texts.which_text which
 fault_text (Salt fault) = salt_text fault
 fault_text (Superblock fault) = super_text fault
 fault_text (Table fault) = table_text fault

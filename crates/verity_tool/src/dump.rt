@@ -1,16 +1,17 @@
 //! The command `dump`: prints the superblock of a hash device.
 
+use crate::command::Command;
 use crate::failure::{Failure, Word};
 use crate::fault::Fault;
 use crate::lines::print_superblock;
-use crate::opening::{Access, open_there, whole_store};
+use crate::opening::{open_locked, whole_store};
 use crate::values::number;
 use crate::words::DumpWords;
 use std::alloc::Global;
 use std::fs::File;
 use std::io::Write;
 use std::rt::Files;
-use verity_store::BlockStore;
+use verity_store::{BlockStore, Which};
 use verity_superblock::{SuperFault, Superblock, tree_start};
 
 /// The bytes of a superblock, and of the blocks in which a hash device is read before its own block size is known.
@@ -23,7 +24,7 @@ pub fn dump<R: Files<File = File> + AllocGlobal, W: Write>(
     output: &mut W,
 ) -> Result<(), Failure> {
     let offset = number(Word::HashOffset, words.hash_offset)?;
-    let hash = open_there(rt, words.hash_path, Access::Read)?;
+    let hash = open_locked(rt, words.hash_path, Command::Dump, Which::Hash)?;
     let (superblock, start) = read_superblock(rt.alloc(), hash.file, offset)?;
     print_superblock(rt.alloc(), &superblock, start, output)
 }

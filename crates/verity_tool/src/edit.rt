@@ -1,11 +1,13 @@
 //! The command `edit`: does a script's lines over a volume.
 
+use crate::command::Command;
 use crate::dump::read_superblock;
 use crate::failure::{Failure, Word};
 use crate::fault::Fault;
 use crate::identity::check_apart;
 use crate::lines::Devices;
-use crate::opening::{Access, Opened, fault_of, open_there, whole_store};
+use crate::locks::take_lock;
+use crate::opening::{Opened, fault_of, open_there, whole_store};
 use crate::script::{read_script, run_script};
 use crate::values::{check_paths, number};
 use crate::volume_file::VolumeFile;
@@ -15,7 +17,7 @@ use std::fs::File;
 use std::io::Write;
 use std::rt::Files;
 use verity_edit::{EditFault, Editor};
-use verity_store::{FileStore, StoreFault};
+use verity_store::{FileStore, StoreFault, Which};
 use verity_superblock::SuperFault;
 
 /// An editor over two files.
@@ -59,16 +61,18 @@ fn open_editor<R: Files<File = File> + AllocGlobal>(
     }
 }
 
-/// Opens both files. That there is no DATA is told only once HASH was found to hold a superblock.
+/// Opens both files and takes their locks. That there is no DATA is told only once HASH was found to hold a superblock.
 fn open_both<R: Files<File = File>>(
     rt: &R,
     words: &EditWords<'_>,
 ) -> Result<(Result<Opened, StoreFault>, Opened), Failure> {
-    let hash = open_there(rt, words.hash_path, Access::Write)?;
-    let data = open_there(rt, words.data_path, Access::Write);
+    let hash = open_there(rt, words.hash_path, Command::Edit, Which::Hash)?;
+    let data = open_there(rt, words.data_path, Command::Edit, Which::Data);
     if let Ok(data) = &data {
         check_apart(data.identity, hash.identity)?;
+        take_lock(&data.file, Command::Edit.lock(), Which::Data)?;
     }
+    take_lock(&hash.file, Command::Edit.lock(), Which::Hash)?;
     Ok((data, hash))
 }
 

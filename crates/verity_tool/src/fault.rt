@@ -9,14 +9,16 @@ use verity_build::BuildFault;
 use verity_check::CheckFault;
 use verity_digest::SaltFault;
 use verity_edit::EditFault;
-use verity_store::StoreFault;
+use verity_store::{StoreFault, Which};
 use verity_superblock::{SuperFault, TableFault};
 
-/// A numbered fault: of a layer below, whose text it has, or N6.
+/// A numbered fault: of a layer below, whose text it has, or S5 or N6.
 #[derive(Clone, Copy, Debug, PartialEq, Eq, Error)]
 pub enum Fault {
     /// S1 to S4.
     Store(StoreFault),
+    /// S5 and the store: another program works on it.
+    InUse(Which),
     /// G1 and G2.
     Salt(SaltFault),
     /// B1 to B10.
@@ -63,6 +65,7 @@ impl fmt::Display for Fault {
     fn fmt<W: fmt::Write>(&self, f: &mut fmt::Formatter<W>) -> fmt::Result {
         match self {
             Fault::Store(fault) => write!(f, "{fault}"),
+            Fault::InUse(which) => write!(f, "S5 {which}"),
             Fault::Salt(fault) => write!(f, "{fault}"),
             Fault::Superblock(fault) => write!(f, "{fault}"),
             Fault::Table(fault) => write!(f, "{fault}"),

@@ -1,10 +1,13 @@
 //! The command `format`: makes the hash device of a block image.
 
+use crate::command::Command;
 use crate::failure::{Failure, Word};
+use crate::fault::Fault;
 use crate::identity::{Identity, check_apart};
 use crate::lines::{Volume, table_line};
+use crate::locks::take_lock;
 use crate::opening::{
-    Access, check_block_size, open_or_make, open_there, replaced_store, unmake, whole_store,
+    check_block_size, open_locked, open_or_make, open_there, replaced_store, unmake, whole_store,
 };
 use crate::values::{algorithm, block_size, check_paths, number, salt, salt_bytes, uuid};
 use crate::volume_file::VolumeFile;
@@ -16,7 +19,7 @@ use std::rt::Files;
 use uuid::Uuid;
 use verity_build::{Params, build_at};
 use verity_digest::{Algorithm, Digest};
-use verity_store::{BlockStore, FileStore, StoreFault};
+use verity_store::{BlockStore, FileStore, Which};
 use verity_superblock::tree_start;
 
 /// The numbers and names among the words.
@@ -39,8 +42,8 @@ struct Made {
 
 /// Makes HASH, the hash device of DATA, and prints the table line.
 ///
-/// The words are read first, then the salt is made, DATA opened, HASH opened or created, both told apart, and the device
-/// built. What stands in HASH stays until the first block is written. A HASH that was created is removed where none was.
+/// The words are read first, then the salt is made, DATA opened and locked, HASH opened or created, told apart from DATA and
+/// locked, and the device built. What stands in HASH stays until the first block is written. A HASH that was created is removed where none was.
 pub fn format<R: Files<File = File> + AllocGlobal, W: Write>(
     rt: &R,
     words: &FormatWords<'_>,
@@ -121,9 +124,9 @@ fn open_data<R: Files<File = File>>(
     rt: &R,
     path: &str,
     size: usize,
-) -> Result<(FileStore<VolumeFile>, Identity), StoreFault> {
+) -> Result<(FileStore<VolumeFile>, Identity), Fault> {
     check_block_size(size)?;
-    let data = open_there(rt, path, Access::Read)?;
+    let data = open_locked(rt, path, Command::Format, Which::Data)?;
     let identity = data.identity;
     Ok((whole_store(data.file, size)?, identity))
 }
@@ -140,10 +143,12 @@ fn open_hash<R: Files<File = File> + AllocGlobal>(
     if shape.hash_offset == 0 {
         let (hash, is_new) = open_or_make(rt, path)?;
         check_apart(data, hash.identity)?;
+        take_lock(&hash.file, Command::Format.lock(), Which::Hash)?;
         Ok((replaced_store(hash.file, shape.hash_block_size)?, is_new))
     } else {
-        let hash = open_there(rt, path, Access::Write)?;
+        let hash = open_there(rt, path, Command::Format, Which::Hash)?;
         check_apart(data, hash.identity)?;
+        take_lock(&hash.file, Command::Format.lock(), Which::Hash)?;
         Ok((whole_store(hash.file, shape.hash_block_size)?, false))
     }
 }

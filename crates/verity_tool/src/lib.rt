@@ -4,6 +4,7 @@
 //! worth; here a command reads its words, opens its stores, makes one call or a few, and prints lines.
 #![tactic(auto)]
 
+mod command;
 mod dump;
 mod edit;
 mod failure;
@@ -11,6 +12,7 @@ mod fault;
 mod format;
 mod identity;
 mod lines;
+mod locks;
 mod opened;
 mod opening;
 mod program;

@@ -1,14 +1,15 @@
 //! The volume that a table line names, opened to be read.
 
+use crate::command::Command;
 use crate::failure::Failure;
-use crate::opening::{Access, open_there, whole_store};
+use crate::opening::{open_locked, whole_store};
 use crate::volume_file::VolumeFile;
 use nbd_session::ExportName;
 use std::fs::File;
 use std::rt::Files;
 use verity_check::Verifier;
 use verity_hub::Hub;
-use verity_store::FileStore;
+use verity_store::{FileStore, Which};
 use verity_superblock::Table;
 
 /// A verifier over two files.
@@ -17,15 +18,16 @@ pub type FileVerifier = Verifier<FileStore<VolumeFile>, FileStore<VolumeFile>>;
 /// A hub over two files.
 pub type FileHub = Hub<FileStore<VolumeFile>, FileStore<VolumeFile>>;
 
-/// Opens the two files that a table line names, the data device first, and makes their verifier.
+/// Opens the two files that a table line names for a command, the data device first, and makes their verifier.
 pub fn open_verifier<R: Files<File = File> + AllocGlobal>(
     rt: &R,
     table: Table,
     cache: usize,
+    command: Command,
 ) -> Result<FileVerifier, Failure> {
-    let data = open_there(rt, table.dev(), Access::Read)?;
+    let data = open_locked(rt, table.dev(), command, Which::Data)?;
     let data_store = whole_store(data.file, table.data_block_size())?;
-    let hash = open_there(rt, table.hash_dev(), Access::Read)?;
+    let hash = open_locked(rt, table.hash_dev(), command, Which::Hash)?;
     let hash_store = whole_store(hash.file, table.hash_block_size())?;
     let verifier = Verifier::new(rt.alloc(), table, data_store, hash_store, cache)?;
     Ok(verifier)
@@ -38,9 +40,10 @@ pub fn open_hub<R: Files<File = File> + AllocGlobal>(
     line: &str,
     name: &str,
     cache: usize,
+    command: Command,
 ) -> Result<FileHub, Failure> {
     let table = Table::parse(rt.alloc(), line)?;
     let name = ExportName::new(name.as_bytes())?;
-    let verifier = open_verifier(rt, table, cache)?;
+    let verifier = open_verifier(rt, table, cache, command)?;
     Ok(Hub::new(rt.alloc(), verifier, name))
 }

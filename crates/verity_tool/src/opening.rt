@@ -2,14 +2,17 @@
 ghost use Rattle.std.specs.Prelude.{◌≡◌, ◌≢◌, ◌↔◌, OnErr, IsOk, IfErr};
 ghost use Rattle.verity_profile.specs.Profile.{IsBlockSize};
 
+use crate::command::Command;
+use crate::fault::Fault;
 use crate::identity::{Identity, file_identity};
+use crate::locks::take_lock;
 use crate::volume_file::VolumeFile;
 use std::fs::{File, Metadata, OpenOptions};
 use std::io::ErrorKind;
 use std::rt::Files;
 use std::{fs, io};
 use verity_profile::is_block_size;
-use verity_store::{FileStore, StoreFault};
+use verity_store::{FileStore, StoreFault, Which};
 
 /// A file or a block device that was opened.
 #[derive(Drop)]
@@ -18,24 +21,30 @@ pub struct Opened {
     pub identity: Identity,
 }
 
-/// How a file is opened.
-#[derive(Clone, Copy, Debug, PartialEq, Eq)]
-pub enum Access {
-    Read,
-    Write,
-}
-
-/// Opens a file or a block device that is there. S1 where it isn't, or where it is something else, which is not waited
-/// for; S3 for want of memory.
+/// Opens one of a volume's files for a command. S1 where it isn't there, or is neither a file nor a block device, which is not
+/// waited for; S3 for want of memory.
 pub fn open_there<R: Files<File = File>>(
     rt: &R,
     path: &str,
-    access: Access,
+    command: Command,
+    which: Which,
 ) -> Result<Opened, StoreFault> {
     match fs::metadata(rt, path) {
-        Ok(metadata) => open_seen(rt, path, access, &metadata),
+        Ok(metadata) => open_seen(rt, path, command.is_writing(which), &metadata),
         Err(error) => Err(fault_of(error)),
     }
+}
+
+/// The same, and takes the command's lock: S5 where another program has one that shuts it out.
+pub fn open_locked<R: Files<File = File>>(
+    rt: &R,
+    path: &str,
+    command: Command,
+    which: Which,
+) -> Result<Opened, Fault> {
+    let opened = open_there(rt, path, command, which)?;
+    take_lock(&opened.file, command.lock(), which)?;
+    Ok(opened)
 }
 
 /// Opens a file or a block device to be written, and makes a file where there is nothing. It tells whether it did.
@@ -45,7 +54,7 @@ pub fn open_or_make<R: Files<File = File> + AllocGlobal>(
     path: &str,
 ) -> Result<(Opened, bool), StoreFault> {
     match fs::metadata(rt, path) {
-        Ok(metadata) => match open_seen(rt, path, Access::Write, &metadata) {
+        Ok(metadata) => match open_seen(rt, path, true, &metadata) {
             Ok(opened) => Ok((opened, false)),
             Err(fault) => Err(fault),
         },
@@ -123,7 +132,7 @@ fn make<R: Files<File = File> + AllocGlobal>(rt: &R, path: &str) -> Result<Opene
 fn open_seen<R: Files<File = File>>(
     rt: &R,
     path: &str,
-    access: Access,
+    is_written: bool,
     metadata: &Metadata,
 ) -> Result<Opened, StoreFault> {
     if file_identity(metadata).is_none() {
@@ -131,7 +140,7 @@ fn open_seen<R: Files<File = File>>(
     }
     let opened = OpenOptions::new()
         .read(true)
-        .write(access == Access::Write)
+        .write(is_written)
         .open(rt, path);
     match opened {
         Ok(file) => looked_at(file),

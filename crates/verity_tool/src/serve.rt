@@ -1,5 +1,6 @@
 //! The command `serve`: serves a volume over NBD, one connection after the other.
 
+use crate::command::Command;
 use crate::failure::{Failure, Word, fail};
 use crate::fault::Fault;
 use crate::opened::open_hub;
@@ -35,7 +36,7 @@ pub fn serve<
 >(rt: &R, words: &ServeWords<'_>, output: &mut W) -> Result<u8, Failure> {
     let cache = number(Word::Cache, words.cache)? as usize;
     let count = sessions(words.sessions)?;
-    let mut hub = open_hub(rt, words.table, words.name, cache)?;
+    let mut hub = open_hub(rt, words.table, words.name, cache, Command::Serve)?;
     let listener = TcpListener::bind(rt, words.listen).map_err(socket)?;
     Ok(serve_on(&mut hub, &listener, count, output))
 }

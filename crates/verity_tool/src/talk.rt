@@ -1,5 +1,6 @@
 //! The command `talk`: serves a volume to one NBD client, over standard input and output.
 
+use crate::command::Command;
 use crate::failure::{Failure, Word};
 use crate::opened::open_hub;
 use crate::serve::TURNS;
@@ -22,7 +23,7 @@ pub fn talk<R: Files<File = File> + AllocGlobal, I: Read, W: Write>(
     output: &mut W,
 ) -> Result<u8, Failure> {
     let cache = number(Word::Cache, words.cache)? as usize;
-    let mut hub = open_hub(rt, words.table, words.name, cache)?;
+    let mut hub = open_hub(rt, words.table, words.name, cache, Command::Talk)?;
     match serve_stream(&mut hub, input, output, TURNS) {
         Ok(()) => Ok(DONE),
         Err(ServeFault::Starved) => Ok(NO_MEMORY),

@@ -1,5 +1,6 @@
 //! The command `verify`: reports what is wrong in a volume.
 
+use crate::command::Command;
 use crate::failure::Failure;
 use crate::opened::open_verifier;
 use crate::status::{DONE, REFUSED};
@@ -20,7 +21,7 @@ pub fn verify<R: Files<File = File> + AllocGlobal, W: Write>(
     output: &mut W,
 ) -> Result<u8, Failure> {
     let table = Table::parse(rt.alloc(), words.table)?;
-    let mut verifier = open_verifier(rt, table, CACHE)?;
+    let mut verifier = open_verifier(rt, table, CACHE, Command::Verify)?;
     let report = verifier.report()?;
     print_report(&report, output)
 }

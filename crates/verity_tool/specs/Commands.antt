@@ -1,0 +1,27 @@
+-- What each command does to a volume's files.
+use Rattle.std.specs.Prelude.{Bool, true, false}
+use Rattle.verity_store.specs.declared.fault.Which.{Which}
+use Rattle.verity_store.specs.declared.fault.Which.TheVariants as which
+use Rattle.verity_tool.specs.declared.command.Command.{Command}
+use Rattle.verity_tool.specs.declared.command.Command.TheVariants.{Format, Dump, Edit, Verify, Serve, Talk}
+use Rattle.verity_tool.specs.declared.command.Lock.{Lock}
+use Rattle.verity_tool.specs.declared.command.Lock.TheVariants as lock
+
+-- `format` writes the hash device and `edit` both; the others only read
+abbrev pub writes : Command → Which → Bool
+writes Format which.Data = false
+writes Format which.Hash = true
+writes Dump w = false
+writes Edit w = true
+writes Verify w = false
+writes Serve w = false
+writes Talk w = false
+
+-- one that writes works alone; those that read a volume shut out whoever writes; `dump` takes what stands there
+abbrev pub lock_of : Command → Lock
+lock_of Format = lock.Alone
+lock_of Dump = lock.Open
+lock_of Edit = lock.Alone
+lock_of Verify = lock.Shared
+lock_of Serve = lock.Shared
+lock_of Talk = lock.Shared

@@ -1,0 +1,60 @@
+//! What each command does to a volume's files.
+ghost use Rattle.std.specs.Prelude.{◌≡◌};
+ghost use Rattle.verity_tool.specs.Commands.{lock_of, writes};
+
+use verity_store::Which;
+
+/// The commands that work on files.
+#[derive(Clone, Copy, Debug, PartialEq, Eq)]
+pub enum Command {
+    Format,
+    Dump,
+    Edit,
+    Verify,
+    Serve,
+    Talk,
+}
+
+/// Who else may work on a file.
+#[derive(Clone, Copy, Debug, PartialEq, Eq)]
+pub enum Lock {
+    /// Whoever wants to.
+    Open,
+    /// Whoever only reads it.
+    Shared,
+    /// No other.
+    Alone,
+}
+
+impl Command {
+    /// Whether it writes to the file. One that it only reads is opened to be read, and no more.
+    pub fn is_writing(self, which: Which) -> bool
+        ensures { result ≡ writes self which }
+    {
+        match self {
+            Command::Format => match which {
+                Which::Data => false,
+                Which::Hash => true,
+            },
+            Command::Edit => true,
+            Command::Dump => false,
+            Command::Verify => false,
+            Command::Serve => false,
+            Command::Talk => false,
+        }
+    }
+
+    /// The lock that it has on both files as long as it works.
+    pub fn lock(self) -> Lock
+        ensures { result ≡ lock_of self }
+    {
+        match self {
+            Command::Format => Lock::Alone,
+            Command::Dump => Lock::Open,
+            Command::Edit => Lock::Alone,
+            Command::Verify => Lock::Shared,
+            Command::Serve => Lock::Shared,
+            Command::Talk => Lock::Shared,
+        }
+    }
+}

@@ -1,0 +1,57 @@
+//! The locks on a volume's files.
+ghost use Rattle.std.specs.Prelude.{◌≡◌, ◌↔◌, IsOk, IfErr, ◌≢◌, Err};
+ghost use Rattle.verity_tool.specs.declared.fault.Fault.TheVariants as fault;
+
+use crate::command::Lock;
+use crate::fault::Fault;
+use std::fs::{File, TryLockError};
+use std::io::ErrorKind;
+use verity_store::{StoreFault, Which};
+
+/// What the system says of a lock that was asked for.
+#[derive(Clone, Copy, Debug, PartialEq, Eq)]
+enum Told {
+    Locked,
+    InUse,
+    NoMemory,
+    Failed,
+}
+
+/// Takes a lock on one of a volume's files, which holds until the file is closed. S5 where another has one that shuts it
+/// out; S1 where the system fails, S3 for want of memory.
+pub fn take_lock(file: &File, lock: Lock, which: Which) -> Result<(), Fault> {
+    answer(ask(file, lock), which)
+}
+
+fn ask(file: &File, lock: Lock) -> Told {
+    match lock {
+        Lock::Open => Told::Locked,
+        Lock::Shared => told_by(file.try_lock_shared()),
+        Lock::Alone => told_by(file.try_lock()),
+    }
+}
+
+fn told_by(asked: Result<(), TryLockError>) -> Told {
+    match asked {
+        Ok(()) => Told::Locked,
+        Err(TryLockError::WouldBlock) => Told::InUse,
+        Err(TryLockError::Error(error)) => match error.kind() {
+            ErrorKind::OutOfMemory => Told::NoMemory,
+            _ => Told::Failed,
+        },
+    }
+}
+
+fn answer(told: Told, which: Which) -> Result<(), Fault>
+    ensures locked { IsOk result ↔ (told ≡ Told.Locked) }
+    ensures in_use { (result ≡ Err (fault.InUse which)) ↔ (told ≡ Told.InUse) }
+    ensures memory { (result ≡ Err (fault.Store StoreFault.NoMemory)) ↔ (told ≡ Told.NoMemory) }
+    ensures failed { (result ≡ Err (fault.Store StoreFault.Device)) ↔ (told ≡ Told.Failed) }
+{
+    match told {
+        Told::Locked => Ok(()),
+        Told::InUse => Err(Fault::InUse(which)),
+        Told::NoMemory => Err(Fault::Store(StoreFault::NoMemory)),
+        Told::Failed => Err(Fault::Store(StoreFault::Device)),
+    }
+}
