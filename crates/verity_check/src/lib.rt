@@ -6,11 +6,12 @@
 //! buffer. Hash blocks that were checked stay in a cache of bounded size, by level and index.
 //!
 //! The one contract that the layers above rely on, whatever the stores return: each block that is served ends a chain of
-//! blocks that the stores gave, from the root hash of the table line down; a mismatch names a place on the path of a block
-//! of the range where a store gave a block without the digest that is named there; a store's failure is named only where
-//! it failed in the call. Where both stores tell, a read answers by what they hold, and a report lists exactly the bad and
-//! unread places. [`laws`] says what follows: under the table line of an image the bytes are the image's, or at some place
-//! a store gave a block that differs from the image's own there and has its length and its salted digest.
+//! blocks that the stores gave since the verifier was made, from the root hash of the table line down; a mismatch names a
+//! place on the path of a block of the range where a store gave, since then, a block without the digest that is named there;
+//! a store's failure is named only where it failed in the call. Where both stores tell, a read answers by what they hold,
+//! and a report lists exactly the bad and unread places. [`laws`] says what follows: under the table line of an image the
+//! bytes are the image's, or at some place a store gave a block that differs from the image's own there and has its length
+//! and its salted digest.
 //!
 //! The errors are V1 to V5 of [`CheckFault`], and `AllocError` of a report.
 //!

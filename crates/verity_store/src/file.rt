@@ -15,7 +15,8 @@ use verity_profile::is_block_size;
 
 /// A store whose blocks lie in a file, one after the other, from byte 0 on.
 ///
-/// It tells where the bytes of its file are known. Each read and each write is one access to the file, at its offset.
+/// It tells where the bytes of its file are known. Each read and each write is one access to the file, at its offset. Over a file
+/// of the system, of whose bytes nothing is known, what it gave is still the very list of what its reads returned.
 #[derive(Drop)]
 pub struct FileStore<F: RawFile> {
     file: F,
@@ -142,7 +143,6 @@ impl FileStore<File> {
 }
 
 impl<F: RawFile> BlockStore for FileStore<F> {
-
     ghost size = { λ s. s.size };
 
     ghost content = { λ s. file_blocks s.size s.blocks (F.bytes s.file) };

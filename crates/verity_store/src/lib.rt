@@ -1,9 +1,9 @@
 //! Block stores: lists of blocks of one size that may fail and need not be honest.
 //!
 //! Its one contract is `BlockStore`. A contract over a store sees eight facts of it: its block `size`, its `content`, whether
-//! it `tells` (a read gives the block of `content`, a write puts it there), which blocks it `gave` for which numbers, how
-//! often it failed (`failures`), how often it was read (`reads`), up to how many blocks it has `room`, and whether it was asked
-//! to keep what was written (`synced`). The counts have no bytes at run time.
+//! it `tells` (a read gives the block of `content`, a write puts it there), the list of the blocks that its reads gave, with
+//! their numbers (`given`), how often it failed (`failures`), how often it was read (`reads`), up to how many blocks it has
+//! `room`, and whether it was asked to keep what was written (`synced`). Counts and lists have no bytes at run time.
 //!
 //! Its faults are S1 to S4 (`StoreFault`). A call answers S1 only where `failures` rose in it.
 //!
@@ -11,9 +11,9 @@
 //! give, and `FailStore`, some of whose calls fail, which are for whoever wants to see what a layer above makes of them.
 //! `move_run` moves a run of blocks within any store, and `read_run` reads one into a buffer.
 //!
-//! Definitions: `specs/Blocks.antt` (lists of blocks), `specs/Moves.antt` (runs that are moved), `specs/Stores.antt` (what
-//! calls leave of a store's facts), `specs/Script.antt` and `specs/Failing.antt` (those two stores), `specs/RawFile.antt` (the
-//! bytes of a file), `specs/Texts.antt` (the texts).
+//! Definitions: `specs/Blocks.antt` (lists of blocks), `specs/Moves.antt` (runs that are moved), `specs/Given.antt` (lists of
+//! given blocks), `specs/Stores.antt` (what calls leave of a store's facts), `specs/Script.antt` and `specs/Failing.antt`
+//! (those two stores), `specs/RawFile.antt` (the bytes of a file), `specs/Texts.antt` (the texts).
 #![tactic(auto)]
 
 mod answer;
