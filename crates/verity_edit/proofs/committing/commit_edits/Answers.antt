@@ -53,3 +53,9 @@ returns-in-Ok-clause-done g c =
     let new_hash = c.carry_out.new.hash_store in
     let done = subst (λ (x : Change). IsCarriedOut D H v d x.first x.root now new_data hash_now new_hash) made.plan.change c.in-Ok.ensures.done in
     carried_before D H v d c.args.first c.args.root c.args.data_store.now now new_data c.args.hash_store.now hash_now new_hash done made.data_store.content made.data_store.later.tells made.hash_content made.hash_store.tells
+
+pub returns-in-Ok-clause-hash_reads : goal.returns-in-Ok-clause-hash_reads
+returns-in-Ok-clause-hash_reads g c = λ image count same. let planned = c.in_ok-plan.ensures.hash_reads image count same in let later = c.carry_out.ensures.hash_reads same in omega arith
+
+pub returns-clause-hash_reads : goal.returns-clause-hash_reads
+returns-clause-hash_reads g c = λ image count same. let planned = c.in_ok-plan.ensures.hash_reads image count same in let later = c.carry_out.ensures.hash_reads same in omega arith
