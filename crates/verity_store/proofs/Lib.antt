@@ -3,3 +3,4 @@ pub mod FileLemmas
 pub mod MoveLemmas
 pub mod ScriptLemmas
 pub mod StoreLemmas
+pub mod WindowLemmas
