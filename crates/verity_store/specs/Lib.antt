@@ -6,3 +6,4 @@ pub mod Script
 pub mod ScriptStore
 pub mod Stores
 pub mod Texts
+pub mod Window
