@@ -77,6 +77,24 @@ def offsets():
                   {"data": b"", "hash": b"\x11" * 512})
 
 
+def first_blocks():
+    """The first blocks of DATA alone."""
+    plain = dict(salt=b"\x00\xff", uuid=UUID)
+    for blocks in (1, 16, 17):
+        data = image(17)
+        volume = Volume(blocks, **plain)
+        yield Case(f"format: {blocks} blocks of 17", words("--data-blocks", str(blocks)), volume.line(data[:blocks * 512]) + "\n",
+                   files={"data": data}, leaves={"hash": volume.device(data[:blocks * 512])})
+    ragged = image(2) + b"\x11" * 100
+    yield Case("format: 2 blocks of a ragged DATA", words("--data-blocks", "002"), Volume(2, **plain).line(image(2)) + "\n",
+               files={"data": ragged}, leaves={"hash": Volume(2, **plain).device(image(2))})
+    yield refused("no block of 2", "U1 M2", words("--data-blocks", "0"))
+    yield refused("3 blocks of 2", "S1", words("--data-blocks", "3"))
+    yield refused("3 blocks of 2 and a HASH", "S1", words("--data-blocks", "3"), {"data": image(2), "hash": b"\x11" * 700})
+    yield refused("the largest number of blocks", "S1", words("--data-blocks", LARGEST))
+    yield refused("1 block of an empty DATA", "S1", words("--data-blocks", "1"), {"data": b""})
+
+
 def refusals():
     long_salt = ["--salt", "5a" * 257, "--uuid", UUID]
     yield refused("a salt of 257 bytes", "G1", words(salted=long_salt))
@@ -106,6 +124,7 @@ def values():
         yield not_understood(f"hash block size {number!r}", "--hash-block-size",
                              words(sizes=[f"--hash-block-size={number}"]))
         yield not_understood(f"offset {number!r}", "--hash-offset", words(f"--hash-offset={number}"))
+        yield not_understood(f"count {number!r}", "--data-blocks", words(f"--data-blocks={number}"))
     for name in ("", "md5", "sha1", "SHA256", "sha256x"):
         yield not_understood(f"algorithm {name!r}", "--algorithm", words("--algorithm", name))
     for path in ("", "da ta", " "):
@@ -117,7 +136,7 @@ def values():
 
 
 def cases():
-    for table in (volumes, offsets, refusals, values):
+    for table in (volumes, offsets, first_blocks, refusals, values):
         yield from table()
     data = image(1)
     yield Case("format: an output that can't be written", words(), "", 1, {"data": data},

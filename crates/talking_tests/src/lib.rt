@@ -7,6 +7,8 @@ mod image;
 pub use image::{Image, make_image};
 
 #[cfg(test)]
+mod client_memory;
+#[cfg(test)]
 mod conversations;
 #[cfg(test)]
 mod lengths;
@@ -16,3 +18,5 @@ mod sessions;
 mod streams;
 #[cfg(test)]
 mod talk;
+#[cfg(test)]
+mod turns;

@@ -1,4 +1,4 @@
--- Why a commit's parts fail: for memory before the first change, or where a store failed. No failure is passed over.
+-- Why the parts of an opening and of a commit fail: a store's failure is answered by its name, and none is passed over.
 use Rattle.std.specs.Prelude.{◌≡◌, ℕ, ◌<◌, Result, Ok, Err}
 use Rattle.verity_store.specs.declared.fault.Which.{Which}
 use Rattle.verity_store.specs.declared.fault.Which.TheVariants as which
@@ -24,3 +24,19 @@ CommitsOrFails (Ok made) data_old data_new hash_old hash_new = (data_new ≡ dat
 CommitsOrFails (Err NoMemory) data_old data_new hash_old hash_new = (data_new ≡ data_old) × (hash_new ≡ hash_old)
 CommitsOrFails (Err (Store store)) data_old data_new hash_old hash_new = HasFailed (data_old < data_new) (hash_old < hash_new) store
 CommitsOrFails (Err _) data_old data_new hash_old hash_new = ⊥
+
+-- of a part of an opening that reads the hash store alone
+abbrev pub ReadsOrFails : {T : Type 0} → Result T EditFault → ℕ → ℕ → Type 0
+ReadsOrFails (Ok read) old new = new ≡ old
+ReadsOrFails (Err (Store which.Data)) old new = ⊥
+ReadsOrFails (Err (Store which.Hash)) old new = old < new
+ReadsOrFails (Err _) old new = new ≡ old
+
+-- of a whole opening: it is refused for another reason only where no store failed
+abbrev pub IsNotPassedOver : ℕ → ℕ → ℕ → ℕ → EditFault → Type 0
+IsNotPassedOver data_old data_new hash_old hash_new (Store store) = HasFailed (data_old < data_new) (hash_old < hash_new) store
+IsNotPassedOver data_old data_new hash_old hash_new _ = (data_new ≡ data_old) × (hash_new ≡ hash_old)
+
+abbrev pub OpensOrFails : {T : Type 0} → Result T EditFault → ℕ → ℕ → ℕ → ℕ → Type 0
+OpensOrFails (Ok found) data_old data_new hash_old hash_new = (data_new ≡ data_old) × (hash_new ≡ hash_old)
+OpensOrFails (Err fault) data_old data_new hash_old hash_new = IsNotPassedOver data_old data_new hash_old hash_new fault

@@ -4,6 +4,7 @@ ghost use Rattle.std.specs.Prelude.{◌≡◌, ℕ, ◌<◌, true, List, length}
 ghost use Rattle.std.specs.List.{concat};
 ghost use Rattle.nbd_hub.specs.History.{Step, opened};
 ghost use Rattle.nbd_hub.specs.After.{IsAfter, IsTold};
+ghost use Rattle.nbd_relay.specs.Client.{ClientState, IsServed, IsSaid};
 ghost use Rattle.verity_profile.specs.Profile.{AllSized};
 ghost use Rattle.verity_superblock.specs.Superblock.{Params, IsProfile};
 ghost use Rattle.verity_superblock.specs.Image.{hash_image};
@@ -24,6 +25,19 @@ pub fn outputs_are_right<D: BlockStore, H: BlockStore, A: Allocator + Copy + Dro
     ensures { (history : List Step) → IsAfter (facts_of D.BlockStore H.BlockStore hub.now.1) hub.now.0 history
         → (image : List (List ℕ)) → Fits hub.now.1.table image
         → (k : ℕ) → k < opened history → IsTold (IsRightFor D.BlockStore H.BlockStore hub.now.1 image) hub.now.0.offer history k }
+{
+    hub.sessions.export().check();
+}
+
+/// And of each client of such a hub: what was written to it is a beginning of the talk of what was read from it, by verdicts
+/// that are right, and all of it once nothing waits and nothing is unsent.
+pub fn clients_are_told_right<D: BlockStore, H: BlockStore, A: Allocator + Copy + Drop>(
+    hub: &Hub<D, H, A>,
+)
+    ensures { (history : List Step) → IsAfter (facts_of D.BlockStore H.BlockStore hub.now.1) hub.now.0 history
+        → (image : List (List ℕ)) → Fits hub.now.1.table image
+        → (client : ClientState) (read wrote : List ℕ) → IsServed hub.now.0.offer history client read wrote
+        → IsSaid (IsRightFor D.BlockStore H.BlockStore hub.now.1 image) hub.now.0.offer client read wrote }
 {
     hub.sessions.export().check();
 }

@@ -1,9 +1,9 @@
 //! Many NBD sessions over one verifier, and the loop that serves a stream.
 //!
 //! A [`Hub`] has one verifier, with its one cache, and up to 64 open sessions. Every call is one step on the hub: a session
-//! is opened, fed one piece of bytes, or ended; [`Hub::run`] makes a list of such steps, and [`serve_stream`] makes them for
-//! one client over a reader and a writer. There are no threads. The steps themselves are those of `nbd_hub`, which knows
-//! nothing of hashes; here its export is a verifier.
+//! is opened, fed one piece of bytes, or ended; [`Hub::run`] makes a list of such steps, [`serve_stream`] makes them for one
+//! client over a reader and a writer, and [`turn`] for one of many. There are no threads. The steps themselves are those of
+//! `nbd_hub` and `nbd_relay`, which know nothing of hashes; here their export is a verifier.
 //!
 //! # The contract
 //!
@@ -18,6 +18,9 @@
 //! Where the stores hold an image, each verdict is the image's exact bytes, or ENOMEM, or EIO for which a store's failures
 //! rose. [`laws::serves_what_was_built`] says that stores hold the image that a hash device was made of.
 //!
+//! [`accept`], [`turn`], [`turn_at`] and [`leave`] serve many clients, each over a stream that may not be ready, as `nbd_relay`
+//! does; [`laws::clients_are_told_right`] says of each of them that what it was sent is right.
+//!
 //! # Errors
 //!
 //! [`HubFault`], H1 to H4: a refused call changes nothing. [`ServeFault`], N1 to N5. `AllocError` of [`Hub::run`].
@@ -25,9 +28,11 @@
 
 mod hub;
 pub mod laws;
+mod relay;
 mod stream;
 mod volume;
 
 pub use hub::Hub;
 pub use nbd_hub::{Event, HubFault, HubReply, Piece, ServeFault};
+pub use relay::{accept, leave, turn, turn_at};
 pub use stream::serve_stream;

@@ -5,3 +5,4 @@ pub mod MoveLemmas
 pub mod ScriptLemmas
 pub mod StoreLemmas
 pub mod RunLemmas
+pub mod WindowLemmas

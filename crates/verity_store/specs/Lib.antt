@@ -7,3 +7,4 @@ pub mod Script
 pub mod ScriptStore
 pub mod Stores
 pub mod Texts
+pub mod Window

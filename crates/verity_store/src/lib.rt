@@ -8,12 +8,14 @@
 //! Its faults are S1 to S4 (`StoreFault`). A call answers S1 only where `failures` rose in it.
 //!
 //! Four stores: `MemStore` in memory and `FileStore` in a file, which are honest; `ScriptStore`, which gives what it was told to
-//! give, and `FailStore`, some of whose calls fail, which are for whoever wants to see what a layer above makes of them.
+//! give, and `FailStore`, some of whose calls fail, which are for whoever wants to see what a layer above makes of them. A `Window`
+//! is a file for a `FileStore`: the first bytes of one that doesn't grow, as of a block device.
 //! `move_run` moves a run of blocks within any store, and `read_run` reads one into a buffer.
 //!
 //! Definitions: `specs/Blocks.antt` (lists of blocks), `specs/Moves.antt` (runs that are moved), `specs/Given.antt` (lists of
 //! given blocks), `specs/Stores.antt` (what calls leave of a store's facts), `specs/Script.antt` and `specs/Failing.antt`
-//! (those two stores), `specs/RawFile.antt` (the bytes of a file), `specs/Texts.antt` (the texts).
+//! (those two stores), `specs/RawFile.antt` (the bytes of a file), `specs/Window.antt` (its first bytes), `specs/Texts.antt`
+//! (the texts).
 #![tactic(auto)]
 
 mod answer;
@@ -28,6 +30,7 @@ mod raw_file;
 mod runs;
 mod script;
 mod store;
+mod window;
 
 pub use answer::Answer;
 pub use block::Block;
@@ -41,3 +44,4 @@ pub use raw_file::RawFile;
 pub use runs::read_run;
 pub use script::ScriptStore;
 pub use store::BlockStore;
+pub use window::Window;

@@ -4,7 +4,8 @@ use crate::command::Command;
 use crate::failure::{Failure, Word};
 use crate::fault::Fault;
 use crate::lines::print_superblock;
-use crate::opening::{open_locked, whole_store};
+use crate::opening::{Opened, open_locked};
+use crate::stores::store_of_most;
 use crate::values::number;
 use crate::words::DumpWords;
 use std::alloc::Global;
@@ -25,14 +26,18 @@ pub fn dump<R: Files<File = File> + AllocGlobal, W: Write>(
 ) -> Result<(), Failure> {
     let offset = number(Word::HashOffset, words.hash_offset)?;
     let hash = open_locked(rt, words.hash_path, Command::Dump, Which::Hash)?;
-    let (superblock, start) = read_superblock(rt.alloc(), hash.file, offset)?;
+    let (superblock, start) = read_superblock(rt.alloc(), hash, offset)?;
     print_superblock(rt.alloc(), &superblock, start, output)
 }
 
 /// The superblock that stands at a byte offset of a file, and the hash block at which its tree begins. B10 where the
 /// offset is no multiple of 512, or of the superblock's own hash blocks; B1 where the file ends before it.
-pub fn read_superblock(alloc: Global, file: File, offset: u64) -> Result<(Superblock, u64), Fault> {
-    let mut hash_store = whole_store(file, SUPERBLOCK_SIZE)?;
+pub fn read_superblock(
+    alloc: Global,
+    hash: Opened,
+    offset: u64,
+) -> Result<(Superblock, u64), Fault> {
+    let mut hash_store = store_of_most(hash, SUPERBLOCK_SIZE, u64::MAX)?;
     let mut bytes = [0; SUPERBLOCK_SIZE];
     read_bytes(&mut hash_store, offset, &mut bytes)?;
     let superblock = Superblock::decode(alloc, &bytes)?;

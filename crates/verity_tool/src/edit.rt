@@ -7,21 +7,21 @@ use crate::fault::Fault;
 use crate::identity::check_apart;
 use crate::lines::Devices;
 use crate::locks::take_lock;
-use crate::opening::{Opened, fault_of, open_there, whole_store};
+use crate::opening::{Opened, fault_of, open_there};
 use crate::script::{read_script, run_script};
+use crate::stores::{VolumeStore, store_of_most};
 use crate::values::{check_paths, number};
-use crate::volume_file::VolumeFile;
 use crate::words::EditWords;
 use std::alloc::Global;
 use std::fs::File;
 use std::io::Write;
 use std::rt::Files;
 use verity_edit::{EditFault, Editor};
-use verity_store::{FileStore, StoreFault, Which};
+use verity_store::{StoreFault, Which};
 use verity_superblock::SuperFault;
 
 /// An editor over two files.
-type FileEditor = Editor<FileStore<VolumeFile>, FileStore<VolumeFile>>;
+type FileEditor = Editor<VolumeStore, VolumeStore>;
 
 /// Does the lines of SCRIPT over the volume in DATA and HASH, and prints their answers.
 ///
@@ -52,9 +52,9 @@ fn open_editor<R: Files<File = File> + AllocGlobal>(
     offset: u64,
 ) -> Result<(FileEditor, u64), Failure> {
     let (data, hash) = open_both(rt, words)?;
-    let sizes = read_sizes(rt.alloc(), &hash.file, offset)?;
-    let data_store = whole_store(data?.file, sizes.data_block_size)?;
-    let hash_store = whole_store(hash.file, sizes.hash_block_size)?;
+    let sizes = read_sizes(rt.alloc(), &hash, offset)?;
+    let data_store = store_of_most(data?, sizes.data_block_size, sizes.data_blocks)?;
+    let hash_store = store_of_most(hash, sizes.hash_block_size, u64::MAX)?;
     match Editor::open_at(rt.alloc(), data_store, hash_store, offset) {
         Ok(editor) => Ok((editor, sizes.hash_start_block)),
         Err(refused) => Err(refused.fault.into()),
@@ -81,19 +81,17 @@ fn open_both<R: Files<File = File>>(
 struct Sizes {
     data_block_size: usize,
     hash_block_size: usize,
+    data_blocks: u64,
     hash_start_block: u64,
 }
 
 /// What the superblock at an offset of HASH says of them.
-fn read_sizes(alloc: Global, file: &File, offset: u64) -> Result<Sizes, Failure> {
-    let file = match file.try_clone() {
-        Ok(file) => file,
-        Err(error) => return Err(fault_of(error).into()),
-    };
-    match read_superblock(alloc, file, offset) {
+fn read_sizes(alloc: Global, hash: &Opened, offset: u64) -> Result<Sizes, Failure> {
+    match read_superblock(alloc, hash.again()?, offset) {
         Ok((superblock, hash_start_block)) => Ok(Sizes {
             data_block_size: superblock.data_block_size(),
             hash_block_size: superblock.hash_block_size(),
+            data_blocks: superblock.data_blocks(),
             hash_start_block,
         }),
         Err(fault) => Err(not_a_volume(fault).into()),

@@ -6,11 +6,11 @@ use crate::fault::Fault;
 use crate::identity::{Identity, check_apart};
 use crate::lines::{Volume, table_line};
 use crate::locks::take_lock;
-use crate::opening::{
-    check_block_size, open_locked, open_or_make, open_there, replaced_store, unmake, whole_store,
+use crate::opening::{Opened, open_locked, open_or_make, open_there, unmake};
+use crate::stores::{
+    VolumeStore, check_block_size, new_store, store_of_first, store_of_most, whole_store,
 };
 use crate::values::{algorithm, block_size, check_paths, number, salt, salt_bytes, uuid};
-use crate::volume_file::VolumeFile;
 use crate::words::FormatWords;
 use std::alloc::Global;
 use std::fs::File;
@@ -19,7 +19,7 @@ use std::rt::Files;
 use uuid::Uuid;
 use verity_build::{Params, build_at};
 use verity_digest::{Algorithm, Digest};
-use verity_store::{BlockStore, FileStore, Which};
+use verity_store::{BlockStore, StoreFault, Which};
 use verity_superblock::tree_start;
 
 /// The numbers and names among the words.
@@ -28,6 +28,7 @@ struct Shape {
     data_block_size: usize,
     hash_block_size: usize,
     hash_offset: u64,
+    data_blocks: Option<u64>,
     algorithm: Algorithm,
     uuid: Uuid,
 }
@@ -83,6 +84,7 @@ fn read_shape(words: &FormatWords<'_>) -> Result<Shape, Failure> {
         data_block_size: block_size(Word::DataBlockSize, words.data_block_size)?,
         hash_block_size: block_size(Word::HashBlockSize, words.hash_block_size)?,
         hash_offset: number(Word::HashOffset, words.hash_offset)?,
+        data_blocks: data_blocks(words.data_blocks)?,
         algorithm: algorithm(words.algorithm)?,
         uuid: uuid(words.uuid)?,
     })
@@ -95,7 +97,7 @@ fn make<R: Files<File = File> + AllocGlobal>(
     salt_bytes: &[u8],
 ) -> Result<Made, Failure> {
     let params = Params::new(salt(rt.alloc(), salt_bytes)?, shape.uuid, shape.algorithm);
-    let (mut data_store, data) = open_data(rt, words.data_path, shape.data_block_size)?;
+    let (mut data_store, data) = open_data(rt, words.data_path, shape)?;
     let (mut hash_store, is_new) = open_hash(rt, words.hash_path, shape, data)?;
     let hash_size = hash_store.block_size();
     match build_at(
@@ -119,16 +121,31 @@ fn make<R: Files<File = File> + AllocGlobal>(
     }
 }
 
+fn data_blocks(word: Option<&str>) -> Result<Option<u64>, Failure> {
+    match word {
+        Some(text) => Ok(Some(number(Word::DataBlocks, text)?)),
+        None => Ok(None),
+    }
+}
+
 /// DATA, and which file it is.
 fn open_data<R: Files<File = File>>(
     rt: &R,
     path: &str,
-    size: usize,
-) -> Result<(FileStore<VolumeFile>, Identity), Fault> {
-    check_block_size(size)?;
+    shape: &Shape,
+) -> Result<(VolumeStore, Identity), Fault> {
+    check_block_size(shape.data_block_size)?;
     let data = open_locked(rt, path, Command::Format, Which::Data)?;
     let identity = data.identity;
-    Ok((whole_store(data.file, size)?, identity))
+    Ok((image_store(data, shape)?, identity))
+}
+
+/// A store over all of DATA, or over as many blocks as were asked for.
+fn image_store(data: Opened, shape: &Shape) -> Result<VolumeStore, StoreFault> {
+    match shape.data_blocks {
+        Some(blocks) => store_of_first(data, shape.data_block_size, blocks),
+        None => whole_store(data, shape.data_block_size),
+    }
 }
 
 /// HASH, which is another file than DATA, and whether it was created. It is, and what stands in it counts for nothing,
@@ -138,17 +155,17 @@ fn open_hash<R: Files<File = File> + AllocGlobal>(
     path: &str,
     shape: &Shape,
     data: Identity,
-) -> Result<(FileStore<VolumeFile>, bool), Failure> {
+) -> Result<(VolumeStore, bool), Failure> {
     check_block_size(shape.hash_block_size)?;
     if shape.hash_offset == 0 {
         let (hash, is_new) = open_or_make(rt, path)?;
         check_apart(data, hash.identity)?;
         take_lock(&hash.file, Command::Format.lock(), Which::Hash)?;
-        Ok((replaced_store(hash.file, shape.hash_block_size)?, is_new))
+        Ok((new_store(hash, shape.hash_block_size)?, is_new))
     } else {
         let hash = open_there(rt, path, Command::Format, Which::Hash)?;
         check_apart(data, hash.identity)?;
         take_lock(&hash.file, Command::Format.lock(), Which::Hash)?;
-        Ok((whole_store(hash.file, shape.hash_block_size)?, false))
+        Ok((store_of_most(hash, shape.hash_block_size, u64::MAX)?, false))
     }
 }

@@ -20,6 +20,7 @@ mod scratch;
 mod script;
 mod serve;
 mod status;
+mod stores;
 mod talk;
 mod values;
 mod verify;

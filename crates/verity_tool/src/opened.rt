@@ -2,21 +2,21 @@
 
 use crate::command::Command;
 use crate::failure::Failure;
-use crate::opening::{open_locked, whole_store};
-use crate::volume_file::VolumeFile;
+use crate::opening::open_locked;
+use crate::stores::{VolumeStore, store_of_most};
 use nbd_session::ExportName;
 use std::fs::File;
 use std::rt::Files;
 use verity_check::Verifier;
 use verity_hub::Hub;
-use verity_store::{FileStore, Which};
+use verity_store::Which;
 use verity_superblock::Table;
 
 /// A verifier over two files.
-pub type FileVerifier = Verifier<FileStore<VolumeFile>, FileStore<VolumeFile>>;
+pub type FileVerifier = Verifier<VolumeStore, VolumeStore>;
 
 /// A hub over two files.
-pub type FileHub = Hub<FileStore<VolumeFile>, FileStore<VolumeFile>>;
+pub type FileHub = Hub<VolumeStore, VolumeStore>;
 
 /// Opens the two files that a table line names for a command, the data device first, and makes their verifier.
 pub fn open_verifier<R: Files<File = File> + AllocGlobal>(
@@ -26,9 +26,9 @@ pub fn open_verifier<R: Files<File = File> + AllocGlobal>(
     command: Command,
 ) -> Result<FileVerifier, Failure> {
     let data = open_locked(rt, table.dev(), command, Which::Data)?;
-    let data_store = whole_store(data.file, table.data_block_size())?;
+    let data_store = store_of_most(data, table.data_block_size(), table.data_blocks())?;
     let hash = open_locked(rt, table.hash_dev(), command, Which::Hash)?;
-    let hash_store = whole_store(hash.file, table.hash_block_size())?;
+    let hash_store = store_of_most(hash, table.hash_block_size(), u64::MAX)?;
     let verifier = Verifier::new(rt.alloc(), table, data_store, hash_store, cache)?;
     Ok(verifier)
 }

@@ -1,24 +1,36 @@
 //! Files are opened here, looked at, and nothing is changed in them.
-ghost use Rattle.std.specs.Prelude.{◌≡◌, ◌≢◌, ◌↔◌, OnErr, IsOk, IfErr};
-ghost use Rattle.verity_profile.specs.Profile.{IsBlockSize};
+ghost use Rattle.std.specs.Prelude.{◌≢◌};
 
 use crate::command::Command;
 use crate::fault::Fault;
 use crate::identity::{Identity, file_identity};
 use crate::locks::take_lock;
-use crate::volume_file::VolumeFile;
 use std::fs::{File, Metadata, OpenOptions};
-use std::io::ErrorKind;
+use std::io::{ErrorKind, Seek, SeekFrom};
 use std::rt::Files;
 use std::{fs, io};
-use verity_profile::is_block_size;
-use verity_store::{FileStore, StoreFault, Which};
+use verity_store::{StoreFault, Which};
 
-/// A file or a block device that was opened.
+/// A file or a block device that was opened, which it is, and how many bytes it had then.
 #[derive(Drop)]
 pub struct Opened {
     pub file: File,
     pub identity: Identity,
+    pub len: u64,
+}
+
+impl Opened {
+    /// The same, once more. The lock is on both.
+    pub fn again(&self) -> Result<Opened, StoreFault> {
+        match self.file.try_clone() {
+            Ok(file) => Ok(Opened {
+                file,
+                identity: self.identity,
+                len: self.len,
+            }),
+            Err(error) => Err(fault_of(error)),
+        }
+    }
 }
 
 /// Opens one of a volume's files for a command. S1 where it isn't there, or is neither a file nor a block device, which is not
@@ -65,28 +77,6 @@ pub fn open_or_make<R: Files<File = File> + AllocGlobal>(
             },
             _ => Err(fault_of(error)),
         },
-    }
-}
-
-/// A store over all of a file. S2 where its length is not a multiple of `size`.
-pub fn whole_store(file: File, size: usize) -> Result<FileStore<VolumeFile>, StoreFault> {
-    FileStore::over(VolumeFile::new(file), size)
-}
-
-/// A store with no blocks over a file, in which all stays until its length is set.
-pub fn replaced_store(file: File, size: usize) -> Result<FileStore<VolumeFile>, StoreFault> {
-    FileStore::over(VolumeFile::replaced(file), size)
-}
-
-/// S4 for all but the block sizes of the profile.
-pub fn check_block_size(size: usize) -> Result<(), StoreFault>
-    ensures taken { IsOk result ↔ IsBlockSize size }
-    ensures refused { IfErr result (λ e. e ≡ StoreFault.BlockSize) }
-{
-    if is_block_size(size) {
-        Ok(())
-    } else {
-        Err(StoreFault::BlockSize)
     }
 }
 
@@ -149,13 +139,27 @@ fn open_seen<R: Files<File = File>>(
 }
 
 fn looked_at(file: File) -> Result<Opened, StoreFault> {
-    let seen = match file.metadata() {
-        Ok(metadata) => file_identity(&metadata),
-        Err(error) => return Err(fault_of(error)),
-    };
-    match seen {
-        Some(identity) => Ok(Opened { file, identity }),
-        None => Err(StoreFault::Device),
+    match identity_and_len(&file) {
+        Ok(Some((identity, len))) => Ok(Opened {
+            file,
+            identity,
+            len,
+        }),
+        Ok(None) => Err(StoreFault::Device),
+        Err(error) => Err(fault_of(error)),
+    }
+}
+
+/// Which file or device this is, and how many bytes it has: a device has as many as come before its end.
+fn identity_and_len(file: &File) -> io::Result<Option<(Identity, u64)>> {
+    let metadata = file.metadata()?;
+    match file_identity(&metadata) {
+        Some(Identity::File(dev, ino)) => { Ok(Some((Identity::File(dev, ino), metadata.len()))) }
+        Some(Identity::Device(rdev)) => {
+            let len = (&mut &*file).seek(SeekFrom::End(0))?;
+            Ok(Some((Identity::Device(rdev), len)))
+        }
+        None => Ok(None),
     }
 }
 

@@ -3,12 +3,12 @@
 use crate::failure::Failure;
 use crate::lines::{Devices, committed_line};
 use crate::status::{DONE, REFUSED};
-use std::alloc::Global;
+use std::alloc::{AllocError, Global};
 use std::io::{ErrorKind, Read, Write};
 use std::{io, str};
-use verity_edit::{EditFault, Editor, Reply};
+use verity_edit::{Command, EditFault, Editor, Reply};
 use verity_script::{Line, read_line};
-use verity_store::{BlockStore, StoreFault};
+use verity_store::{Block, BlockStore, StoreFault};
 
 /// The most bytes of a script.
 const MOST_BYTES: u64 = 1 << 30;
@@ -97,55 +97,61 @@ fn answer<D: BlockStore, H: BlockStore>(
     editor: &mut Editor<D, H>,
     line: Line<'_>,
 ) -> Result<Reply, Failure> {
-    let edited = match line {
-        Line::Write(n, digits) => write(alloc, editor, n, digits)?,
-        Line::Fill(n, byte) => fill(alloc, editor, n, byte)?,
-        Line::Grow(blocks) => editor.grow(blocks),
-        Line::Shrink(blocks) => editor.shrink(blocks),
-        Line::Discard => editor.discard(),
-        Line::Commit => match editor.commit() {
-            Ok(committed) => return Ok(Reply::Committed(committed)),
-            Err(fault) => Err(fault),
-        },
-    };
-    match edited {
-        Ok(()) => Ok(Reply::Done),
-        Err(EditFault::NoMemory) => Err(Failure::NoMemory),
-        Err(fault) => Ok(Reply::Refused(fault)),
+    let command = command_of(alloc, editor, line)?;
+    match editor.answer(&command) {
+        Reply::Refused(EditFault::NoMemory) => Err(Failure::NoMemory),
+        reply => Ok(reply),
     }
 }
 
+/// The command that a line asks for.
+fn command_of<D: BlockStore, H: BlockStore>(
+    alloc: Global,
+    editor: &Editor<D, H>,
+    line: Line<'_>,
+) -> Result<Command, AllocError> {
+    Ok(match line {
+        Line::Write(n, digits) => Command::Write(n, written(alloc, editor, n, digits)?),
+        Line::Fill(n, byte) => Command::Write(n, filled(alloc, editor, n, byte)?),
+        Line::Grow(blocks) => Command::Grow(blocks),
+        Line::Shrink(blocks) => Command::Shrink(blocks),
+        Line::Discard => Command::Discard,
+        Line::Commit => Command::Commit,
+    })
+}
+
 /// Whether the editor looks at the bytes of a block that is written here. What it refuses by place or length takes no
-/// memory.
+/// memory: no bytes are refused like it.
 fn is_welcome<D: BlockStore, H: BlockStore>(editor: &Editor<D, H>, n: u64, size: usize) -> bool {
     n < editor.blocks() && size == editor.superblock().data_block_size()
 }
 
-fn write<D: BlockStore, H: BlockStore>(
+/// The block that these digits spell.
+fn written<D: BlockStore, H: BlockStore>(
     alloc: Global,
-    editor: &mut Editor<D, H>,
+    editor: &Editor<D, H>,
     n: u64,
     digits: &str,
-) -> Result<Result<(), EditFault>, Failure> {
+) -> Result<Block, AllocError> {
     if !is_welcome(editor, n, digits.len() / 2) {
-        return Ok(editor.write(n, &[]));
+        return Ok(Block::new(Vec::new(alloc)));
     }
     match hex::decode(alloc, digits) {
-        Ok(block) => Ok(editor.write(n, &block)),
-        Err(_) => Err(Failure::NoMemory),
+        Ok(bytes) => Ok(Block::new(bytes)),
+        Err(_) => Err(AllocError),
     }
 }
 
-fn fill<D: BlockStore, H: BlockStore>(
+/// A block whose every byte is this one.
+fn filled<D: BlockStore, H: BlockStore>(
     alloc: Global,
-    editor: &mut Editor<D, H>,
+    editor: &Editor<D, H>,
     n: u64,
     byte: u8,
-) -> Result<Result<(), EditFault>, Failure> {
+) -> Result<Block, AllocError> {
     let size = editor.superblock().data_block_size();
     if !is_welcome(editor, n, size) {
-        return Ok(editor.write(n, &[]));
+        return Ok(Block::new(Vec::new(alloc)));
     }
-    let block = vec![in alloc; byte; size]?;
-    Ok(editor.write(n, &block))
+    Ok(Block::new(vec![in alloc; byte; size]?))
 }

@@ -1,11 +1,11 @@
-use Rattle.std.proofs.Common.{◌≡◌, ◌≢◌, ◌<◌, ◌+◌, ap, arith, vec_len, vec_capacity, ℕ, ◌++◌, List, OnOk, IfErr, sym, ◌∙◌, subst}
+use Rattle.std.proofs.Common.{◌≡◌, ◌≢◌, ◌<◌, ◌+◌, arith, vec_len, vec_capacity, ℕ, ◌++◌, List, OnOk, IfErr, sym, ◌∙◌, subst}
 use Rattle.nbd_session.specs.Export.{Served, Failed}
 use Rattle.verity_check.specs.declared.fault.CheckFault.{CheckFault}
 use Rattle.verity_check.specs.declared.fault.CheckFault.TheVariants as faults
 use Rattle.verity_check.specs.Range.{ServesBytes}
 use Rattle.verity_check.specs.Refusal.{Refuses}
 use Rattle.verity_check.specs.Verifier.{Verifying, given_to, IsOnlyReading, DataFailed, HashFailed, MayRefuse}
-use Rattle.verity_hub.specs.Volume.{facts_of, reads_of}
+use Rattle.verity_hub.specs.Volume.{facts_of}
 use Rattle.verity_hub.proofs.VolumeLaws.{facts_keep, costs, served, failed}
 use Rattle.verity_hub.proofs.Answering.{ok_answer, io_answer, lack_answer}
 use Rattle.verity_hub.proofs.volume.VolumeExport.read_at.Goals as goal

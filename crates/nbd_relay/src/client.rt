@@ -1,0 +1,278 @@
+//! One client of many: its stream, its session and what waits in between.
+
+ghost use Rattle.std.specs.Prelude.{◌≡◌, ◌≢◌, ◌↔◌, Err, ◌+◌, ◌≤◌, ◌<◌, ◌-◌, ◌++◌, ◌⊎◌, ℕ, List, [], ◌∷◌, true, false, length, Some, None, IfOk, OnErr};
+ghost use Rattle.std.specs.Io.KnownBytes.{Appends, Consumes, IsAtEnd, Keeps};
+ghost use Rattle.nbd_session.specs.Handshake.{greeting};
+ghost use Rattle.nbd_session.specs.Export.{Keeps as KeepsFacts};
+ghost use Rattle.nbd_hub.specs.declared.fault.HubFault.{HubFault};
+ghost use Rattle.nbd_session.specs.declared.phase.Phase.TheVariants as Phase;
+ghost use Rattle.nbd_session.specs.Talk.{hear};
+ghost use Rattle.nbd_session.specs.Session.{State};
+ghost use Rattle.nbd_session.specs.Protocol.{longest_reply};
+ghost use Rattle.nbd_hub.specs.History.{Step, Opening, own};
+ghost use Rattle.nbd_hub.specs.Sessions.{lookup, OpensOne, max_open, max_opened};
+ghost use Rattle.nbd_hub.specs.After.{IsAfter};
+ghost use Rattle.nbd_relay.specs.Client.{IsServed, TurnsOn, Sends, Reads, Feeds, ends, input_bytes, IsUnready, Moves};
+
+use crate::stream::Stream;
+use nbd_hub::{HubFault, ServeFault, Sessions};
+use nbd_session::{Export, Status};
+use std::alloc::{Allocator, Global};
+use std::io::ErrorKind;
+use std::marker::Model;
+
+/// The most bytes that are read at once.
+const INPUT_BYTES: usize = 4_096;
+
+/// The most bytes that are fed at once: those of a request's header, so that at most one READ's bytes are pending.
+const PIECE_BYTES: usize = 28;
+
+/// The most bytes of memory that are kept for what is said once all of it is sent.
+const KEPT_BYTES: usize = 65_536;
+
+/// What a turn came to.
+#[derive(Clone, Copy, Debug, Drop, PartialEq, Eq)]
+pub enum Turn {
+    /// Bytes were sent, fed or read.
+    Again,
+    /// The stream isn't ready, and nothing has changed.
+    Blocked,
+    /// The stream was interrupted, and nothing has changed.
+    Interrupted,
+    /// All was said: the session has ended, or the client says no more, and what was said is sent.
+    Done,
+    /// The client is to be left.
+    Failed(ServeFault),
+}
+
+/// A client: its stream, the number of its session, what was read and not fed, what was said and not sent.
+#[derive(Drop)]
+pub struct Client<S, A: Allocator = Global> {
+    stream: S,
+    session: u64,
+    input: [u8; INPUT_BYTES],
+    begin: usize,
+    end: usize,
+    pending: Vec<u8, A>,
+    sent: usize,
+    over: bool,
+}
+
+impl<S, A: Allocator> Model for Client<S, A> {
+    ghost use Rattle.std.specs.Prelude.{◌≤◌, ◌-◌, take, drop, length};
+    ghost use Rattle.nbd_relay.specs.Client.{ClientState};
+
+    ghost Value = { ClientState × S };
+
+    ghost view = { λ c. (record { id = c.session; waiting = take (c.end - c.begin) (drop c.begin c.input); unsent = drop c.sent c.pending.items; over = c.over }, c.stream) };
+
+    ghost invariant = { λ c. (c.begin ≤ c.end) × (c.end ≤ 4096) × (c.sent ≤ length c.pending.items) };
+}
+
+impl<S: Stream + Drop, A: Allocator> Client<S, A> {
+    /// Opens a session for a stream; the greeting is unsent.
+    ///
+    /// # Errors
+    ///
+    /// Those of [`Sessions::open`]. A refused call changes nothing, and the stream is dropped.
+    pub fn open<E: Export, H: Allocator + Copy>(
+        alloc: A,
+        stream: S,
+        hub: &mut Sessions<E, H>,
+    ) -> Result<Client<S, A>, HubFault>
+        ensures opens { IfOk result (λ client. OpensOne hub.old.0 hub.new.0 client.0.id) }
+        ensures stream { IfOk result (λ client. client.1 ≡ stream) }
+        ensures export { hub.new.1 ≡ hub.old.1 }
+        ensures serves { IfOk result (λ client. (history : List Step) → IsAfter (E.facts hub.old.1) hub.old.0 history
+            → IsAfter (E.facts hub.new.1) hub.new.0 (history ++ Opening client.0.id greeting ∷ [])
+            × IsServed hub.new.0.offer (history ++ Opening client.0.id greeting ∷ []) client.0 [] []) }
+        ensures full { (result ≡ Err HubFault.Full) ↔ (max_open ≤ length hub.old.0.sessions) }
+        ensures spent { (result ≡ Err HubFault.Spent) ↔ ((length hub.old.0.sessions < max_open) × (max_opened ≤ hub.old.0.next)) }
+        ensures known { result ≢ Err HubFault.Unknown }
+        ensures refused { OnErr result (hub.new ≡ hub.old) }
+    {
+        let mut pending = Vec::new(alloc);
+        match hub.open(&mut pending) {
+            Ok(session) => Ok(Client {
+                stream,
+                session,
+                input: [0; INPUT_BYTES],
+                begin: 0,
+                end: 0,
+                pending,
+                sent: 0,
+                over: false,
+            }),
+            Err(fault) => Err(fault),
+        }
+    }
+
+    /// Its stream.
+    pub fn stream(&self) -> &S
+        ensures { result.now ≡ self.now.1 }
+    {
+        &self.stream
+    }
+
+    /// The number of its session.
+    pub fn id(&self) -> u64
+        ensures { result ≡ self.now.0.id }
+    {
+        self.session
+    }
+
+    /// Sends a beginning of what is unsent.
+    fn send(&mut self) -> Turn
+        requires { 0 < length self.old.0.unsent }
+        ensures sends { Sends self.old.0 self.new.0 (S.contents self.old.1) (S.contents self.new.1) result }
+        ensures unread { Keeps (S.remaining self.old.1) (S.remaining self.new.1) }
+        ensures calls { (S.asked self.new.1).calls ≡ (S.asked self.old.1).calls + 1 }
+        ensures waits { result ≡ Turn.Blocked → (S.asked self.old.1).waits < (S.asked self.new.1).waits }
+        ensures failures { (result ≡ Turn.Interrupted) ⊎ (result ≡ Turn.Failed ServeFault.Write) → (S.asked self.old.1).failures < (S.asked self.new.1).failures }
+    {
+        match self.stream.send(&self.pending[self.sent..]) {
+            Ok(0) => Turn::Failed(ServeFault::Write),
+            Ok(taken) => {
+                self.sent += taken;
+                self.free();
+                Turn::Again
+            }
+            Err(e) => match e.kind() {
+                ErrorKind::WouldBlock => Turn::Blocked,
+                ErrorKind::Interrupted => Turn::Interrupted,
+                _ => Turn::Failed(ServeFault::Write),
+            },
+        }
+    }
+
+    /// Gives back the memory of a long reply, once it is sent.
+    fn free(&mut self)
+        ensures { self.new ≡ self.old }
+    {
+        if self.sent >= self.pending.len() && self.pending.capacity() > KEPT_BYTES {
+            self.pending.clear();
+            self.pending.shrink_to_fit();
+            self.sent = 0;
+        }
+    }
+
+    /// Reads, where nothing waits.
+    fn receive(&mut self) -> Turn
+        requires { self.old.0.waiting ≡ [] }
+        ensures reads { Reads self.old.0 self.new.0 (S.remaining self.old.1) (S.remaining self.new.1) result }
+        ensures waiting { length self.new.0.waiting ≤ input_bytes }
+        ensures written { Keeps (S.contents self.old.1) (S.contents self.new.1) }
+        ensures calls { (S.asked self.new.1).calls ≡ (S.asked self.old.1).calls + 1 }
+        ensures waits { result ≡ Turn.Blocked → (S.asked self.old.1).waits < (S.asked self.new.1).waits }
+        ensures failures { (result ≡ Turn.Interrupted) ⊎ (result ≡ Turn.Failed ServeFault.Read) → (S.asked self.old.1).failures < (S.asked self.new.1).failures }
+    {
+        match self.stream.receive(&mut self.input) {
+            Ok(0) => {
+                self.begin = 0;
+                self.end = 0;
+                Turn::Done
+            }
+            Ok(taken) => {
+                self.begin = 0;
+                self.end = taken;
+                Turn::Again
+            }
+            Err(e) => {
+                self.begin = 0;
+                self.end = 0;
+                match e.kind() {
+                    ErrorKind::WouldBlock => Turn::Blocked,
+                    ErrorKind::Interrupted => Turn::Interrupted,
+                    _ => Turn::Failed(ServeFault::Read),
+                }
+            }
+        }
+    }
+
+    /// Feeds a piece of what waits, where nothing is unsent.
+    fn feed<E: Export, H: Allocator + Copy>(&mut self, hub: &mut Sessions<E, H>) -> Turn
+        requires drained { self.old.0.unsent ≡ [] }
+        requires some { 0 < length self.old.0.waiting }
+        requires goes_on { self.old.0.over ≡ false }
+        ensures stream { self.new.1 ≡ self.old.1 }
+        ensures waiting { length self.new.0.waiting ≤ input_bytes }
+        ensures later { E.later hub.old.1 hub.new.1 }
+        ensures feeds { (result ≡ Turn.Failed (ServeFault.Hub HubFault.Unknown) → ⊥)
+            → Feeds (E.facts hub.old.1) (E.facts hub.new.1) hub.old.0 hub.new.0 self.old.0 self.new.0 result }
+        ensures gone { result ≡ Turn.Failed (ServeFault.Hub HubFault.Unknown)
+            → (lookup self.old.0.id hub.old.0.sessions ≡ None) × (hub.new ≡ hub.old) × (self.new.0 ≡ self.old.0) }
+    {
+        self.pending.clear();
+        self.sent = 0;
+        let taken = (self.end - self.begin).min(PIECE_BYTES);
+        let mut piece = [0u8; PIECE_BYTES];
+        piece[..taken].copy_from_slice(&self.input[self.begin..self.begin + taken]);
+        match hub.feed(self.session, &piece[..taken], &mut self.pending) {
+            Ok(Status::Open) => {
+                self.begin += taken;
+                Turn::Again
+            }
+            Ok(Status::Ended) => {
+                self.begin += taken;
+                self.over = true;
+                Turn::Again
+            }
+            Ok(Status::Starved) => Turn::Failed(ServeFault::Starved),
+            Err(_) => Turn::Failed(ServeFault::Hub(HubFault::Unknown)),
+        }
+    }
+
+    /// Does one thing: sends what is unsent; else feeds at most 28 bytes of what waits; else reads.
+    ///
+    /// It feeds nothing while anything is unsent, and reads nothing while anything waits: that is the back pressure.
+    pub fn turn<E: Export, H: Allocator + Copy>(&mut self, hub: &mut Sessions<E, H>) -> Turn
+        ensures serves { (history : List Step) (read wrote : List ℕ) → IsAfter (E.facts hub.old.1) hub.old.0 history
+            → IsServed hub.old.0.offer history self.old.0 read wrote
+            → TurnsOn (E.facts hub.new.1) hub.new.0 history self.new.0
+            (ends (S.remaining self.old.1) (S.remaining self.new.1) (S.contents self.old.1) (S.contents self.new.1)) read wrote }
+        ensures same { self.new.0.id ≡ self.old.0.id }
+        // The other sessions, and the hub.
+        ensures others { (k : ℕ) → k ≢ self.old.0.id → lookup k hub.new.0.sessions ≡ lookup k hub.old.0.sessions }
+        ensures offer { hub.new.0.offer ≡ hub.old.0.offer }
+        ensures next { hub.new.0.next ≡ hub.old.0.next }
+        ensures count { length hub.new.0.sessions ≡ length hub.old.0.sessions }
+        ensures keeps { KeepsFacts (E.facts hub.old.1) (E.facts hub.new.1) }
+        ensures later { E.later hub.old.1 hub.new.1 }
+        // What it came to.
+        ensures back_pressure { 0 < length self.old.0.unsent → (hub.new ≡ hub.old) × (self.new.0.waiting ≡ self.old.0.waiting) }
+        ensures moves { result ≡ Turn.Again → Moves self.old.0 self.new.0 }
+        ensures unready { IsUnready result → (hub.new ≡ hub.old) × (self.new.0 ≡ self.old.0)
+            × Keeps (S.remaining self.old.1) (S.remaining self.new.1) × Keeps (S.contents self.old.1) (S.contents self.new.1) }
+        ensures done { result ≡ Turn.Done → (hub.new ≡ hub.old) × (self.new.0 ≡ self.old.0) × (self.new.0.unsent ≡ [])
+            × ((self.new.0.over ≡ true) ⊎ ((self.new.0.waiting ≡ []) × IsAtEnd (S.remaining self.new.1))) }
+        ensures gone { result ≡ Turn.Failed (ServeFault.Hub HubFault.Unknown) → lookup self.old.0.id hub.old.0.sessions ≡ None }
+        ensures starves { result ≡ Turn.Failed ServeFault.Starved
+            → (session : State) × (lookup self.old.0.id hub.new.0.sessions ≡ Some session) × (session.starved ≡ true) }
+        ensures bound { (history : List Step) → IsAfter (E.facts hub.old.1) hub.old.0 history
+            → (hear hub.old.0.offer Phase.Flags (own history self.old.0.id)).phase ≡ Phase.Transmission
+            → length self.old.0.unsent ≤ longest_reply → length self.new.0.unsent ≤ longest_reply }
+        ensures ends { self.old.0.unsent ≡ [] → self.old.0.over ≡ true → result ≡ Turn.Done }
+        ensures feeds { self.old.0.unsent ≡ [] → self.old.0.over ≡ false → 0 < length self.old.0.waiting
+            → (result ≡ Turn.Again) ⊎ (result ≡ Turn.Failed ServeFault.Starved) ⊎ (result ≡ Turn.Failed (ServeFault.Hub HubFault.Unknown)) }
+        ensures waiting { length self.new.0.waiting ≤ input_bytes }
+        // The stream: asked once to send, once to read, and not at all else; and the answer is its own.
+        ensures asks { (0 < length self.old.0.unsent) ⊎ ((self.old.0.over ≡ false) × (self.old.0.waiting ≡ []))
+            → (S.asked self.new.1).calls ≡ (S.asked self.old.1).calls + 1 }
+        ensures unasked { self.old.0.unsent ≡ [] → (self.old.0.over ≡ true) ⊎ (0 < length self.old.0.waiting) → self.new.1 ≡ self.old.1 }
+        ensures waits { result ≡ Turn.Blocked → (S.asked self.old.1).waits < (S.asked self.new.1).waits }
+        ensures failures { (result ≡ Turn.Interrupted) ⊎ (result ≡ Turn.Failed ServeFault.Read) ⊎ (result ≡ Turn.Failed ServeFault.Write)
+            → (S.asked self.old.1).failures < (S.asked self.new.1).failures }
+        ensures reads { (0 < length self.old.0.unsent) ⊎ (0 < length self.old.0.waiting) ⊎ (self.old.0.over ≡ true) → Keeps (S.remaining self.old.1) (S.remaining self.new.1) }
+    {
+        if self.sent < self.pending.len() {
+            return self.send();
+        }
+        if self.over {
+            return Turn::Done;
+        }
+        if self.begin < self.end {
+            return self.feed(hub);
+        }
+        self.receive()
+    }
+}
