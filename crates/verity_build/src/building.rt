@@ -232,9 +232,8 @@ pub fn build<A: Allocator + Copy, P: Allocator, D: BlockStore, H: BlockStore>(
 ///
 /// It reads and hashes each data block once, and hashes and writes each block of the tree once. It takes
 /// memory for the salt, twice, for one hash block a level, and for one buffer, all of it before the first
-/// write, as is the hash store's room. The buffer has the bytes of eight data blocks, or of fewer where
-/// eight are more than 512 KiB, but at least of one data block and of one hash block: as many data blocks
-/// as it has room for, eight at most, are read and hashed before the hash blocks above them are written.
+/// write, as is the hash store's room. The buffer has the bytes of the data blocks that are hashed at a time
+/// (eight, or fewer where eight are more than 512 KiB, at least one), or of a hash block where that is longer.
 pub fn build_at<A: Allocator + Copy, P: Allocator, D: BlockStore, H: BlockStore>(
     alloc: A,
     data_store: &mut D,

@@ -8,8 +8,7 @@ use crate::{BlockStore, StoreFault};
 
 /// Reads `count` blocks from `first` on into `out`, which has the bytes of as many, one after the other.
 ///
-/// S1 where the device failed at one of them: no block behind that one is then read, and `out` may hold anything. Each read that was
-/// asked for is counted.
+/// S1 where the device failed at one of them; `out` may then hold anything. Each block is a read of its own, and is counted as one.
 pub fn read_run<S: BlockStore>(
     store: &mut S,
     first: u64,
