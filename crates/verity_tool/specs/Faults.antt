@@ -18,7 +18,7 @@ use Rattle.verity_superblock.specs.Texts.{super_text, table_text}
 use Rattle.verity_tool.specs.declared.fault.Fault.{Fault}
 use Rattle.verity_tool.specs.declared.fault.Fault.TheVariants.{Store, InUse, Salt, Superblock, Table, Build, Check, Edit, Session, Socket}
 use Rattle.verity_tool.specs.declared.failure.Failure.{Failure}
-use Rattle.verity_tool.specs.declared.failure.Failure.TheVariants.{Refused, NoMemory}
+use Rattle.verity_tool.specs.declared.failure.Failure.TheVariants.{Word, Refused, NoMemory, Output}
 
 -- the text is that of what it carries
 abbrev pub fault_text : Fault → List ℕ
@@ -49,3 +49,10 @@ is_want _ = false
 -- want of memory is printed as such, every other fault by its text
 abbrev pub failure_of : Fault → Failure
 failure_of fault = if is_want fault then NoMemory else Refused fault
+
+-- the status that the process ends with: 2 for words that aren't understood, 3 for want of memory, 1 for all else
+abbrev pub status_for : Failure → ℕ
+status_for (Word word) = 2
+status_for (Refused fault) = 1
+status_for NoMemory = 3
+status_for Output = 1

@@ -1,6 +1,6 @@
 //! Why a command stops, and what is printed then.
-ghost use Rattle.std.specs.Prelude.{◌≡◌};
-ghost use Rattle.verity_tool.specs.Faults.{failure_of};
+ghost use Rattle.std.specs.Prelude.{◌≡◌, ◌⊎◌};
+ghost use Rattle.verity_tool.specs.Faults.{failure_of, status_for};
 ghost use Rattle.verity_tool.specs.declared.fault.Fault.TheVariants as fault;
 
 use crate::fault::Fault;
@@ -63,20 +63,30 @@ pub enum Failure {
     Output,
 }
 
-/// Prints why a command stopped, and answers the status for it.
-pub fn fail<W: Write>(failure: Failure, output: &mut W) -> u8 {
-    let (written, status) = match failure {
-        Failure::Word(word) => (
-            writeln!(output, "error: the value of {word} is not understood"),
-            NOT_UNDERSTOOD,
-        ),
-        Failure::Refused(fault) => (writeln!(output, "refused {fault}"), REFUSED),
-        Failure::NoMemory => (writeln!(output, "no memory"), NO_MEMORY),
-        Failure::Output => (Ok(()), REFUSED),
+/// Prints why a command stopped, and answers the status for it; or 1, where it can't be printed.
+pub fn fail<W: Write>(failure: Failure, output: &mut W) -> u8
+    ensures { (result ≡ status_for failure) ⊎ (result ≡ 1) }
+{
+    let written = match failure {
+        Failure::Word(word) => writeln!(output, "error: the value of {word} is not understood"),
+        Failure::Refused(fault) => writeln!(output, "refused {fault}"),
+        Failure::NoMemory => writeln!(output, "no memory"),
+        Failure::Output => Ok(()),
     };
     match written {
-        Ok(()) => status,
+        Ok(()) => status_of(failure),
         Err(_) => REFUSED,
+    }
+}
+
+fn status_of(failure: Failure) -> u8
+    ensures { result ≡ status_for failure }
+{
+    match failure {
+        Failure::Word(_) => NOT_UNDERSTOOD,
+        Failure::Refused(_) => REFUSED,
+        Failure::NoMemory => NO_MEMORY,
+        Failure::Output => REFUSED,
     }
 }
 

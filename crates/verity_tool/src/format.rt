@@ -44,7 +44,8 @@ struct Made {
 /// Makes HASH, the hash device of DATA, and prints the table line.
 ///
 /// The words are read first, then the salt is made, DATA opened and locked, HASH opened or created, told apart from DATA and
-/// locked, and the device built. What stands in HASH stays until the first block is written. A HASH that was created is removed where none was.
+/// locked, and the device built. What stands in HASH stays until the first block is written. A HASH that was created is
+/// removed where none was.
 pub fn format<R: Files<File = File> + AllocGlobal, W: Write>(
     rt: &R,
     words: &FormatWords<'_>,
@@ -160,7 +161,7 @@ fn open_hash<R: Files<File = File> + AllocGlobal>(
     if shape.hash_offset == 0 {
         let (hash, is_new) = open_or_make(rt, path)?;
         check_apart(data, hash.identity)?;
-        take_lock(&hash.file, Command::Format.lock(), Which::Hash)?;
+        lock_or_unmake(rt, path, &hash, is_new)?;
         Ok((new_store(hash, shape.hash_block_size)?, is_new))
     } else {
         let hash = open_there(rt, path, Command::Format, Which::Hash)?;
@@ -168,4 +169,19 @@ fn open_hash<R: Files<File = File> + AllocGlobal>(
         take_lock(&hash.file, Command::Format.lock(), Which::Hash)?;
         Ok((store_of_most(hash, shape.hash_block_size, u64::MAX)?, false))
     }
+}
+
+/// Takes the lock on HASH. A file that was created is removed where the system gives none; one that another program has by
+/// now is left to it.
+fn lock_or_unmake<R: Files<File = File> + AllocGlobal>(
+    rt: &R,
+    path: &str,
+    hash: &Opened,
+    is_new: bool,
+) -> Result<(), Fault> {
+    let taken = take_lock(&hash.file, Command::Format.lock(), Which::Hash);
+    if is_new && matches!(taken, Err(Fault::Store(_))) {
+        unmake(rt, path);
+    }
+    taken
 }

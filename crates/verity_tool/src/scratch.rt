@@ -28,16 +28,29 @@ pub fn scratch<I: Read, W: Write>(
     input: &mut I,
     output: &mut W,
 ) -> Result<u8, Failure> {
+    let mut editor = zero_volume(alloc)?;
+    print_line(alloc, &editor, output)?;
+    let script = read_script(alloc, input)?;
+    run_script(alloc, &mut editor, DEVICES, &script, output)
+}
+
+fn zero_volume(alloc: Global) -> Result<Editor<MemStore, MemStore>, Failure> {
     let mut data_store = MemStore::zeroed(alloc, DATA_BLOCK_SIZE, 1)?;
     let mut hash_store = MemStore::zeroed(alloc, HASH_BLOCK_SIZE, 0)?;
     let params = Params::new(salt(alloc, &[])?, Uuid::nil(), Algorithm::Sha256);
     build(alloc, &mut data_store, &mut hash_store, &params)?;
-    let mut editor = match Editor::open(alloc, data_store, hash_store) {
-        Ok(editor) => editor,
-        Err(refused) => return Err(refused.fault.into()),
-    };
+    match Editor::open(alloc, data_store, hash_store) {
+        Ok(editor) => Ok(editor),
+        Err(refused) => Err(refused.fault.into()),
+    }
+}
+
+fn print_line<W: Write>(
+    alloc: Global,
+    editor: &Editor<MemStore, MemStore>,
+    output: &mut W,
+) -> Result<(), Failure> {
     let line = committed_line(alloc, DEVICES, editor.superblock(), editor.root())?;
     writeln!(output, "{line}")?;
-    let script = read_script(alloc, input)?;
-    run_script(alloc, &mut editor, DEVICES, &script, output)
+    Ok(())
 }

@@ -24,7 +24,13 @@ pub fn talk<R: Files<File = File> + AllocGlobal, I: Read, W: Write>(
 ) -> Result<u8, Failure> {
     let cache = number(Word::Cache, words.cache)? as usize;
     let mut hub = open_hub(rt, words.table, words.name, cache, Command::Talk)?;
-    match serve_stream(&mut hub, input, output, TURNS) {
+    let served = serve_stream(&mut hub, input, output, TURNS);
+    ended(served)
+}
+
+/// The status of a session that ended so.
+fn ended(served: Result<(), ServeFault>) -> Result<u8, Failure> {
+    match served {
         Ok(()) => Ok(DONE),
         Err(ServeFault::Starved) => Ok(NO_MEMORY),
         // The greeting hasn't begun.
