@@ -107,6 +107,7 @@ def edits():
     for before, after in ((16, 17), (17, 16), (256, 257), (257, 256), (1, 257), (257, 17), (17, 1), (1, 2), (2, 1), (257, 1)):
         word = "grow" if before < after else "shrink"
         yield edited(f"{word} {before} to {after}", volume(before), f"{word} {after}\ncommit\n")
+    yield edited("shrink 4097 to 256", volume(4097), "shrink 256\ncommit\ncommit\n")
     yield edited("grow and shrink back", volume(256), "grow 257\ncommit\nshrink 256\ncommit\n")
     yield edited("blocks that come back are zeros", volume(3), "shrink 1\ngrow 3\ncommit\n", b"\xaa" * 1536)
     yield edited("a discard", volume(17), "shrink 2\nfill 0 01\ndiscard\nfill 1 02\ncommit\n")
@@ -158,6 +159,9 @@ def before():
     yield plain("a shorter data device", "refused E10", files={"data": data[512:], "hash": hashes, "script": script})
     yield plain("another data block", "refused E8 level 1 index 0", files={"data": flipped(data, 5000), "hash": hashes, "script": script})
     yield plain("another top block", "refused E8 level 1 index 0", files={"data": data, "hash": flipped(hashes, 600), "script": script})
+    yield plain("a block of level 0", "refused E8 level 0 index 0", files={"data": data, "hash": flipped(hashes, 1024), "script": script})
+    yield plain("the last byte of the tree", "refused E8 level 0 index 1", files={"data": data, "hash": flipped(hashes, 2047), "script": script})
+    yield plain("a superblock of another count", "refused E10", files={"data": data, "hash": flipped(hashes, 72), "script": script})
     yield plain("a short hash device", "refused E8 level 0 index 1", files={"data": data, "hash": hashes[:-512], "script": script})
     yield plain("an offset that is no multiple of 512", "refused E12", more=["--hash-offset", "100"])
     yield plain("an offset past the end", "refused E9 B1", more=["--hash-offset", "2048"])

@@ -2,10 +2,7 @@
 
 use std::alloc::{Allocator, Global};
 use std::test::Fail;
-use test_volumes::{Volume, make_volume, numbered, params};
-use uuid::Uuid;
-use verity_build::{Params, build_at};
-use verity_digest::{Algorithm, Salt};
+use test_volumes::{Volume, make_volume, numbered};
 use verity_edit::Editor;
 use verity_store::MemStore;
 
@@ -16,45 +13,6 @@ pub type Plain = Editor<MemStore, MemStore>;
 // A volume of so many data blocks.
 pub fn volume_of(alloc: Global, count: usize) -> Result<Volume, Fail> {
     make_volume(alloc, numbered(alloc, count)?)
-}
-
-// The volume of a data store, made from scratch behind what stands in front, at a byte offset.
-pub fn volume_behind(
-    alloc: Global,
-    data_store: MemStore,
-    front: MemStore,
-    offset: u64,
-) -> Result<Volume, Fail> {
-    let mut data_store = data_store;
-    let mut hash_store = front;
-    let params = params(alloc)?;
-    let root = build_at(alloc, &mut data_store, &mut hash_store, &params, offset)?;
-    Ok(Volume {
-        data_store,
-        hash_store,
-        root,
-    })
-}
-
-// The volume of a data store, made from scratch with this algorithm.
-pub fn volume_with(
-    alloc: Global,
-    data_store: MemStore,
-    algorithm: Algorithm,
-) -> Result<Volume, Fail> {
-    let mut data_store = data_store;
-    let mut hash_store = MemStore::zeroed(alloc, SIZE, 0)?;
-    let params = Params::new(
-        Salt::new(alloc, b"salt")?,
-        Uuid::from_bytes([7; 16]),
-        algorithm,
-    );
-    let root = build_at(alloc, &mut data_store, &mut hash_store, &params, 0)?;
-    Ok(Volume {
-        data_store,
-        hash_store,
-        root,
-    })
 }
 
 pub fn opened(alloc: Global, volume: Volume) -> Result<Plain, Fail> {

@@ -10,15 +10,19 @@
 //! The one contract that the layers above rely on: over stores that tell, after a commit the hash store is `hash_blocks` of
 //! `verity_superblock` for the working image, all of it, and after any list of commands editor and replies are those of
 //! `After`. A commit hashes at most `bound` blocks, and where the count of blocks stays it reads at most as many hash blocks
-//! as are touched.
+//! as are touched; what is answered is synced.
+//!
+//! Over any stores each reply of `answer` says what it means (`IsAnswered`), and `run` is the chain of such records.
 //!
 //! The errors are those of [`EditFault`], E1 to E12. A refused call changes nothing, but for a commit of which a store failed
 //! after its first change: the editor is then broken, and all but the getters and `close` answers E7.
 //!
 //! The definitions stand in `specs/`: `Edits` (images, edits and what refuses them), `After` (commands and replies), `Touched`
 //! (the touched hash blocks and their bound), `Editing` (what a contract sees of an editor, and what a commit leaves),
-//! `Opening` (when a volume is opened), `Running` (lists of commands); the others are of the way to them: `Draft` (pending
-//! edits), `Plan`, `Planning`, `Level`, `Making` (hash blocks made again), `Levels`, `Written`, `Carried` (what is changed).
+//! `Opening` (when a volume is opened), `Faults` (what a failure of a store is answered by), `Running` (commands and lists of
+//! them); the others are of the way to them: `Draft` (pending edits), `Plan`, `Planning`, `Level`, `Making` (hash blocks made
+//! again), `Levels`, `Written`, `Carried`, `Committing` (what is changed). What calls leave of a store is said once, by the
+//! records of `verity_store` `Stores`.
 #![tactic(auto)]
 
 mod change;

@@ -1,11 +1,10 @@
-use Rattle.std.proofs.Common.{◌≡◌, ℕ, List, arith, subst, sym, ap, ◌∙◌}
+use Rattle.std.proofs.Common.{ℕ, List, arith, subst, sym, ap, ◌∙◌}
 use Rattle.verity_superblock.specs.Superblock.{Volume}
 use Rattle.verity_edit.specs.declared.tree.Change.{Change}
 use Rattle.verity_edit.specs.Draft.{Draft}
-use Rattle.verity_edit.specs.Planning.{change_of, IsPlan, IsRight}
+use Rattle.verity_edit.specs.Planning.{IsPlan, IsRight}
 use Rattle.verity_edit.specs.Committing.{CanCommit, IsCarriedOut}
 use Rattle.verity_edit.proofs.CommitLemmas.{can_after, carried_before}
-use Rattle.verity_edit.proofs.Frames.{stays_of, stays_then, written_of, written_then}
 use Rattle.verity_edit.proofs.committing.commit_edits.Goals as goal
 
 pub carry_out-requires-clause-plan : goal.carry_out-requires-clause-plan
