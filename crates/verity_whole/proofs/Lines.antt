@@ -18,6 +18,7 @@ use Rattle.verity_superblock.specs.Image.{hash_image}
 use Rattle.verity_superblock.specs.Line.{TableLine, algorithm_of}
 use Rattle.verity_superblock.proofs.LineReads.{algorithm_of-sized}
 use Rattle.verity_check.specs.Holds.{IsLineOf}
+use Rattle.verity_check.specs.Stores.{Marks}
 use Rattle.verity_check.specs.Verifier.{Verifying}
 use Rattle.verity_hub.specs.Volume.{HoldsFor}
 use Rattle.verity_whole.specs.Whole.{IsDeviceOf, offer_of, Carries, Delivers}
@@ -89,20 +90,20 @@ module _ {D H : Type 0} (data_facts : store.Ghosts D) (hash_facts : store.Ghosts
         (root_sized all rows (salted p) p.hash_block_size image (block_size_low p.hash_block_size b.profile.hash_size) (block_count_low (length image) b.profile.count)))
 
     -- the stores hold the image for the verifier of that line
-    pub holds_device : (v : Verifying D H) (data_mark hash_mark : ℕ)
-        → v ≡ record { table = line_with dev hash_dev data_size hash_size blocks digest salt; data_store = d; hash_store = h; data_mark = data_mark; hash_mark = hash_mark }
+    pub holds_device : (v : Verifying D H) (data_mark hash_mark : ℕ) (since : Marks)
+        → v ≡ record { table = line_with dev hash_dev data_size hash_size blocks digest salt; data_store = d; hash_store = h; data_mark = data_mark; hash_mark = hash_mark; since = since }
         → HoldsFor data_facts hash_facts v image
-    holds_device v data_mark hash_mark made =
-        let w : Verifying D H = record { table = line_with dev hash_dev data_size hash_size blocks digest salt; data_store = d; hash_store = h; data_mark = data_mark; hash_mark = hash_mark } in
+    holds_device v data_mark hash_mark since made =
+        let w : Verifying D H = record { table = line_with dev hash_dev data_size hash_size blocks digest salt; data_store = d; hash_store = h; data_mark = data_mark; hash_mark = hash_mark; since = since } in
         subst (λ z. HoldsFor data_facts hash_facts z image) (sym made) (law p image [] w b.profile
         (subst (λ z. AllSized z image) same_data m.data_blocks) (λ k x l. absurd (let no : ⊥ = omega (arith, l) in no))
         (subst (λ z. AllSized z (hash_facts.content h)) same_hash m.hash_blocks) b.data_tells b.hash_tells refl b.device line)
 
     -- and what is offered is the image
-    pub offers_device : (v : Verifying D H) (data_mark hash_mark : ℕ) (called : List ℕ)
-        → v ≡ record { table = line_with dev hash_dev data_size hash_size blocks digest salt; data_store = d; hash_store = h; data_mark = data_mark; hash_mark = hash_mark }
+    pub offers_device : (v : Verifying D H) (data_mark hash_mark : ℕ) (since : Marks) (called : List ℕ)
+        → v ≡ record { table = line_with dev hash_dev data_size hash_size blocks digest salt; data_store = d; hash_store = h; data_mark = data_mark; hash_mark = hash_mark; since = since }
         → ◌≡◌ {A = Offer} (record { name = called; size = v.table.data_blocks * v.table.data_block_size; block = v.table.data_block_size }) (offer_of data_facts hash_facts d called)
-    offers_device v data_mark hash_mark called made =
+    offers_device v data_mark hash_mark since called made =
         let offer_at : ℕ → ℕ → Offer = λ n size. record { name = called; size = n * size; block = size } in
         ap (λ (z : Verifying D H). offer_at z.table.data_blocks z.table.data_block_size) made ∙ ap (λ n. offer_at n data_size) m.count ∙ ap (λ size. offer_at (length image) size) m.data_is
 
