@@ -8,6 +8,8 @@ import time
 
 sys.path.insert(0, os.path.join(os.path.dirname(os.path.abspath(__file__)), "..", "interop"))
 
+from tools import built_for, has_v3
+
 SALT = "e48da609055204e89ae53b655ca2216dd983cf3cb829f34f63a297d106d53e2d"
 
 
@@ -39,7 +41,41 @@ def timed(words):
     return used.ru_utime + used.ru_stime, peak
 
 
-def bare_loop(loop, data, block_size):
-    """Seconds of the bare loop of digests over the same blocks in memory."""
-    out = subprocess.run([loop, data, block_size, SALT], capture_output=True, text=True, check=True).stdout
+def bare_loop(loop, data, block_size, *mode):
+    """Seconds of a bare loop of digests over the same blocks in memory: one by one, or by the mode `lanes` eight at a time."""
+    out = subprocess.run([loop, data, block_size, SALT, *mode], capture_output=True, text=True, check=True).stdout
     return int(re.search(r"us=(\d+)", out).group(1)) / 1e6
+
+
+def builds(folder):
+    """This program and the bare loops, by the processor that they are built for. What the gate builds is built last, and stays."""
+    processors = [*(["x86-64-v3"] if has_v3() else []), None]
+    made = {processor or "default": tuple(built_for(folder, name, processor) for name in ("dalgovuun", "bench_digest"))
+            for processor in processors}
+    return dict(reversed(made.items()))
+
+
+def compared(name, made, ours, theirs, data, block_size, mebibytes):
+    """Runs each in turn, five times, and prints the best of each: the throughput, and that over the scalar loop and over the
+    lanes of the same build. `ours` gives the words for a program, `theirs` are those of veritysetup, or None."""
+    seconds = {}
+
+    def note(label, took):
+        seconds[label] = min(took, seconds.get(label, took))
+
+    peaks = {}
+    for _ in range(5):
+        for processor, (program, loop) in made.items():
+            took, peaks[processor] = timed(ours(program))
+            note((name, processor), took)
+            note(("scalar loop", processor), bare_loop(loop, data, block_size))
+            note(("lanes", processor), bare_loop(loop, data, block_size, "lanes"))
+        if theirs:
+            note(("veritysetup", ""), timed(theirs)[0])
+    print(f"{name}, blocks of {block_size} bytes, {mebibytes} MiB{'MB/s':>29}{'of scalar':>11}{'of lanes':>10}")
+    for (label, processor), took in seconds.items():
+        ratios = "".join(f"{seconds[other, processor] / took:{width}.2f}" for other, width in (("scalar loop", 11), ("lanes", 10))
+                         if processor)
+        print(f"  {label:12} {processor:42}{mebibytes * 1.048576 / took:8.1f}{ratios}")
+    for processor, peak in peaks.items():
+        print(f"  peak memory  {processor:42}{peak:8} KiB")

@@ -22,6 +22,24 @@ def built(name="dalgovuun"):
     return path
 
 
+def has_v3():
+    """Whether this machine has what programs for x86-64-v3 need."""
+    with open("/proc/cpuinfo", encoding="ascii") as file:
+        flags = {word for line in file if line.startswith("flags") for word in line.split()}
+    return {"avx2", "bmi1", "bmi2", "f16c", "fma", "movbe", "abm"} <= flags
+
+
+def built_for(folder, name, processor=None):
+    """A copy in a folder of a program that is built for a processor, by default the one that the gate builds for."""
+    crate = os.path.join(TOP, "crates", name)
+    words = ["rt", "run", *(["--cpu", processor] if processor else [])]
+    if subprocess.run(words, cwd=crate, stdin=subprocess.DEVNULL, **QUIET).returncode != 0:
+        sys.exit(f"{name} was not built: run {' '.join(words)} in crates/{name}")
+    path = os.path.join(folder, f"{name}-{processor or 'default'}")
+    shutil.copy(os.path.join(crate, "out", name), path)
+    return path
+
+
 def program():
     """The program under test: the one that the first word names, or the one that is built here."""
     return os.path.abspath(sys.argv[1]) if len(sys.argv) > 1 else built()

@@ -1,6 +1,7 @@
-//! Times the digests of a file's blocks, which it holds in memory: the bare loop beside which `format` is measured.
+//! Times the digests of a file's blocks, which it holds in memory: the bare loops beside which `format` and `verify` are measured.
 #![tactic(auto)]
 
+use digest_lanes::digest_eight;
 use sha2::{Digest, Sha256};
 use std::time::Instant;
 use std::{env, fs, io};
@@ -20,13 +21,41 @@ fn digest_all(bytes: &[u8], block_size: usize, salt: &[u8]) -> u8 {
     mixed
 }
 
-fn timed(rt: &HostRuntime, path: &str, block_size: usize, salt: &str) -> io::Result<()> {
+// The same, of eight blocks at a time.
+fn digest_in_lanes(bytes: &[u8], block_size: usize, salt: &[u8]) -> u8 {
+    let mut mixed = 0;
+    if block_size == 0 || block_size > 1 << 20 {
+        return mixed;
+    }
+    for blocks in bytes.chunks(8 * block_size) {
+        if blocks.len() == 8 * block_size {
+            for digest in digest_eight(salt, blocks, block_size) {
+                mixed ^= digest[0];
+            }
+        } else {
+            mixed ^= digest_all(blocks, block_size, salt);
+        }
+    }
+    mixed
+}
+
+fn timed(
+    rt: &HostRuntime,
+    path: &str,
+    block_size: usize,
+    salt: &str,
+    in_lanes: bool,
+) -> io::Result<()> {
     let bytes = fs::read(rt, path)?;
     let Ok(salt) = hex::decode(rt.alloc(), salt) else {
         return println!(rt; "the salt is not hexadecimal");
     };
     let start = Instant::now(rt)?;
-    let mixed = digest_all(&bytes, block_size, &salt);
+    let mixed = if in_lanes {
+        digest_in_lanes(&bytes, block_size, &salt)
+    } else {
+        digest_all(&bytes, block_size, &salt)
+    };
     let micros = start.elapsed(rt)?.as_micros();
     let count = bytes.len();
     println!(rt; "bytes={count} us={micros} mixed={mixed:02x}")
@@ -36,7 +65,14 @@ fn main(rt: HostRuntime) -> io::Result<()> {
     let mut words = env::args(&rt)?;
     let _ = words.next();
     let (Some(path), Some(size), Some(salt)) = (words.next(), words.next(), words.next()) else {
-        return println!(rt; "bench_digest FILE BLOCK_SIZE SALT");
+        return println!(rt; "bench_digest FILE BLOCK_SIZE SALT [lanes]");
     };
-    timed(&rt, &path, size.parse::<usize>().unwrap_or(4096), &salt)
+    let in_lanes = words.next().is_some();
+    timed(
+        &rt,
+        &path,
+        size.parse::<usize>().unwrap_or(4096),
+        &salt,
+        in_lanes,
+    )
 }
