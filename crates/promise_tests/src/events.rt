@@ -55,7 +55,7 @@ fn no_cache_is_refused(rt: HostRuntime) -> Result<(), Fail> {
     let mut replies = Vec::new(alloc);
     let name = ExportName::new(b"vol")?;
     let done = answer_events(alloc, line(alloc)?, data, hash, 0, name, &client(alloc)?, &mut replies);
-    assert_eq!(rt; done, Err(AnswerFault::Verifier(CheckFault::CacheSize)));
+    assert_eq!(rt; done, Err(AnswerFault::Check(CheckFault::CacheSize)));
     assert_eq!(rt; replies.len(), 0);
     Ok(())
 }

@@ -15,7 +15,7 @@ use Rattle.verity_check.specs.declared.fault.CheckFault.{CheckFault}
 use Rattle.verity_check.specs.declared.fault.CheckFault.TheVariants as check
 use Rattle.verity_hub.specs.Volume.{facts_of, IsRightFor}
 use Rattle.verity_promise.specs.declared.answers.AnswerFault.{AnswerFault}
-use Rattle.verity_promise.specs.declared.answers.AnswerFault.TheVariants.{Verifier, Memory}
+use Rattle.verity_promise.specs.declared.answers.AnswerFault.TheVariants.{Check, Memory}
 use Rattle.verity_promise.specs.Answers.{IsMadeOver, AreRightAnswers, ExplainsUnanswered, offer_of}
 
 nothing : {X : Type 0} (xs : List X) → xs ≡ xs
@@ -52,9 +52,9 @@ module _ {D H : Type 0} (data_facts : store.Ghosts D) (hash_facts : store.Ghosts
 
   -- no verifier was made, and no reply added
   pub unmade : {A B : Type 0} (called : List ℕ) (events : List (Event B)) (old : List (HubReply A)) (fault : CheckFault)
-      → (fault ≡ check.Lengths) ⊎ (fault ≡ check.CacheSize) ⊎ (fault ≡ check.NoMemory) → ExplainsUnanswered data_facts hash_facts t d h called events old old (Verifier fault)
+      → (fault ≡ check.Lengths) ⊎ (fault ≡ check.CacheSize) ⊎ (fault ≡ check.NoMemory) → ExplainsUnanswered data_facts hash_facts t d h called events old old (Check fault)
   unmade {A = A} called events old fault e =
-      let P : CheckFault → Type 0 = λ f. ExplainsUnanswered data_facts hash_facts t d h called events old old (Verifier f) in
+      let P : CheckFault → Type 0 = λ f. ExplainsUnanswered data_facts hash_facts t d h called events old old (Check f) in
       let lengths : P check.Lengths = nothing old in
       let size : P check.CacheSize = nothing old in
       let memory : P check.NoMemory = nothing old in
@@ -64,7 +64,7 @@ module _ {D H : Type 0} (data_facts : store.Ghosts D) (hash_facts : store.Ghosts
       ]
 
 abbrev pub fault_in : AnswerFault → CheckFault
-fault_in (Verifier fault) = fault
+fault_in (Check fault) = fault
 fault_in Memory = check.NoMemory
 
 abbrev pub err_in : {T E : Type 0} → E → Result T E → E
@@ -72,10 +72,10 @@ err_in other (Err e) = e
 err_in other (Ok x) = other
 
 -- the verifier's refusal is answered
-pub named : {T : Type 0} (fault which : CheckFault) (P : Type 0) → IsErrOf {T = T} (Err fault) which ↔ P → IsErrOf {T = Unit {0}} (Err (Verifier fault)) (Verifier which) ↔ P
+pub named : {T : Type 0} (fault which : CheckFault) (P : Type 0) → IsErrOf {T = T} (Err fault) which ↔ P → IsErrOf {T = Unit {0}} (Err (Check fault)) (Check which) ↔ P
 named {T = T} fault which P h =
     let inner : CheckFault → Result T CheckFault = λ f. Err f in
-    let outer : CheckFault → Result (Unit {0}) AnswerFault = λ f. Err (Verifier f) in (
+    let outer : CheckFault → Result (Unit {0}) AnswerFault = λ f. Err (Check f) in (
       λ e. h.0 (ap inner (ap (λ (r : Result (Unit {0}) AnswerFault). fault_in (err_in Memory r)) e)),
       λ p. ap outer (ap (λ (r : Result T CheckFault). err_in check.NoMemory r) (h.1 p)),
     )

@@ -8,6 +8,7 @@ use Rattle.verity_digest.specs.Tree.{Hashing, root, tree, per_block}
 use Rattle.verity_digest.specs.Shape.{total}
 use Rattle.verity_digest.specs.declared.algorithm.Algorithm.{Algorithm}
 use Rattle.verity_store.specs.declared.store.BlockStore as store
+use Rattle.verity_store.specs.Stores.{StaysStore}
 use Rattle.verity_store.proofs.BlockLemmas.{take_same}
 use Rattle.verity_superblock.specs.Superblock.{Params, Volume, salted}
 use Rattle.verity_superblock.specs.Image.{hash_image, hash_blocks, superblock_block, tree_of, start_behind}
@@ -26,7 +27,7 @@ use Rattle.verity_check.specs.Holds.{Holds}
 use Rattle.verity_check.specs.Verifier.{AreStoresOf}
 use Rattle.verity_promise.specs.declared.edited.Edited.{Edited}
 use Rattle.verity_promise.specs.Closing.{IsLine, IsClosed}
-use Rattle.verity_promise.specs.Scratch.{IsFromScratch}
+use Rattle.verity_promise.specs.Scratch.{IsFromScratch, IsEdited}
 
 -- what is said of a value follows
 if_some : {X : Type 0} (o : Option X) (P Q : X → Type 0) → ((x : X) → P x → Q x) → IfSome o P → IfSome o Q
@@ -191,3 +192,28 @@ module _ {D H A C : Type 0} (data_facts : store.Ghosts D) (hash_facts : store.Gh
             (holds_closed data_facts hash_facts closed start (fits l.0) (begins ∙ sym first) t l.1 still_data still_hash (stands l.0 still_data still_hash)))),
           )) line;
         }
+
+  -- so it was edited
+  pub edited_by : OnOk left.done (length runs.added ≡ length commands) → IsEdited data_facts hash_facts d h offset commands old_replies new_replies left
+  edited_by all =
+      let data_stays : StaysStore data_facts opened.data_store left.data_store = subst (λ x. StaysStore data_facts opened.data_store x) (sym data_is) runs.stays.data_store in
+      let hash_stays : StaysStore hash_facts opened.hash_store left.hash_store = subst (λ x. StaysStore hash_facts opened.hash_store x) (sym hash_is) runs.stays.hash_store in
+      let behind : opened.first - 1 ≡ offset / hash_facts.size h = (let e = opens.first in omega (arith, e)) in
+      record {
+        volume = opened.volume;
+        is_volume = opens.volume;
+        added = runs.added;
+        replies = runs.replies;
+        few = omega (arith, runs.each, runs.few);
+        all = all;
+        data_opened = opened.data_store;
+        hash_opened = opened.hash_store;
+        data_read = opens.data_store;
+        hash_read = opens.hash_store;
+        data_stays = data_stays;
+        hash_stays = hash_stays;
+        unread = ap (λ x. data_facts.reads x) data_is ∙ runs.stays.data_reads;
+        front = λ q below. ap (λ x. get_or (hash_facts.content x) q []) hash_is ∙ runs.stays.front q (omega (arith, behind, below)) ∙ ap (λ x. get_or x q []) opens.hash_store.content;
+        fits = stores_fit;
+        scratch = λ data_told hash_told. subst (λ n. IsFromScratch data_facts hash_facts opened.volume front d h (take n commands) runs.added left) (sym runs.each) (from_scratch data_told hash_told);
+      }

@@ -84,7 +84,7 @@ module _ {D H A : Type 0} (data_facts : store.Ghosts D) (hash_facts : store.Ghos
     explains (unserved.Opened r) why = absurd why
     explains (unserved.Edited same) why =
         subst (λ (x : Edited D H A). IsEdited data_facts hash_facts d h offset commands old_replies new_replies x × ((x.done ≡ Ok tt → ⊥) ⊎ (x.table ≡ None))) (sym why.0) (edited, why.1)
-    explains (unserved.Verifier fault) why = (why, (left, edited))
+    explains (unserved.Check fault) why = (why, (left, edited))
 
 module _ {D H A C : Type 0} (data_facts : store.Ghosts D) (hash_facts : store.Ghosts H) (left : Edited D H A) (called : List ℕ) (ends : Ends) (limit : ℕ)
     (d : D) (h : H) (offset : ℕ) (commands : List (Command C)) (old_replies new_replies : List Reply)

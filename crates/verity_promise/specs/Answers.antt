@@ -11,7 +11,7 @@ use Rattle.verity_check.specs.Verifier.{Verifying, IsOnlyReading}
 use Rattle.verity_check.specs.declared.fault.CheckFault.TheVariants as check
 use Rattle.verity_hub.specs.Volume.{IsRightFor}
 use Rattle.verity_promise.specs.declared.answers.AnswerFault.{AnswerFault}
-use Rattle.verity_promise.specs.declared.answers.AnswerFault.TheVariants.{Verifier, Memory}
+use Rattle.verity_promise.specs.declared.answers.AnswerFault.TheVariants.{Check, Memory}
 
 -- the export of a table line's volume, under this name
 abbrev pub offer_of : Table → (called : List ℕ) → Offer
@@ -43,8 +43,8 @@ module _ {D H : Type 0} (data_facts : store.Ghosts D) (hash_facts : store.Ghosts
   -- No other fault is named. Where no verifier was made, nothing was done; where memory was refused for a reply, the events with
   -- a reply were done and no other.
   abbrev pub ExplainsUnanswered : {A B : Type 0} → (t : Table) (d : D) (h : H) (called : List ℕ) (events : List (Event B)) (old_replies new_replies : List (HubReply A)) → AnswerFault → Type 0
-  ExplainsUnanswered t d h called events old new (Verifier check.Lengths) = new ≡ old
-  ExplainsUnanswered t d h called events old new (Verifier check.CacheSize) = new ≡ old
-  ExplainsUnanswered t d h called events old new (Verifier check.NoMemory) = new ≡ old
-  ExplainsUnanswered t d h called events old new (Verifier fault) = ⊥
+  ExplainsUnanswered t d h called events old new (Check check.Lengths) = new ≡ old
+  ExplainsUnanswered t d h called events old new (Check check.CacheSize) = new ≡ old
+  ExplainsUnanswered t d h called events old new (Check check.NoMemory) = new ≡ old
+  ExplainsUnanswered t d h called events old new (Check fault) = ⊥
   ExplainsUnanswered t d h called events old new Memory = AreRightAnswers t d h called events old new

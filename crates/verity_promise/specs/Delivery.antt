@@ -20,7 +20,7 @@ use Rattle.verity_promise.specs.Answers.{IsMadeOver, offer_of}
 abbrev pub ExplainsUnmade : {D H A : Type 0} → Edited D H A → Unserved D H A → Type 0
 ExplainsUnmade left (unserved.Opened r) = ⊥
 ExplainsUnmade left (unserved.Edited same) = (same ≡ left) × ((left.done ≢ Ok tt) ⊎ (left.table ≡ None))
-ExplainsUnmade left (unserved.Verifier fault) = fault ≡ NoMemory
+ExplainsUnmade left (unserved.Check fault) = fault ≡ NoMemory
 
 module _ {D H : Type 0} (data_facts : store.Ghosts D) (hash_facts : store.Ghosts H) where
   -- A stream was served under the table line of these stores, with what every image that fits the line allows; and exactly
@@ -52,5 +52,5 @@ module _ {D H : Type 0} (data_facts : store.Ghosts D) (hash_facts : store.Ghosts
   ExplainsUnserved d h offset commands old new (unserved.Opened r) = IsRefused data_facts hash_facts d h offset r × (new ≡ old)
   ExplainsUnserved d h offset commands old new (unserved.Edited left) =
       IsEdited data_facts hash_facts d h offset commands old new left × ((left.done ≢ Ok tt) ⊎ (left.table ≡ None))
-  ExplainsUnserved {A = A} d h offset commands old new (unserved.Verifier fault) =
+  ExplainsUnserved {A = A} d h offset commands old new (unserved.Check fault) =
       (fault ≡ NoMemory) × ((left : Edited D H A) × IsEdited data_facts hash_facts d h offset commands old new left)

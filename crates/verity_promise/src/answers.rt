@@ -16,7 +16,7 @@ use verity_superblock::Table;
 #[derive(Clone, Copy, Debug, PartialEq, Eq)]
 pub enum AnswerFault {
     /// No verifier could be made, and no event was done.
-    Verifier(CheckFault),
+    Check(CheckFault),
     /// Memory for a reply was refused; the events with a reply were done and no other.
     Memory,
 }
@@ -39,13 +39,13 @@ pub fn answer_events<D: BlockStore + Drop, H: BlockStore + Drop, A: Allocator + 
 ) -> Result<(), AnswerFault>
     ensures right { OnOk result (AreRightAnswers D.BlockStore H.BlockStore table data_store hash_store name events.now replies.old.items replies.new.items) }
     ensures all { OnOk result (length replies.new.items ≡ length replies.old.items + length events.now) }
-    ensures lengths { IsErrOf result (AnswerFault.Verifier CheckFault.Lengths) ↔ ¬ (AreStoresOf D.BlockStore H.BlockStore table data_store hash_store) }
-    ensures cache_size { IsErrOf result (AnswerFault.Verifier CheckFault.CacheSize) ↔ (AreStoresOf D.BlockStore H.BlockStore table data_store hash_store × ¬ IsCacheSize cache) }
+    ensures lengths { IsErrOf result (AnswerFault.Check CheckFault.Lengths) ↔ ¬ (AreStoresOf D.BlockStore H.BlockStore table data_store hash_store) }
+    ensures cache_size { IsErrOf result (AnswerFault.Check CheckFault.CacheSize) ↔ (AreStoresOf D.BlockStore H.BlockStore table data_store hash_store × ¬ IsCacheSize cache) }
     ensures refused { IfErr result (ExplainsUnanswered D.BlockStore H.BlockStore table data_store hash_store name events.now replies.old.items replies.new.items) }
 {
     let verifier = match Verifier::new(alloc, table, data_store, hash_store, cache) {
         Ok(verifier) => verifier,
-        Err(fault) => return Err(AnswerFault::Verifier(fault)),
+        Err(fault) => return Err(AnswerFault::Check(fault)),
     };
     let mut hub = Hub::new(alloc, verifier, name);
     match hub.run(events, replies) {

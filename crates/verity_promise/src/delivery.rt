@@ -25,7 +25,7 @@ pub enum Unserved<D, H, A: Allocator> {
     /// Memory for a reply or for the table line was refused, or a commit was cut short.
     Edited(Edited<D, H, A>),
     /// Memory for the verifier was refused, V4; the stores are dropped.
-    Verifier(CheckFault),
+    Check(CheckFault),
 }
 
 /// Edits a volume by [`edit_from_scratch`], and serves one client over the same stores.
@@ -103,7 +103,7 @@ fn serve_edited<D: BlockStore + Drop, H: BlockStore + Drop, A: Allocator + Copy 
     };
     let verifier = match Verifier::new(alloc, table, data_store, hash_store, CACHE) {
         Ok(verifier) => verifier,
-        Err(fault) => return Err(Unserved::Verifier(fault)),
+        Err(fault) => return Err(Unserved::Check(fault)),
     };
     let mut hub = Hub::new(alloc, verifier, name);
     Ok(serve_stream(&mut hub, reader, writer, limit))

@@ -4,7 +4,7 @@ use Rattle.verity_edit.specs.Editing.{Editing}
 use Rattle.verity_edit.specs.Opening.{IsOpened}
 use Rattle.verity_edit.specs.Running.{AreAnswered}
 use Rattle.verity_promise.specs.Closing.{IsClosed}
-use Rattle.verity_promise.proofs.Closed.{on_ok, stores_fit, from_scratch}
+use Rattle.verity_promise.proofs.Closed.{on_ok, edited_by}
 use Rattle.verity_promise.proofs.scratch.edit_from_scratch.Goals as goal
 
 pub returns-clause-edited : goal.returns-clause-edited
@@ -22,15 +22,5 @@ returns-clause-edited g c =
     let size : c.block_size.result ≡ H.size h = c.block_size.ensures.value in
     let begins : c.start_of-start.result ≡ start_behind c.args.offset (H.size h) =
     subst (λ n. CanBegin c.args.offset n → c.start_of-start.result ≡ start_behind c.args.offset n) size c.start_of-start.ensures opens.can_begin in
-    record {
-      opened = opened;
-      closed = closed;
-      count = _;
-      opens = opens;
-      runs = runs;
-      all = on_ok c.run-done.result c.close.result.done _ _ shut.done_is (λ e. omega (arith, e)) c.run-done.ensures.all;
-      data_store = shut.data_store;
-      hash_store = shut.hash_store;
-      fits = stores_fit D H d h c.args.offset commands _ c.start_of-start.result _ _ opened closed opens runs c.close.result shut.data_store shut.hash_store shut.root shut.fits shut.stands begins shut.table;
-      scratch = from_scratch D H d h c.args.offset commands _ c.start_of-start.result _ _ opened closed opens runs c.close.result shut.data_store shut.hash_store shut.root shut.fits shut.stands begins shut.table;
-    }
+    edited_by D H d h c.args.offset commands _ c.start_of-start.result _ _ opened closed opens runs c.close.result shut.data_store shut.hash_store shut.root shut.fits shut.stands begins shut.table
+    (on_ok c.run-done.result c.close.result.done _ _ shut.done_is (λ e. omega (arith, e, runs.each)) c.run-done.ensures.all)
