@@ -1,0 +1,219 @@
+-- A volume that was opened, edited and closed.
+use Rattle.std.proofs.Common.{◌≡◌, ◌*◌, ◌/◌, ◌+◌, ◌-◌, ◌<◌, ◌≤◌, ℕ, Bool, true, false, List, [], ◌∷◌, length, take, drop, ◌++◌, get_or, get_or-take, length-take, inl, refl, sym, ap, ◌∙◌, subst, arith}
+use Rattle.std.specs.List.{concat, list_any, All}
+use Rattle.std.specs.Prelude.{Option, Some, None, IfSome, Result, Ok, Err, OnOk}
+use Rattle.std.proofs.lemmas.List.{take_all, append_assoc}
+use Rattle.verity_digest.specs.Hash.{hashing, size_of}
+use Rattle.verity_digest.specs.Tree.{Hashing, root, tree, per_block}
+use Rattle.verity_digest.specs.Shape.{total}
+use Rattle.verity_digest.specs.declared.algorithm.Algorithm.{Algorithm}
+use Rattle.verity_store.specs.declared.store.BlockStore as store
+use Rattle.verity_store.specs.Stores.{StaysStore}
+use Rattle.verity_store.proofs.BlockLemmas.{take_same}
+use Rattle.verity_superblock.specs.Superblock.{Params, Volume, salted}
+use Rattle.verity_superblock.specs.Image.{hash_image, hash_blocks, superblock_block, tree_of, start_behind}
+use Rattle.verity_superblock.specs.Line.{TableLine, algorithm_of}
+use Rattle.verity_superblock.proofs.LineReads.{algorithm_of-sized}
+use Rattle.verity_edit.specs.declared.command.Command.{Command}
+use Rattle.verity_edit.specs.declared.command.Reply.{Reply}
+use Rattle.verity_edit.specs.Edits.{unedited}
+use Rattle.verity_edit.specs.After.{State, After}
+use Rattle.verity_edit.specs.Planning.{volume_hashing}
+use Rattle.verity_edit.specs.Editing.{Editing, FitsStores, Stands, Stays, IsIn, IsWhole, edits_in, hashing_in}
+use Rattle.verity_edit.specs.Opening.{IsOpened}
+use Rattle.verity_edit.specs.Running.{AreAnswered, LeadsAll, IsUnfailed, is_commit}
+use Rattle.verity_check.specs.Table.{hashing_of, tree_len}
+use Rattle.verity_check.specs.Holds.{Holds}
+use Rattle.verity_check.specs.Verifier.{AreStoresOf}
+use Rattle.verity_promise.specs.declared.edited.Edited.{Edited}
+use Rattle.verity_promise.specs.Closing.{IsLine, IsClosed}
+use Rattle.verity_promise.specs.Scratch.{IsFromScratch, IsEdited}
+
+-- what is said of a value follows
+if_some : {X : Type 0} (o : Option X) (P Q : X → Type 0) → ((x : X) → P x → Q x) → IfSome o P → IfSome o Q
+if_some (Some x) P Q f h = f x h
+if_some None P Q f h = tt
+
+on_ok-by : {X E : Type 0} (r : Result X E) (P Q : Type 0) → (P → Q) → OnOk r P → OnOk r Q
+on_ok-by (Ok x) P Q f h = f h
+on_ok-by (Err e) P Q f h = tt
+
+pub on_ok : {X E : Type 0} (r s : Result X E) (P Q : Type 0) → s ≡ r → (P → Q) → OnOk r P → OnOk s Q
+on_ok {X = X} {E = E} r s P Q same f h = subst (λ (x : Result X E). OnOk x Q) (sym same) (on_ok-by r P Q f h)
+
+concat-append : (xs ys : List (List ℕ)) → concat (xs ++ ys) ≡ concat xs ++ concat ys
+concat-append [] ys = refl
+concat-append (x ∷ xs) ys = ap (λ l. x ++ l) (concat-append xs ys) ∙ sym (append_assoc x (concat xs) (concat ys))
+
+-- two lists that agree below n begin with the same n blocks
+same_front : (n : ℕ) (xs ys : List (List ℕ)) → n ≤ length xs → n ≤ length ys → ((q : ℕ) → q < n → get_or ys q [] ≡ get_or xs q []) → take n ys ≡ take n xs
+same_front n xs ys short shorter same =
+    let len : length (take n xs) ≡ n = simp length-take (omega arith) in
+    ap (λ m. take m ys) (sym len)
+    ∙ take_same (take n xs) ys (omega arith) (λ k below. let b : k < n = omega arith in same k b ∙ sym (get_or-take n xs k [] b))
+
+module _ {D H : Type 0} (data_facts : store.Ghosts D) (hash_facts : store.Ghosts H) (e : Editing D H) (start : ℕ) (fits : FitsStores data_facts hash_facts e)
+    (begins : start ≡ e.first) (t : TableLine) (line : IsLine data_facts hash_facts e.data_store e.hash_store start e.root e.volume.params.salt t) where
+  same_algorithm : t.algorithm ≡ e.volume.params.algorithm
+  same_algorithm = line.algorithm ∙ algorithm_of-sized e.volume.params.algorithm e.root fits.root_size
+
+  same_size : t.hash_block_size ≡ e.volume.params.hash_block_size
+  same_size = line.hash_block_size ∙ fits.hash_size
+
+  same_start : t.hash_start_block ≡ e.first
+  same_start = line.hash_start_block ∙ begins
+
+  same_hashing : hashing_of t ≡ hashing_in e
+  same_hashing =
+      ap (λ a. hashing (record { algorithm = a; salt = t.salt }) t.hash_block_size) same_algorithm
+      ∙ ap (λ s. hashing (record { algorithm = e.volume.params.algorithm; salt = s }) t.hash_block_size) line.salt_is
+      ∙ ap (λ size. hashing (salted e.volume.params) size) same_size
+
+  same_tree : tree_len t ≡ total (e.volume.params.hash_block_size / size_of e.volume.params.algorithm) e.volume.data_blocks
+  same_tree =
+      ap (λ (h : Hashing). total (per_block h) t.data_blocks) same_hashing
+      ∙ ap (λ n. total (per_block (hashing_in e)) n) (line.data_blocks ∙ fits.committed ∙ sym fits.blocks)
+
+  -- the stores are those of the line
+  pub are_stores : AreStoresOf data_facts hash_facts t e.data_store e.hash_store
+  are_stores = record {
+    data_store = record { size = sym line.data_block_size; blocks = omega (arith, line.data_blocks) };
+    hash_store = record { size = sym line.hash_block_size; tree = λ some. omega (arith, same_tree, same_start, fits.within) };
+  }
+
+  -- and hold the committed image, where they tell
+  pub holds_closed : data_facts.tells e.data_store ≡ true → hash_facts.tells e.hash_store ≡ true → Stands data_facts hash_facts e
+      → Holds t (data_facts.tells e.data_store) (data_facts.content e.data_store) (hash_facts.tells e.hash_store) (hash_facts.content e.hash_store) (data_facts.content e.data_store)
+  holds_closed data_told hash_told stands =
+      let image : List (List ℕ) = data_facts.content e.data_store in
+      let content : List (List ℕ) = hash_facts.content e.hash_store in
+      record {
+        data_tell = data_told;
+        hash_tell = hash_told;
+        fits = record {
+          blocks = sym line.data_blocks;
+          sized = subst (λ size. All (λ block. length block ≡ size) image) (sym line.data_block_size) line.sized;
+          root = ap (λ h. root h image) same_hashing ∙ sym stands.root ∙ sym line.root_is;
+        };
+        data_begins = take_all (length image) image (omega arith);
+        tree_begins = subst (λ (h : Hashing). take (length (tree h image)) (drop t.hash_start_block content) ≡ tree h image) (sym same_hashing)
+            (subst (λ n. take (length (tree (hashing_in e) image)) (drop n content) ≡ tree (hashing_in e) image) (sym same_start) stands.tree);
+      }
+
+module _ {D H A C : Type 0} (data_facts : store.Ghosts D) (hash_facts : store.Ghosts H) (d : D) (h : H) (offset : ℕ) (commands : List (Command C)) (count start : ℕ) (old_replies new_replies : List Reply)
+    (opened closed : Editing D H) (opens : IsOpened data_facts hash_facts d h offset opened) (runs : AreAnswered data_facts hash_facts commands count opened closed old_replies new_replies)
+    (left : Edited D H A) (data_is : left.data_store ≡ closed.data_store) (hash_is : left.hash_store ≡ closed.hash_store) (root_is : left.root ≡ closed.root)
+    (fits : closed.broken ≡ false → FitsStores data_facts hash_facts closed)
+    (stands : closed.broken ≡ false → data_facts.tells closed.data_store ≡ true → hash_facts.tells closed.hash_store ≡ true → Stands data_facts hash_facts closed)
+    (begins : start ≡ start_behind offset (hash_facts.size h))
+    (line : IfSome left.table (λ t. (closed.broken ≡ false) × IsLine data_facts hash_facts closed.data_store closed.hash_store start closed.root closed.volume.params.salt t)) where
+  first : closed.first ≡ start_behind offset (hash_facts.size h)
+  first = runs.stays.first ∙ opens.first
+
+  -- the stores that are left are those of the table line
+  pub stores_fit : IfSome left.table (λ t. AreStoresOf data_facts hash_facts t left.data_store left.hash_store)
+  stores_fit = if_some left.table _ _ (λ t l.
+      subst (λ x. AreStoresOf data_facts hash_facts t x left.hash_store) (sym data_is)
+      (subst (λ x. AreStoresOf data_facts hash_facts t closed.data_store x) (sym hash_is)
+      (are_stores data_facts hash_facts closed start (fits l.0) (begins ∙ sym first) t l.1))) line
+
+  abbrev pub front : List (List ℕ)
+  front = take (offset / hash_facts.size h) (hash_facts.content h)
+
+  -- the blocks in front stay
+  same_behind : closed.broken ≡ false → take (closed.first - 1) (hash_facts.content closed.hash_store) ≡ front
+  same_behind sound =
+      let n : ℕ = opened.first - 1 in
+      let was : hash_facts.content opened.hash_store ≡ hash_facts.content h = opens.hash_store.content in
+      let f = fits sound in
+      ap (λ m. take (m - 1) (hash_facts.content closed.hash_store)) runs.stays.first
+      ∙ same_front n (hash_facts.content opened.hash_store) (hash_facts.content closed.hash_store) (omega (arith, opens.fits.within)) (omega (arith, f.within, runs.stays.first)) runs.stays.front
+      ∙ ap (λ c. take n c) was
+      ∙ ap (λ m. take m (hash_facts.content h)) (let e = opens.first in omega (arith, e))
+
+  module _ (data_told : data_facts.tells d ≡ true) (hash_told : hash_facts.tells h ≡ true) where
+    abbrev pub begin : State
+    begin = record { edits = unedited (data_facts.content d); broken = false }
+
+    leads : LeadsAll data_facts hash_facts (take count commands) runs.added opened begin closed
+    leads = runs.leads (opens.data_store.later.tells ∙ data_told) (opens.hash_store.later.tells ∙ hash_told) begin
+        (record { broken = sym opens.broken; edits = λ sound. sym opens.edits })
+
+    still_data : data_facts.tells closed.data_store ≡ true
+    still_data = runs.stays.data_store.tells ∙ opens.data_store.later.tells ∙ data_told
+
+    still_hash : hash_facts.tells closed.hash_store ≡ true
+    still_hash = runs.stays.hash_store.tells ∙ opens.hash_store.later.tells ∙ hash_told
+
+    image_of : closed.broken ≡ false → data_facts.content closed.data_store ≡ leads.state.edits.committed
+    image_of sound = sym (ap (λ x. x.committed) (leads.is_in.edits sound))
+
+    whole_device : closed.broken ≡ false → list_any is_commit runs.added ≡ true
+        → concat (hash_facts.content closed.hash_store) ≡ hash_image opened.volume.params (data_facts.content closed.data_store) front
+    whole_device sound committed =
+        let p : Params = closed.volume.params in
+        let image : List (List ℕ) = data_facts.content closed.data_store in
+        let behind : List (List ℕ) = take (closed.first - 1) (hash_facts.content closed.hash_store) in
+        let whole : IsWhole data_facts hash_facts closed = runs.whole (opens.data_store.later.tells ∙ data_told) (opens.hash_store.later.tells ∙ hash_told) sound (inl committed) in
+        ap concat whole
+        ∙ concat-append behind (superblock_block p (length image) ∷ tree_of p image)
+        ∙ ap (λ b. hash_image p image b) (same_behind sound)
+        ∙ ap (λ q. hash_image q image front) runs.stays.params
+
+    unfailed : data_facts.failures left.data_store ≡ data_facts.failures d → hash_facts.failures left.hash_store ≡ hash_facts.failures h
+        → (closed.broken ≡ false) × All IsUnfailed runs.added
+    unfailed data_same hash_same =
+        let a = opens.data_store.later.failures in
+        let b = runs.stays.data_store.failures in
+        let e = ap (λ x. data_facts.failures x) data_is in
+        let a' = opens.hash_store.later.failures in
+        let b' = runs.stays.hash_store.failures in
+        let e' = ap (λ x. hash_facts.failures x) hash_is in
+        runs.unfailed (omega (arith, a, b, e, data_same)) (omega (arith, a', b', e', hash_same)) opens.broken
+
+    pub from_scratch : IsFromScratch data_facts hash_facts opened.volume front d h (take count commands) runs.added left
+    from_scratch =
+        let flag : leads.state.broken ≡ closed.broken = leads.is_in.broken in
+        record {
+          state = leads.state;
+          after = subst (λ size. After (volume_hashing opened.volume.params) size (take count commands) runs.added begin leads.state) (sym opens.fits.block_size) leads.after;
+          unfailed = λ data_same hash_same. let u = unfailed data_same hash_same in (flag ∙ u.0, u.1);
+          image = λ sound. ap (λ x. data_facts.content x) data_is ∙ image_of (sym flag ∙ sound);
+          device = λ sound committed. ap (λ x. concat (hash_facts.content x)) hash_is ∙ whole_device (sym flag ∙ sound) committed
+              ∙ ap (λ image. hash_image opened.volume.params image front) (image_of (sym flag ∙ sound));
+          root = λ sound. root_is ∙ (stands (sym flag ∙ sound) still_data still_hash).root
+              ∙ ap (λ (p : Params). root (volume_hashing p) (data_facts.content closed.data_store)) runs.stays.params
+              ∙ ap (λ image. root (volume_hashing opened.volume.params) image) (image_of (sym flag ∙ sound));
+          table = if_some left.table _ _ (λ t l. (
+            flag ∙ l.0,
+            subst (λ x. Holds t (data_facts.tells x) (data_facts.content x) (hash_facts.tells left.hash_store) (hash_facts.content left.hash_store) leads.state.edits.committed) (sym data_is)
+            (subst (λ x. Holds t (data_facts.tells closed.data_store) (data_facts.content closed.data_store) (hash_facts.tells x) (hash_facts.content x) leads.state.edits.committed) (sym hash_is)
+            (subst (λ image. Holds t (data_facts.tells closed.data_store) (data_facts.content closed.data_store) (hash_facts.tells closed.hash_store) (hash_facts.content closed.hash_store) image) (image_of l.0)
+            (holds_closed data_facts hash_facts closed start (fits l.0) (begins ∙ sym first) t l.1 still_data still_hash (stands l.0 still_data still_hash)))),
+          )) line;
+        }
+
+  -- so it was edited
+  pub edited_by : OnOk left.done (length runs.added ≡ length commands) → IsEdited data_facts hash_facts d h offset commands old_replies new_replies left
+  edited_by all =
+      let data_stays : StaysStore data_facts opened.data_store left.data_store = subst (λ x. StaysStore data_facts opened.data_store x) (sym data_is) runs.stays.data_store in
+      let hash_stays : StaysStore hash_facts opened.hash_store left.hash_store = subst (λ x. StaysStore hash_facts opened.hash_store x) (sym hash_is) runs.stays.hash_store in
+      let behind : opened.first - 1 ≡ offset / hash_facts.size h = (let e = opens.first in omega (arith, e)) in
+      record {
+        volume = opened.volume;
+        is_volume = opens.volume;
+        added = runs.added;
+        replies = runs.replies;
+        few = omega (arith, runs.each, runs.few);
+        all = all;
+        data_opened = opened.data_store;
+        hash_opened = opened.hash_store;
+        data_read = opens.data_store;
+        hash_read = opens.hash_store;
+        data_stays = data_stays;
+        hash_stays = hash_stays;
+        unread = ap (λ x. data_facts.reads x) data_is ∙ runs.stays.data_reads;
+        front = λ q below. ap (λ x. get_or (hash_facts.content x) q []) hash_is ∙ runs.stays.front q (omega (arith, behind, below)) ∙ ap (λ x. get_or x q []) opens.hash_store.content;
+        fits = stores_fit;
+        scratch = λ data_told hash_told. subst (λ n. IsFromScratch data_facts hash_facts opened.volume front d h (take n commands) runs.added left) (sym runs.each) (from_scratch data_told hash_told);
+      }

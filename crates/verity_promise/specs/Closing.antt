@@ -1,0 +1,30 @@
+-- What is known of an editor that was closed. The facts of a store of the type S are S.BlockStore.
+use Rattle.std.specs.Prelude.{◌≡◌, ℕ, true, false, List, length, IfSome, Result}
+use Rattle.std.specs.declared.alloc.AllocError.{AllocError}
+use Rattle.verity_profile.specs.Profile.{AllSized}
+use Rattle.verity_store.specs.declared.store.BlockStore as store
+use Rattle.verity_superblock.specs.Line.{TableLine, algorithm_of}
+use Rattle.verity_edit.specs.Editing.{Editing, FitsStores, Stands}
+use Rattle.verity_promise.specs.declared.edited.Edited.{Edited}
+
+module _ {D H : Type 0} (data_facts : store.Ghosts D) (hash_facts : store.Ghosts H) where
+  -- the table line has the sizes and the count of the stores, and these values
+  pub record IsLine (d : D) (h : H) (start : ℕ) (digest salt : List ℕ) (t : TableLine) : Type 0 where
+    pub data_block_size : t.data_block_size ≡ data_facts.size d
+    pub hash_block_size : t.hash_block_size ≡ hash_facts.size h
+    pub data_blocks : t.data_blocks ≡ length (data_facts.content d)
+    pub sized : AllSized (data_facts.size d) (data_facts.content d)
+    pub hash_start_block : t.hash_start_block ≡ start
+    pub algorithm : t.algorithm ≡ algorithm_of digest
+    pub root_is : t.root ≡ digest
+    pub salt_is : t.salt ≡ salt
+
+  -- the editor's stores and root are left, and a table line of them unless it was broken
+  pub record IsClosed {A : Type 0} (e : Editing D H) (start : ℕ) (done : Result (Unit {0}) AllocError) (left : Edited D H A) : Type 0 where
+    pub data_store : left.data_store ≡ e.data_store
+    pub hash_store : left.hash_store ≡ e.hash_store
+    pub root : left.root ≡ e.root
+    pub done_is : left.done ≡ done
+    pub table : IfSome left.table (λ t. (e.broken ≡ false) × IsLine e.data_store e.hash_store start e.root e.volume.params.salt t)
+    pub fits : e.broken ≡ false → FitsStores data_facts hash_facts e
+    pub stands : e.broken ≡ false → data_facts.tells e.data_store ≡ true → hash_facts.tells e.hash_store ≡ true → Stands data_facts hash_facts e

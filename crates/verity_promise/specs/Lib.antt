@@ -1,0 +1,4 @@
+pub mod Answers
+pub mod Closing
+pub mod Delivery
+pub mod Scratch

@@ -1,0 +1,110 @@
+//! What was committed is what is served.
+
+ghost use Rattle.std.specs.Prelude.{◌≡◌, Ok, IfOk, IfErr, IfSome, OnErr, Some};
+ghost use Rattle.verity_check.specs.Verifier.{AreStoresOf};
+ghost use Rattle.verity_promise.specs.Delivery.{Delivers, ExplainsUnserved, ExplainsUnmade, IsServed};
+
+use crate::edited::Edited;
+use crate::scratch::edit_from_scratch;
+use nbd_session::ExportName;
+use std::alloc::Allocator;
+use std::io::{Read, Write};
+use verity_check::{CheckFault, Verifier};
+use verity_edit::{Command, OpenRefused, Reply};
+use verity_hub::{Hub, ServeFault, serve_stream};
+use verity_store::BlockStore;
+
+/// How many checked hash blocks are kept.
+const CACHE: usize = 1024;
+
+/// Why no client was served. Nothing was read from it or written to it.
+#[derive(Drop)]
+pub enum Unserved<D, H, A: Allocator> {
+    /// The volume wasn't opened, and no command was done.
+    Opened(OpenRefused<D, H>),
+    /// Memory for a reply or for the table line was refused, or a commit was cut short.
+    Edited(Edited<D, H, A>),
+    /// Memory for the verifier was refused, V4; the stores are dropped.
+    Check(CheckFault),
+}
+
+/// Edits a volume by [`edit_from_scratch`], and serves one client over the same stores.
+///
+/// # Errors
+///
+/// [`Unserved`], where no client was served; a [`ServeFault`] where one was and the stream was left before its end.
+pub fn edit_and_serve<
+    D: BlockStore + Drop,
+    H: BlockStore + Drop,
+    A: Allocator + Copy + Drop,
+    C: Allocator,
+    P: Allocator,
+    R: Read,
+    W: Write,
+>(
+    alloc: A,
+    data_store: D,
+    hash_store: H,
+    offset: u64,
+    commands: &[Command<C>],
+    replies: &mut Vec<Reply, P>,
+    name: ExportName,
+    reader: &mut R,
+    writer: &mut W,
+    limit: u64,
+) -> Result<Result<(), ServeFault>, Unserved<D, H, A>>
+    ensures delivers { IfOk result (λ served. Delivers D.BlockStore H.BlockStore A data_store hash_store offset commands.now replies.old.items replies.new.items name
+        (record { reader = R.remaining reader.old; reader' = R.remaining reader.new; writer = W.contents writer.old; writer' = W.contents writer.new }) limit served) }
+    ensures refused { IfErr result (ExplainsUnserved D.BlockStore H.BlockStore data_store hash_store offset commands.now replies.old.items replies.new.items) }
+    ensures unread { OnErr result (R.remaining reader.new ≡ R.remaining reader.old) }
+    ensures unwritten { OnErr result (W.contents writer.new ≡ W.contents writer.old) }
+{
+    match edit_from_scratch(alloc, data_store, hash_store, offset, commands, replies) {
+        Ok(edited) => serve_edited(alloc, edited, name, reader, writer, limit),
+        Err(refused) => Err(Unserved::Opened(refused)),
+    }
+}
+
+// Serves one client over the stores of an edited volume.
+fn serve_edited<D: BlockStore + Drop, H: BlockStore + Drop, A: Allocator + Copy + Drop, R: Read, W: Write>(
+    alloc: A,
+    edited: Edited<D, H, A>,
+    name: ExportName,
+    reader: &mut R,
+    writer: &mut W,
+    limit: u64,
+) -> Result<Result<(), ServeFault>, Unserved<D, H, A>>
+    requires { IfSome edited.table (λ t. AreStoresOf D.BlockStore H.BlockStore t edited.data_store edited.hash_store) }
+    ensures served { IfOk result (λ served. IsServed D.BlockStore H.BlockStore edited name
+        (record { reader = R.remaining reader.old; reader' = R.remaining reader.new; writer = W.contents writer.old; writer' = W.contents writer.new }) limit served) }
+    ensures refused { IfErr result (ExplainsUnmade edited) }
+    ensures unread { OnErr result (R.remaining reader.new ≡ R.remaining reader.old) }
+    ensures unwritten { OnErr result (W.contents writer.new ≡ W.contents writer.old) }
+{
+    if edited.done.is_err() {
+        return Err(Unserved::Edited(edited));
+    }
+    let Edited {
+        data_store,
+        hash_store,
+        root,
+        table,
+        done,
+    } = edited;
+    let Some(table) = table else {
+        let left = Edited {
+            data_store,
+            hash_store,
+            root,
+            table: None,
+            done,
+        };
+        return Err(Unserved::Edited(left));
+    };
+    let verifier = match Verifier::new(alloc, table, data_store, hash_store, CACHE) {
+        Ok(verifier) => verifier,
+        Err(fault) => return Err(Unserved::Check(fault)),
+    };
+    let mut hub = Hub::new(alloc, verifier, name);
+    Ok(serve_stream(&mut hub, reader, writer, limit))
+}
