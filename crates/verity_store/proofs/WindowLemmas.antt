@@ -1,5 +1,5 @@
 -- The first bytes of a file that is written over, or filled with zeros behind them.
-use Rattle.std.proofs.Common.{◌≡◌, refl, ℕ, ◌+◌, ◌-◌, ◌<◌, ◌≤◌, Option, None, Some, List, [], ◌++◌, length, take, drop, replicate, length-take, length-drop, length-append, append_assoc, sym, ap, subst, ◌∙◌, arith}
+use Rattle.std.proofs.Common.{◌≡◌, refl, ℕ, ◌+◌, ◌-◌, ◌<◌, ◌≤◌, Option, None, Some, List, [], ◌++◌, length, take, drop, replicate, length-drop, length-append, append_assoc, sym, ap, subst, ◌∙◌, arith}
 use Rattle.std.proofs.lemmas.List.{length-replicate, append-nil, length-take-le, take-append-drop, take-take, take-append-le, drop-drop, drop-take, take_at, drop_at, take_all, drop_all, replicate-append-replicate}
 use Rattle.verity_store.specs.RawFile.{overwritten, with_length, known_len, HasLength, Reads, Writes, MayWrite, SetsLength}
 use Rattle.verity_store.specs.Window.{first_bytes, bytes_behind}

@@ -9,7 +9,7 @@ use crate::lines::Devices;
 use crate::locks::take_lock;
 use crate::opening::{Opened, fault_of, open_there};
 use crate::script::{read_script, run_script};
-use crate::stores::{VolumeStore, store_of_most};
+use crate::stores::{VolumeStore, room_of, store_of_most};
 use crate::values::{check_paths, number};
 use crate::words::EditWords;
 use std::alloc::Global;
@@ -35,28 +35,29 @@ pub fn edit<R: Files<File = File> + AllocGlobal, W: Write>(
     let alloc = rt.alloc();
     check_paths(words.data_path, words.hash_path)?;
     let offset = number(Word::HashOffset, words.hash_offset)?;
-    let (mut editor, hash_start_block) = open_editor(rt, words, offset)?;
+    let (mut editor, sizes) = open_editor(rt, words, offset)?;
     let script = script_bytes(rt, words.script_path)?;
     let devices = Devices {
         data_path: words.data_path,
         hash_path: words.hash_path,
-        hash_start_block,
+        hash_start_block: sizes.hash_start_block,
+        hash_room: sizes.hash_room,
     };
     run_script(alloc, &mut editor, devices, &script, output)
 }
 
-/// The editor of the volume whose superblock stands at an offset of HASH, and the hash block at which its tree begins.
+/// The editor of the volume whose superblock stands at an offset of HASH, and what its files were opened with.
 fn open_editor<R: Files<File = File> + AllocGlobal>(
     rt: &R,
     words: &EditWords<'_>,
     offset: u64,
-) -> Result<(FileEditor, u64), Failure> {
+) -> Result<(FileEditor, Sizes), Failure> {
     let (data, hash) = open_both(rt, words)?;
     let sizes = read_sizes(rt.alloc(), &hash, offset)?;
     let data_store = store_of_most(data?, sizes.data_block_size, sizes.data_blocks)?;
     let hash_store = store_of_most(hash, sizes.hash_block_size, u64::MAX)?;
     match Editor::open_at(rt.alloc(), data_store, hash_store, offset) {
-        Ok(editor) => Ok((editor, sizes.hash_start_block)),
+        Ok(editor) => Ok((editor, sizes)),
         Err(refused) => Err(refused.fault.into()),
     }
 }
@@ -83,6 +84,7 @@ struct Sizes {
     hash_block_size: usize,
     data_blocks: u64,
     hash_start_block: u64,
+    hash_room: u64,
 }
 
 /// What the superblock at an offset of HASH says of them.
@@ -93,6 +95,7 @@ fn read_sizes(alloc: Global, hash: &Opened, offset: u64) -> Result<Sizes, Failur
             hash_block_size: superblock.hash_block_size(),
             data_blocks: superblock.data_blocks(),
             hash_start_block,
+            hash_room: room_of(hash, superblock.hash_block_size()),
         }),
         Err(fault) => Err(not_a_volume(fault).into()),
     }

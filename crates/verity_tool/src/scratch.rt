@@ -20,6 +20,7 @@ const DEVICES: Devices<'static> = Devices {
     data_path: "scratch-data",
     hash_path: "scratch-hash",
     hash_start_block: 1,
+    hash_room: u64::MAX,
 };
 
 /// Builds a volume of one zero block in memory, prints its table line, and does the input's lines over it.

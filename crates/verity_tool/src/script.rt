@@ -7,8 +7,9 @@ use std::alloc::{AllocError, Global};
 use std::io::{ErrorKind, Read, Write};
 use std::{io, str};
 use verity_edit::{Command, EditFault, Editor, Reply};
+use verity_geometry::Geometry;
 use verity_script::{Line, read_line};
-use verity_store::{Block, BlockStore, StoreFault};
+use verity_store::{Block, BlockStore, StoreFault, Which};
 
 /// The most bytes of a script.
 const MOST_BYTES: u64 = 1 << 30;
@@ -66,7 +67,7 @@ fn run_line<D: BlockStore, H: BlockStore, W: Write>(
         writeln!(output, "bad line")?;
         return Ok(false);
     };
-    match answer(alloc, editor, line)? {
+    match answer(alloc, editor, devices, line)? {
         Reply::Done => {
             writeln!(output, "ok")?;
             Ok(true)
@@ -91,16 +92,36 @@ fn line_of(text: &[u8]) -> Option<Line<'_>> {
     }
 }
 
-/// The editor's answer to a line. Want of memory is a failure of the whole program.
+/// The editor's answer to a line, but for a commit that HASH has no room for: E6, and nothing is changed. Want of memory is a
+/// failure of the whole program.
 fn answer<D: BlockStore, H: BlockStore>(
     alloc: Global,
     editor: &mut Editor<D, H>,
+    devices: Devices<'_>,
     line: Line<'_>,
 ) -> Result<Reply, Failure> {
+    if line == Line::Commit && !editor.broken() && !has_room(editor, devices) {
+        return Ok(Reply::Refused(EditFault::Store(Which::Hash)));
+    }
     let command = command_of(alloc, editor, line)?;
     match editor.answer(&command) {
         Reply::Refused(EditFault::NoMemory) => Err(Failure::NoMemory),
         reply => Ok(reply),
+    }
+}
+
+/// Whether HASH can hold the tree of the working image.
+fn has_room<D: BlockStore, H: BlockStore>(editor: &Editor<D, H>, devices: Devices<'_>) -> bool {
+    let superblock = editor.superblock();
+    let tree = Geometry::with_digest(
+        superblock.data_block_size(),
+        superblock.hash_block_size(),
+        editor.blocks(),
+        superblock.algorithm().size(),
+    );
+    match tree {
+        Ok(tree) => tree.total() <= devices.hash_room.saturating_sub(devices.hash_start_block),
+        Err(_) => true,
     }
 }
 

@@ -50,6 +50,14 @@ pub fn new_store(opened: Opened, size: usize) -> Result<VolumeStore, StoreFault>
     }
 }
 
+/// How many blocks can stand in a file or a device: any number in a file.
+pub fn room_of(opened: &Opened, size: usize) -> u64 {
+    match opened.identity {
+        Identity::Device(_) if size > 0 => opened.len / size as u64,
+        _ => u64::MAX,
+    }
+}
+
 /// S4 for all but the block sizes of the profile.
 pub fn check_block_size(size: usize) -> Result<(), StoreFault>
     ensures taken { IsOk result ↔ IsBlockSize size }

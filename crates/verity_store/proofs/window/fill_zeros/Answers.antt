@@ -1,4 +1,4 @@
-use Rattle.std.proofs.Common.{◌≡◌, ℕ, ◌+◌, ◌-◌, ◌≤◌, length, take, replicate, arith, ◌∙◌}
+use Rattle.std.proofs.Common.{◌≡◌, ℕ, ◌-◌, length, take, replicate, arith, ◌∙◌}
 use Rattle.std.proofs.lemmas.List.{take-replicate, length-replicate}
 use Rattle.verity_store.proofs.WindowLemmas.{zeros_more, window_behind, window_whole}
 use Rattle.verity_store.specs.RawFile.{HasLength}

@@ -1,4 +1,4 @@
-use Rattle.std.proofs.Common.{ℕ, ◌-◌, ◌≤◌, replicate}
+use Rattle.std.proofs.Common.{◌-◌, ◌≤◌, replicate}
 use Rattle.verity_store.specs.RawFile.{Writes}
 use Rattle.verity_store.proofs.window.fill_zeros.Given as goal
 

@@ -1,5 +1,5 @@
 use Rattle.std.proofs.Common.{◌+◌, ◌≤◌, length, arith}
-use Rattle.verity_store.proofs.WindowLemmas.{window_outside, window_known, window_writes, window_behind, window_whole}
+use Rattle.verity_store.proofs.WindowLemmas.{window_outside, window_writes, window_behind}
 use Rattle.verity_store.proofs.window.WindowRawFile.write_all_at.Goals as goal
 
 pub returns-then-not-is_inside-clause-failed : goal.returns-then-not-is_inside-clause-failed
