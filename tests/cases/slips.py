@@ -169,8 +169,8 @@ def two_at_once():
                         ("an edit of its device", ["edit", "data2", "hash", "other"]),
                         ("a verify of its device", ["verify", "--table", volume(17).line(DATA, "data2", "hash")])):
         yield WhileEdited(name, words, "refused S5 hash\n", 1, {**beside, **script})
-    yield WhileEdited("an edit of another volume", ["edit", "data2", "hash2", "other"], f"committed {volume(17).line(DATA, 'data2', 'hash2')}\n",
-                      0, {**beside, **script})
+    yield WhileEdited("an edit of another volume", ["edit", "data2", "hash2", "other"],
+                      f"committed {volume(17).line(DATA, 'data2', 'hash2')}\n", 0, {**beside, **script})
     yield WhileEdited("a dump", ["dump", "hash"], volume(17).dump(), 0)
     for name, words in (("an edit", ["edit", "data", "hash", "script"]), ("a format", ["format", "data", "hash", *SMALL])):
         yield WhileServed(name, words, "refused S5 data\n", 1)

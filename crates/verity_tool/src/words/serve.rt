@@ -15,15 +15,15 @@ pub struct ServeWords<'a> {
 }
 
 pub fn serve_command<'a>(alloc: Global) -> Result<Command<'a>, AllocError> {
-    let listen = option(alloc, "listen", "The address to listen on, as HOST:PORT");
-    let sessions = option(alloc, "sessions", "How many connections are served");
     Command::new(alloc, "serve")
         .about("Serves a volume over NBD, one connection after the other")
         .arg(table(alloc))?
-        .arg(listen.required(true))?
+        .arg(option(alloc, "listen", "The address to listen on, as HOST:PORT").required(true))?
         .arg(name(alloc))?
         .arg(cache(alloc))?
-        .arg(sessions.default_value("4294967295"))
+        .arg(option(alloc, "sessions", "How many connections are served").default_value(
+            "4294967295",
+        ))
 }
 
 pub fn serve_words<'a>(matches: &ArgMatches<'a>) -> Option<ServeWords<'a>> {
