@@ -84,10 +84,42 @@ impl<D: BlockStore, H: BlockStore, A: Allocator + Copy + Drop> Export for Volume
     ghost use Rattle.verity_hub.specs.Reading.{reading_same, reading_on};
 
     ghost later_same = { λ v. reading_same
-        (record { size = D.size; content = D.content; tells = D.tells; gave = D.gave; failures = D.failures; reads = D.reads; room = D.room })
-        (record { size = H.size; content = H.content; tells = H.tells; gave = H.gave; failures = H.failures; reads = H.reads; room = H.room }) v };
+        (record {
+          size = D.size;
+          content = D.content;
+          tells = D.tells;
+          gave = D.gave;
+          failures = D.failures;
+          reads = D.reads;
+          room = D.room;
+        })
+        (record {
+          size = H.size;
+          content = H.content;
+          tells = H.tells;
+          gave = H.gave;
+          failures = H.failures;
+          reads = H.reads;
+          room = H.room;
+        }) v };
 
     ghost later_on = { λ u v w. reading_on
-        (record { size = D.size; content = D.content; tells = D.tells; gave = D.gave; failures = D.failures; reads = D.reads; room = D.room })
-        (record { size = H.size; content = H.content; tells = H.tells; gave = H.gave; failures = H.failures; reads = H.reads; room = H.room }) u v w };
+        (record {
+          size = D.size;
+          content = D.content;
+          tells = D.tells;
+          gave = D.gave;
+          failures = D.failures;
+          reads = D.reads;
+          room = D.room;
+        })
+        (record {
+          size = H.size;
+          content = H.content;
+          tells = H.tells;
+          gave = H.gave;
+          failures = H.failures;
+          reads = H.reads;
+          room = H.room;
+        }) u v w };
 }
