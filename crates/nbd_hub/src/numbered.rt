@@ -49,7 +49,8 @@ impl<A: Allocator> Numbered<A> {
         requires { self.old.session.offer.size ≡ (E.facts export.old).size }
         ensures number { self.new.number ≡ self.old.number }
         ensures later { E.later export.old export.new }
-        ensures feeds { Feeds (E.facts export.old) (E.facts export.new) self.old.session self.new.session piece.now out.old.items out.new.items result }
+        ensures feeds { Feeds (E.facts export.old) (E.facts export.new)
+            self.old.session self.new.session piece.now out.old.items out.new.items result }
         ensures grows { Grows out.old.items out.new.items }
     {
         self.session.feed(piece, export, out)

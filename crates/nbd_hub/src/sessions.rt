@@ -119,7 +119,8 @@ impl<E: Export, A: Allocator + Copy> Sessions<E, A> {
         piece: &[u8],
         out: &mut Vec<u8, O>,
     ) -> Result<Status, HubFault>
-        ensures feeds { IfOk result (λ status. FeedsOne (E.facts self.old.1) (E.facts self.new.1) self.old.0 self.new.0 id piece.now out.old.items out.new.items status) }
+        ensures feeds { IfOk result (λ status. FeedsOne (E.facts self.old.1) (E.facts self.new.1)
+            self.old.0 self.new.0 id piece.now out.old.items out.new.items status) }
         ensures later { E.later self.old.1 self.new.1 }
         ensures refused { OnErr result ((result ≡ Err HubFault.Unknown) × (self.new ≡ self.old) × (out.new.items ≡ out.old.items)) }
         ensures unknown { OnErr result (lookup id self.old.0.sessions ≡ None) }

@@ -1,6 +1,7 @@
 //! One session over a stream.
 
-ghost use Rattle.std.specs.Prelude.{◌≡◌, ◌≢◌, ◌↔◌, true, false, ◌≤◌, ◌<◌, ◌+◌, ◌++◌, length, List, [], ℕ, Some, None, Err, OnOk, OnErr, IfErr, IsErrOf};
+ghost use Rattle.std.specs.Prelude.{◌≡◌, ◌≢◌, ◌↔◌, true, false, ◌≤◌, ◌<◌, ◌+◌, ◌++◌, length, List, [], ℕ, Some, None, Err, OnOk};
+ghost use Rattle.std.specs.Prelude.{OnErr, IfErr, IsErrOf};
 ghost use Rattle.std.specs.Io.KnownBytes.{Appends};
 ghost use Rattle.nbd_session.specs.Export.{Keeps};
 ghost use Rattle.nbd_session.specs.Session.{State, IsAt};
@@ -22,7 +23,8 @@ const TURN_BYTES: usize = 28;
 /// Writes all of the bytes, or a beginning.
 fn write_out<W: Write>(writer: &mut W, bytes: &[u8]) -> Result<(), ServeFault>
     ensures ok { OnOk result (Appends (W.contents writer.old) (W.contents writer.new) bytes.now) }
-    ensures err { OnErr result ((part : List ℕ) × (rest : List ℕ) × (bytes.now ≡ part ++ rest) × Appends (W.contents writer.old) (W.contents writer.new) part) }
+    ensures err { OnErr result ((part : List ℕ) × (rest : List ℕ) × (bytes.now ≡ part ++ rest)
+        × Appends (W.contents writer.old) (W.contents writer.new) part) }
     ensures fault { IfErr result (λ fault. fault ≡ ServeFault.Write) }
 {
     let mut done = 0;
@@ -63,10 +65,12 @@ fn exchange<E: Export, A: Allocator + Copy, W: Write>(
     ensures later { E.later hub.old.1 hub.new.1 }
     ensures next { hub.new.0.next ≡ hub.old.0.next }
     ensures count { length hub.new.0.sessions ≡ length hub.old.0.sessions }
-    ensures exchanged { (before after : State) × (lookup id hub.old.0.sessions ≡ Some before) × (before.offer ≡ hub.old.0.offer) × (after.offer ≡ hub.old.0.offer)
+    ensures exchanged { (before after : State) × (lookup id hub.old.0.sessions ≡ Some before) × (before.offer ≡ hub.old.0.offer)
+        × (after.offer ≡ hub.old.0.offer)
         × SetsOnly hub.old.0.sessions hub.new.0.sessions id (Some after)
         × Exchanged (E.facts hub.old.1) (E.facts hub.new.1) before after piece.now (W.contents writer.old) (W.contents writer.new) result }
-    ensures after { (history : List Step) → IsAfter (E.facts hub.old.1) hub.old.0 history → TurnedAfter (E.facts hub.new.1) hub.new.0 history id }
+    ensures after { (history : List Step) → IsAfter (E.facts hub.old.1) hub.old.0 history
+        → TurnedAfter (E.facts hub.new.1) hub.new.0 history id }
 {
     out.clear();
     match hub.feed(id, piece, out) {
@@ -93,7 +97,8 @@ fn turns<E: Export, A: Allocator + Copy, R: Read, W: Write>(
     limit: u64,
 ) -> Result<(), ServeFault>
     requires greets { out.old.items ≡ greeting }
-    requires one { (session : State) × (lookup id hub.old.0.sessions ≡ Some session) × IsAt session [] × (session.starved ≡ false) × (session.offer ≡ hub.old.0.offer) }
+    requires one { (session : State) × (lookup id hub.old.0.sessions ≡ Some session) × IsAt session [] × (session.starved ≡ false)
+        × (session.offer ≡ hub.old.0.offer) }
     ensures offer { hub.new.0.offer ≡ hub.old.0.offer }
     ensures keeps { Keeps (E.facts hub.old.1) (E.facts hub.new.1) }
     ensures later { E.later hub.old.1 hub.new.1 }
@@ -101,9 +106,15 @@ fn turns<E: Export, A: Allocator + Copy, R: Read, W: Write>(
     ensures count { length hub.new.0.sessions ≡ length hub.old.0.sessions }
     ensures others { (session : State) × SetsOnly hub.old.0.sessions hub.new.0.sessions id (Some session) }
     ensures served { Served (E.facts hub.old.1) (E.facts hub.new.1) hub.old.0.offer
-        (record { reader = R.remaining reader.old; reader' = R.remaining reader.new; writer = W.contents writer.old; writer' = W.contents writer.new }) limit result }
+        (record {
+          reader = R.remaining reader.old;
+          reader' = R.remaining reader.new;
+          writer = W.contents writer.old;
+          writer' = W.contents writer.new;
+        }) limit result }
     ensures hub { (fault : HubFault) → IsErrOf result (ServeFault.Hub fault) → ⊥ }
-    ensures after { (history : List Step) → IsAfter (E.facts hub.old.1) hub.old.0 history → TurnedAfter (E.facts hub.new.1) hub.new.0 history id }
+    ensures after { (history : List Step) → IsAfter (E.facts hub.old.1) hub.old.0 history
+        → TurnedAfter (E.facts hub.new.1) hub.new.0 history id }
 {
     if write_out(writer, out).is_err() {
         return Err(ServeFault::Write);
@@ -151,17 +162,25 @@ pub fn serve<E: Export, A: Allocator + Copy, R: Read, W: Write>(
     ensures keeps { Keeps (E.facts hub.old.1) (E.facts hub.new.1) }
     ensures later { E.later hub.old.1 hub.new.1 }
     ensures served { Served (E.facts hub.old.1) (E.facts hub.new.1) hub.old.0.offer
-        (record { reader = R.remaining reader.old; reader' = R.remaining reader.new; writer = W.contents writer.old; writer' = W.contents writer.new }) limit result }
+        (record {
+          reader = R.remaining reader.old;
+          reader' = R.remaining reader.new;
+          writer = W.contents writer.old;
+          writer' = W.contents writer.new;
+        }) limit result }
     // No session came about.
     ensures full { (result ≡ Err (ServeFault.Hub HubFault.Full)) ↔ (max_open ≤ length hub.old.0.sessions) }
-    ensures spent { (result ≡ Err (ServeFault.Hub HubFault.Spent)) ↔ ((length hub.old.0.sessions < max_open) × (max_opened ≤ hub.old.0.next)) }
+    ensures spent { (result ≡ Err (ServeFault.Hub HubFault.Spent))
+        ↔ ((length hub.old.0.sessions < max_open) × (max_opened ≤ hub.old.0.next)) }
     ensures known { result ≢ Err (ServeFault.Hub HubFault.Unknown) }
     ensures refused { (fault : HubFault) → IsErrOf result (ServeFault.Hub fault) → hub.new ≡ hub.old }
     // One came about, and it is ended.
-    ensures ended { ((fault : HubFault) → IsErrOf result (ServeFault.Hub fault) → ⊥) → SetsOnly hub.old.0.sessions hub.new.0.sessions hub.old.0.next None }
+    ensures ended { ((fault : HubFault) → IsErrOf result (ServeFault.Hub fault) → ⊥)
+        → SetsOnly hub.old.0.sessions hub.new.0.sessions hub.old.0.next None }
     ensures opened { ((fault : HubFault) → IsErrOf result (ServeFault.Hub fault) → ⊥) → hub.new.0.next ≡ hub.old.0.next + 1 }
     ensures count { length hub.new.0.sessions ≡ length hub.old.0.sessions }
-    ensures after { ((fault : HubFault) → IsErrOf result (ServeFault.Hub fault) → ⊥) → (history : List Step) → IsAfter (E.facts hub.old.1) hub.old.0 history
+    ensures after { ((fault : HubFault) → IsErrOf result (ServeFault.Hub fault) → ⊥) → (history : List Step)
+        → IsAfter (E.facts hub.old.1) hub.old.0 history
         → ServedAfter (E.facts hub.new.1) hub.new.0 history hub.old.0.next }
 {
     let mut out = Vec::new(hub.allocator());

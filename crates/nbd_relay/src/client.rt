@@ -1,6 +1,7 @@
 //! One client of many: its stream, its session and what waits in between.
 
-ghost use Rattle.std.specs.Prelude.{◌≡◌, ◌≢◌, ◌↔◌, Err, ◌+◌, ◌≤◌, ◌<◌, ◌-◌, ◌++◌, ◌⊎◌, ℕ, List, [], ◌∷◌, true, false, length, Some, None, IfOk, OnErr};
+ghost use Rattle.std.specs.Prelude.{◌≡◌, ◌≢◌, ◌↔◌, Err, ◌+◌, ◌≤◌, ◌<◌, ◌-◌, ◌++◌, ◌⊎◌, ℕ, List, [], ◌∷◌, true, false, length, Some};
+ghost use Rattle.std.specs.Prelude.{None, IfOk, OnErr};
 ghost use Rattle.std.specs.Io.KnownBytes.{Appends, Consumes, IsAtEnd, Keeps};
 ghost use Rattle.nbd_session.specs.Handshake.{greeting};
 ghost use Rattle.nbd_session.specs.Export.{Keeps as KeepsFacts};
@@ -64,7 +65,15 @@ impl<S, A: Allocator> Model for Client<S, A> {
 
     ghost Value = { ClientState × S };
 
-    ghost view = { λ c. (record { id = c.session; waiting = take (c.end - c.begin) (drop c.begin c.input); unsent = drop c.sent c.pending.items; over = c.over }, c.stream) };
+    ghost view = { λ c. (
+      record {
+        id = c.session;
+        waiting = take (c.end - c.begin) (drop c.begin c.input);
+        unsent = drop c.sent c.pending.items;
+        over = c.over;
+      },
+      c.stream,
+    ) };
 
     ghost invariant = { λ c. (c.begin ≤ c.end) × (c.end ≤ 4096) × (c.sent ≤ length c.pending.items) };
 }
@@ -128,7 +137,8 @@ impl<S: Stream + Drop, A: Allocator> Client<S, A> {
         ensures unread { Keeps (S.remaining self.old.1) (S.remaining self.new.1) }
         ensures calls { (S.asked self.new.1).calls ≡ (S.asked self.old.1).calls + 1 }
         ensures waits { result ≡ Turn.Blocked → (S.asked self.old.1).waits < (S.asked self.new.1).waits }
-        ensures failures { (result ≡ Turn.Interrupted) ⊎ (result ≡ Turn.Failed ServeFault.Write) → (S.asked self.old.1).failures < (S.asked self.new.1).failures }
+        ensures failures { (result ≡ Turn.Interrupted) ⊎ (result ≡ Turn.Failed ServeFault.Write)
+            → (S.asked self.old.1).failures < (S.asked self.new.1).failures }
     {
         match self.stream.send(&self.pending[self.sent..]) {
             Ok(0) => Turn::Failed(ServeFault::Write),
@@ -164,7 +174,8 @@ impl<S: Stream + Drop, A: Allocator> Client<S, A> {
         ensures written { Keeps (S.contents self.old.1) (S.contents self.new.1) }
         ensures calls { (S.asked self.new.1).calls ≡ (S.asked self.old.1).calls + 1 }
         ensures waits { result ≡ Turn.Blocked → (S.asked self.old.1).waits < (S.asked self.new.1).waits }
-        ensures failures { (result ≡ Turn.Interrupted) ⊎ (result ≡ Turn.Failed ServeFault.Read) → (S.asked self.old.1).failures < (S.asked self.new.1).failures }
+        ensures failures { (result ≡ Turn.Interrupted) ⊎ (result ≡ Turn.Failed ServeFault.Read)
+            → (S.asked self.old.1).failures < (S.asked self.new.1).failures }
     {
         match self.stream.receive(&mut self.input) {
             Ok(0) => {
@@ -262,7 +273,8 @@ impl<S: Stream + Drop, A: Allocator> Client<S, A> {
         ensures waits { result ≡ Turn.Blocked → (S.asked self.old.1).waits < (S.asked self.new.1).waits }
         ensures failures { (result ≡ Turn.Interrupted) ⊎ (result ≡ Turn.Failed ServeFault.Read) ⊎ (result ≡ Turn.Failed ServeFault.Write)
             → (S.asked self.old.1).failures < (S.asked self.new.1).failures }
-        ensures reads { (0 < length self.old.0.unsent) ⊎ (0 < length self.old.0.waiting) ⊎ (self.old.0.over ≡ true) → Keeps (S.remaining self.old.1) (S.remaining self.new.1) }
+        ensures reads { (0 < length self.old.0.unsent) ⊎ (0 < length self.old.0.waiting) ⊎ (self.old.0.over ≡ true)
+            → Keeps (S.remaining self.old.1) (S.remaining self.new.1) }
     {
         if self.sent < self.pending.len() {
             return self.send();

@@ -6,7 +6,9 @@ ghost use Rattle.nbd_hub.specs.History.{Step};
 ghost use Rattle.nbd_hub.specs.Sessions.{HubState};
 ghost use Rattle.nbd_hub.specs.After.{Given, IsAfter};
 ghost use Rattle.nbd_relay.specs.Client.{ClientState, IsServed, IsOfAnother, FedOnce, IsSaid};
+ghost use Rattle.nbd_relay.specs.Clients.{Log, AllServed, RunsOn};
 
+use crate::stream::Stream;
 use nbd_session::Export;
 
 /// A step of another session changes nothing of a client.
@@ -24,5 +26,15 @@ pub fn turns_of_others_stay()
 /// What was written to a served client is a beginning of the talk of what was read from it, by verdicts of its own.
 pub fn what_was_said<E: Export>()
     ensures { (export : E) (hub : HubState) (history : List Step) (client : ClientState) (read wrote : List ℕ)
-        → IsAfter (E.facts export) hub history → IsServed hub.offer history client read wrote → IsSaid (Given (E.facts export)) hub.offer client read wrote }
+        → IsAfter (E.facts export) hub history → IsServed hub.offer history client read wrote
+        → IsSaid (Given (E.facts export)) hub.offer client read wrote }
+{}
+
+/// Runs of turns add up: what is served after some turns, and then after others, is served after both.
+pub fn runs_go_on<S: Stream, E: Export>()
+    ensures { (a b : E) (hub hub' : HubState) (history : List Step) (first mid last : List (ClientState × S)) (logs : List Log)
+        → RunsOn S.remaining S.contents (E.facts a) hub history first mid logs
+        → ((g : List Step) (later : List Log) → IsAfter (E.facts a) hub g → AllServed hub.offer g mid later
+        → RunsOn S.remaining S.contents (E.facts b) hub' g mid last later)
+        → RunsOn S.remaining S.contents (E.facts b) hub' history first last logs }
 {}

@@ -14,8 +14,8 @@
 //! a step of another session changes nothing of it ([`laws::others_stay`]). So what was written is a beginning of the talk
 //! of what was read, by verdicts of its own, and all of it once nothing waits ([`laws::what_was_said`]).
 //!
-//! `specs/Clients.antt` says the same of a list of clients (`AllServed`), and [`accept`], [`turn_at`], [`turns`] and [`leave`]
-//! keep it, in any order.
+//! `specs/Clients.antt` says the same of a list of clients (`AllServed`), and [`accept`], [`turn_at`] and [`leave`] keep it, in
+//! any order: their runs add up ([`laws::runs_go_on`]).
 //!
 //! A stream that isn't ready, is interrupted or fails changes neither the bytes nor the hub. `specs/Asked.antt` counts what a
 //! stream was asked and answered, so that a turn gives up only where the stream said so.
@@ -32,5 +32,5 @@ mod relay;
 mod stream;
 
 pub use client::{Client, Turn};
-pub use relay::{accept, leave, turn_at, turns};
+pub use relay::{accept, leave, turn_at};
 pub use stream::{Asks, Pair, Stream};

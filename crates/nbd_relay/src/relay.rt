@@ -33,25 +33,6 @@ pub fn turn_at<S: Stream + Drop, A: Allocator, E: Export, H: Allocator + Copy>(
     client.turn(hub)
 }
 
-/// Turns of clients in any order, each told by its place. All of them stay served.
-pub fn turns<S: Stream + Drop, A: Allocator, E: Export, H: Allocator + Copy>(
-    clients: &mut [Client<S, A>],
-    places: &[usize],
-    hub: &mut Sessions<E, H>,
-)
-    ensures offer { hub.new.0.offer ≡ hub.old.0.offer }
-    ensures later { E.later hub.old.1 hub.new.1 }
-    ensures serves { (history : List Step) (logs : List Log) → IsAfter (E.facts hub.old.1) hub.old.0 history
-        → AllServed hub.old.0.offer history clients.old logs
-        → RunsOn S.remaining S.contents (E.facts hub.new.1) hub.new.0 history clients.old clients.new logs }
-{
-    for &at in places {
-        if at < clients.len() {
-            let _turn = turn_at(clients, at, hub);
-        }
-    }
-}
-
 /// Opens a session for a stream, whose client comes last. All stay served, and so is it.
 ///
 /// # Errors
@@ -67,7 +48,8 @@ pub fn accept<S: Stream + Drop, A: Allocator, B: Allocator, E: Export, H: Alloca
     ensures serves { OnOk result ((history : List Step) (logs : List Log) → IsAfter (E.facts hub.old.1) hub.old.0 history
         → AllServed hub.old.0.offer history clients.old.items logs
         → IsAfter (E.facts hub.new.1) hub.new.0 (history ++ Opening hub.old.0.next greeting ∷ [])
-        × AllServed hub.new.0.offer (history ++ Opening hub.old.0.next greeting ∷ []) clients.new.items (logs ++ record { read = []; wrote = [] } ∷ [])) }
+        × AllServed hub.new.0.offer (history ++ Opening hub.old.0.next greeting ∷ []) clients.new.items
+        (logs ++ record { read = []; wrote = [] } ∷ [])) }
     ensures offer { hub.new.0.offer ≡ hub.old.0.offer }
     ensures export { hub.new.1 ≡ hub.old.1 }
     ensures added { OnOk result ((client : ClientState × S) × (clients.new.items ≡ clients.old.items ++ client ∷ [])

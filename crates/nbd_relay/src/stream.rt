@@ -59,7 +59,9 @@ impl Model for Asks {
 
 impl Asks {
     /// Nothing was asked.
-    pub fn new() -> Asks {
+    pub fn new() -> Asks
+        ensures { result ≡ record { calls = 0; waits = 0; failures = 0 } }
+    {
         Asks {
             calls: Count::new(),
             waits: Count::new(),

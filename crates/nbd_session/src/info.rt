@@ -5,7 +5,8 @@
 //! NBD_INFO_BLOCK_SIZE once if it is asked for at least once, then ACK. Other types are ignored.
 
 ghost use Rattle.std.specs.Prelude.{◌≡◌, ◌≤◌, ◌*◌, ◌++◌, length, IfOk, OnOk, OnErr, true};
-ghost use Rattle.nbd_session.specs.Options.{block_size_info, block_size_reply, export_info, info_replies, is_info_data, known_replies, lists_type, names_export, wants_block_size};
+ghost use Rattle.nbd_session.specs.Options.{block_size_info, block_size_reply, export_info, info_replies, is_info_data, known_replies};
+ghost use Rattle.nbd_session.specs.Options.{lists_type, names_export, wants_block_size};
 ghost use Rattle.nbd_session.specs.Conversation.{Grows};
 
 use crate::offer::Offer;

@@ -2,7 +2,7 @@
 //!
 //! | Option | Answer |
 //! |---|---|
-//! | EXPORT_NAME 1 | size and transmission flags, 124 zeros unless both sides set no zeroes; then the transmission. Another name ends the session. |
+//! | EXPORT_NAME 1 | size, flags, 124 zeros unless both sides set no zeroes; then transmission. Another name ends the session. |
 //! | ABORT 2 | ACK, and the session ends |
 //! | LIST 3 | the one export and ACK; ERR_INVALID with data |
 //! | INFO 6, GO 7 | see [`info`](crate::info) |

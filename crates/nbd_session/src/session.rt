@@ -33,7 +33,13 @@ impl<A: Allocator> Model for Session<A> {
 
     ghost Value = { State };
 
-    ghost view = { λ s. record { offer = s.offer; phase = s.inbox.phase; held = s.inbox.held.items; missing = s.inbox.missing; starved = s.starved } };
+    ghost view = { λ s. record {
+      offer = s.offer;
+      phase = s.inbox.phase;
+      held = s.inbox.held.items;
+      missing = s.inbox.missing;
+      starved = s.starved;
+    } };
 
     ghost invariant = { λ s. IsInForm s.inbox };
 }

@@ -14,7 +14,17 @@ pub struct Image {
 }
 
 impl Export for Image {
-    ghost facts = { λ image. record { size = length image.bytes.items; block = 512; may_serve = λ _ _. Unit {0}; may_refuse = λ _ _. Unit {0}; may_lack = λ _ _. Unit {0}; steady = λ _. ⊥; failures = 0; reads = 0; may_cost = λ _ _ n. n ≡ 0 } };
+    ghost facts = { λ image. record {
+      size = length image.bytes.items;
+      block = 512;
+      may_serve = λ _ _. Unit {0};
+      may_refuse = λ _ _. Unit {0};
+      may_lack = λ _ _. Unit {0};
+      steady = λ _. ⊥;
+      failures = 0;
+      reads = 0;
+      may_cost = λ _ _ n. n ≡ 0;
+    } };
 
     ghost later = { λ _ _. Unit {0} };
 

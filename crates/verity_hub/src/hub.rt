@@ -39,7 +39,11 @@ impl<D: BlockStore, H: BlockStore, A: Allocator + Copy + Drop> Hub<D, H, A> {
     /// A hub with no session, over an export of this name. It takes no memory.
     pub fn new(alloc: A, verifier: Verifier<D, H, A>, name: ExportName) -> Hub<D, H, A>
         ensures verifier { result.1 ≡ verifier }
-        ensures offer { result.0.offer ≡ record { name = name; size = verifier.table.data_blocks * verifier.table.data_block_size; block = verifier.table.data_block_size } }
+        ensures offer { result.0.offer ≡ record {
+          name = name;
+          size = verifier.table.data_blocks * verifier.table.data_block_size;
+          block = verifier.table.data_block_size;
+        } }
         ensures none { (result.0.next ≡ 0) × (result.0.sessions ≡ []) }
         ensures after { IsAfter (facts_of D.BlockStore H.BlockStore verifier) result.0 [] }
     {
@@ -63,7 +67,8 @@ impl<D: BlockStore, H: BlockStore, A: Allocator + Copy + Drop> Hub<D, H, A> {
         ensures spent { (result ≡ Err HubFault.Spent) ↔ ((length self.old.0.sessions < max_open) × (max_opened ≤ self.old.0.next)) }
         ensures known { result ≢ Err HubFault.Unknown }
         ensures refused { OnErr result ((self.new ≡ self.old) × (out.new.items ≡ out.old.items)) }
-        ensures after { IfOk result (λ id. (history : List Step) → IsAfter (facts_of D.BlockStore H.BlockStore self.old.1) self.old.0 history
+        ensures after { IfOk result (λ id. (history : List Step)
+            → IsAfter (facts_of D.BlockStore H.BlockStore self.old.1) self.old.0 history
             → OpenedAfter (facts_of D.BlockStore H.BlockStore self.new.1) self.new.0 history id) }
     {
         self.sessions.open(out)
@@ -84,12 +89,14 @@ impl<D: BlockStore, H: BlockStore, A: Allocator + Copy + Drop> Hub<D, H, A> {
         piece: &[u8],
         out: &mut Vec<u8, O>,
     ) -> Result<Status, HubFault>
-        ensures feeds { IfOk result (λ status. FeedsOne (facts_of D.BlockStore H.BlockStore self.old.1) (facts_of D.BlockStore H.BlockStore self.new.1)
+        ensures feeds { IfOk result (λ status. FeedsOne
+            (facts_of D.BlockStore H.BlockStore self.old.1) (facts_of D.BlockStore H.BlockStore self.new.1)
             self.old.0 self.new.0 id piece.now out.old.items out.new.items status) }
         ensures verifier { IsOnlyReading D.BlockStore H.BlockStore self.old.1 self.new.1 }
         ensures refused { OnErr result ((result ≡ Err HubFault.Unknown) × (self.new ≡ self.old) × (out.new.items ≡ out.old.items)) }
         ensures unknown { OnErr result (lookup id self.old.0.sessions ≡ None) }
-        ensures after { IfOk result (λ status. (history : List Step) → IsAfter (facts_of D.BlockStore H.BlockStore self.old.1) self.old.0 history
+        ensures after { IfOk result (λ status. (history : List Step)
+            → IsAfter (facts_of D.BlockStore H.BlockStore self.old.1) self.old.0 history
             → FedAfter (facts_of D.BlockStore H.BlockStore self.new.1) self.new.0 history id piece.now status out.old.items out.new.items) }
         ensures grows { Grows out.old.items out.new.items }
     {

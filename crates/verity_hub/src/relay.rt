@@ -1,7 +1,8 @@
 //! Many clients of one hub, each over a stream that may not be ready, turn by turn. The turns themselves are those of
 //! `nbd_relay`, which knows nothing of hashes.
 
-ghost use Rattle.std.specs.Prelude.{◌≡◌, ◌≢◌, ◌≤◌, ◌<◌, ◌+◌, ◌++◌, ◌⊎◌, length, List, [], ◌∷◌, ℕ, true, false, Some, None, Err, OnOk, OnErr, slice_get};
+ghost use Rattle.std.specs.Prelude.{◌≡◌, ◌≢◌, ◌≤◌, ◌<◌, ◌+◌, ◌++◌, ◌⊎◌, length, List, [], ◌∷◌, ℕ, true, false, Some, None, Err, OnOk};
+ghost use Rattle.std.specs.Prelude.{OnErr, slice_get};
 ghost use Rattle.std.specs.List.{remove};
 ghost use Rattle.std.specs.Io.KnownBytes.{IsAtEnd, Keeps};
 ghost use Rattle.nbd_session.specs.declared.phase.Phase.TheVariants as phase;
@@ -42,10 +43,12 @@ pub fn accept<
     stream: S,
     hub: &mut Hub<D, H, A>,
 ) -> Result<(), HubFault>
-    ensures serves { OnOk result ((history : List Step) (logs : List Log) → IsAfter (facts_of D.BlockStore H.BlockStore hub.old.1) hub.old.0 history
+    ensures serves { OnOk result ((history : List Step) (logs : List Log)
+        → IsAfter (facts_of D.BlockStore H.BlockStore hub.old.1) hub.old.0 history
         → AllServed hub.old.0.offer history clients.old.items logs
         → IsAfter (facts_of D.BlockStore H.BlockStore hub.new.1) hub.new.0 (history ++ Opening hub.old.0.next greeting ∷ [])
-        × AllServed hub.new.0.offer (history ++ Opening hub.old.0.next greeting ∷ []) clients.new.items (logs ++ record { read = []; wrote = [] } ∷ [])) }
+        × AllServed hub.new.0.offer (history ++ Opening hub.old.0.next greeting ∷ []) clients.new.items
+        (logs ++ record { read = []; wrote = [] } ∷ [])) }
     ensures offer { hub.new.0.offer ≡ hub.old.0.offer }
     ensures verifier { hub.new.1 ≡ hub.old.1 }
     ensures added { OnOk result ((client : ClientState × S) × (clients.new.items ≡ clients.old.items ++ client ∷ [])
@@ -98,7 +101,8 @@ pub fn turn<
     // The stream: asked once to send, once to read, and not at all else; and the answer is its own.
     ensures asks { (0 < length client.old.0.unsent) ⊎ ((client.old.0.over ≡ false) × (client.old.0.waiting ≡ []))
         → (S.asked client.new.1).calls ≡ (S.asked client.old.1).calls + 1 }
-    ensures unasked { client.old.0.unsent ≡ [] → (client.old.0.over ≡ true) ⊎ (0 < length client.old.0.waiting) → client.new.1 ≡ client.old.1 }
+    ensures unasked { client.old.0.unsent ≡ [] → (client.old.0.over ≡ true) ⊎ (0 < length client.old.0.waiting)
+        → client.new.1 ≡ client.old.1 }
     ensures waits { result ≡ Turn.Blocked → (S.asked client.old.1).waits < (S.asked client.new.1).waits }
     ensures failures { (result ≡ Turn.Interrupted) ⊎ (result ≡ Turn.Failed ServeFault.Read) ⊎ (result ≡ Turn.Failed ServeFault.Write)
         → (S.asked client.old.1).failures < (S.asked client.new.1).failures }

@@ -36,23 +36,43 @@ pub fn serve_stream<D: BlockStore, H: BlockStore, A: Allocator + Copy + Drop, R:
     ensures offer { hub.new.0.offer ≡ hub.old.0.offer }
     ensures verifier { IsOnlyReading D.BlockStore H.BlockStore hub.old.1 hub.new.1 }
     ensures served { Served (facts_of D.BlockStore H.BlockStore hub.old.1) (facts_of D.BlockStore H.BlockStore hub.new.1) hub.old.0.offer
-        (record { reader = R.remaining reader.old; reader' = R.remaining reader.new; writer = W.contents writer.old; writer' = W.contents writer.new }) limit result }
+        (record {
+          reader = R.remaining reader.old;
+          reader' = R.remaining reader.new;
+          writer = W.contents writer.old;
+          writer' = W.contents writer.new;
+        }) limit result }
     // For every image that fits the table line, what was said is right.
-    ensures right { (image : List (List ℕ)) → Fits hub.old.1.table image → ServedBy (SaysRight D.BlockStore H.BlockStore hub.new.1 image hub.old.0.offer) hub.old.0.offer
-        (record { reader = R.remaining reader.old; reader' = R.remaining reader.new; writer = W.contents writer.old; writer' = W.contents writer.new }) limit result }
+    ensures right { (image : List (List ℕ)) → Fits hub.old.1.table image
+        → ServedBy (SaysRight D.BlockStore H.BlockStore hub.new.1 image hub.old.0.offer) hub.old.0.offer
+        (record {
+          reader = R.remaining reader.old;
+          reader' = R.remaining reader.new;
+          writer = W.contents writer.old;
+          writer' = W.contents writer.new;
+        }) limit result }
     // Where the stores hold an image, each verdict is exact.
-    ensures exact { (image : List (List ℕ)) → HoldsFor D.BlockStore H.BlockStore hub.old.1 image → ServedBy (SaysExact D.BlockStore H.BlockStore hub.old.1 hub.new.1 image hub.old.0.offer) hub.old.0.offer
-        (record { reader = R.remaining reader.old; reader' = R.remaining reader.new; writer = W.contents writer.old; writer' = W.contents writer.new }) limit result }
+    ensures exact { (image : List (List ℕ)) → HoldsFor D.BlockStore H.BlockStore hub.old.1 image
+        → ServedBy (SaysExact D.BlockStore H.BlockStore hub.old.1 hub.new.1 image hub.old.0.offer) hub.old.0.offer
+        (record {
+          reader = R.remaining reader.old;
+          reader' = R.remaining reader.new;
+          writer = W.contents writer.old;
+          writer' = W.contents writer.new;
+        }) limit result }
     // No session came about.
     ensures full { (result ≡ Err (ServeFault.Hub HubFault.Full)) ↔ (max_open ≤ length hub.old.0.sessions) }
-    ensures spent { (result ≡ Err (ServeFault.Hub HubFault.Spent)) ↔ ((length hub.old.0.sessions < max_open) × (max_opened ≤ hub.old.0.next)) }
+    ensures spent { (result ≡ Err (ServeFault.Hub HubFault.Spent))
+        ↔ ((length hub.old.0.sessions < max_open) × (max_opened ≤ hub.old.0.next)) }
     ensures known { result ≢ Err (ServeFault.Hub HubFault.Unknown) }
     ensures refused { (fault : HubFault) → IsErrOf result (ServeFault.Hub fault) → hub.new ≡ hub.old }
     // One came about, and it is ended.
-    ensures ended { ((fault : HubFault) → IsErrOf result (ServeFault.Hub fault) → ⊥) → SetsOnly hub.old.0.sessions hub.new.0.sessions hub.old.0.next None }
+    ensures ended { ((fault : HubFault) → IsErrOf result (ServeFault.Hub fault) → ⊥)
+        → SetsOnly hub.old.0.sessions hub.new.0.sessions hub.old.0.next None }
     ensures opened { ((fault : HubFault) → IsErrOf result (ServeFault.Hub fault) → ⊥) → hub.new.0.next ≡ hub.old.0.next + 1 }
     ensures count { length hub.new.0.sessions ≡ length hub.old.0.sessions }
-    ensures after { ((fault : HubFault) → IsErrOf result (ServeFault.Hub fault) → ⊥) → (history : List Step) → IsAfter (facts_of D.BlockStore H.BlockStore hub.old.1) hub.old.0 history
+    ensures after { ((fault : HubFault) → IsErrOf result (ServeFault.Hub fault) → ⊥) → (history : List Step)
+        → IsAfter (facts_of D.BlockStore H.BlockStore hub.old.1) hub.old.0 history
         → ServedAfter (facts_of D.BlockStore H.BlockStore hub.new.1) hub.new.0 history hub.old.0.next }
 {
     let result = serve(&mut hub.sessions, reader, writer, limit);

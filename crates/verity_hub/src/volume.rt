@@ -84,10 +84,46 @@ impl<D: BlockStore, H: BlockStore, A: Allocator + Copy + Drop> Export for Volume
     ghost use Rattle.verity_hub.specs.Reading.{reading_same, reading_on};
 
     ghost later_same = { λ v. reading_same
-        (record { size = D.size; content = D.content; tells = D.tells; given = D.given; failures = D.failures; reads = D.reads; room = D.room; synced = D.synced })
-        (record { size = H.size; content = H.content; tells = H.tells; given = H.given; failures = H.failures; reads = H.reads; room = H.room; synced = H.synced }) v };
+        (record {
+          size = D.size;
+          content = D.content;
+          tells = D.tells;
+          given = D.given;
+          failures = D.failures;
+          reads = D.reads;
+          room = D.room;
+          synced = D.synced;
+        })
+        (record {
+          size = H.size;
+          content = H.content;
+          tells = H.tells;
+          given = H.given;
+          failures = H.failures;
+          reads = H.reads;
+          room = H.room;
+          synced = H.synced;
+        }) v };
 
     ghost later_on = { λ u v w. reading_on
-        (record { size = D.size; content = D.content; tells = D.tells; given = D.given; failures = D.failures; reads = D.reads; room = D.room; synced = D.synced })
-        (record { size = H.size; content = H.content; tells = H.tells; given = H.given; failures = H.failures; reads = H.reads; room = H.room; synced = H.synced }) u v w };
+        (record {
+          size = D.size;
+          content = D.content;
+          tells = D.tells;
+          given = D.given;
+          failures = D.failures;
+          reads = D.reads;
+          room = D.room;
+          synced = D.synced;
+        })
+        (record {
+          size = H.size;
+          content = H.content;
+          tells = H.tells;
+          given = H.given;
+          failures = H.failures;
+          reads = H.reads;
+          room = H.room;
+          synced = H.synced;
+        }) u v w };
 }
