@@ -38,7 +38,16 @@ fn events_are_answered(rt: HostRuntime) -> Result<(), Fail> {
     let events = client(alloc)?;
     let mut replies = Vec::new(alloc);
     let name = ExportName::new(b"vol")?;
-    let done = answer_events(alloc, line(alloc)?, data, hash, 8, name, &events, &mut replies);
+    let done = answer_events(
+        alloc,
+        line(alloc)?,
+        data,
+        hash,
+        8,
+        name,
+        &events,
+        &mut replies,
+    );
     assert_eq!(rt; done, Ok(()));
     assert_eq!(rt; replies.len(), 3);
     assert_eq!(rt; words(&replies[0]), GREETING);
@@ -54,7 +63,16 @@ fn no_cache_is_refused(rt: HostRuntime) -> Result<(), Fail> {
     let (data, hash) = volume(alloc, seventeen(alloc)?)?;
     let mut replies = Vec::new(alloc);
     let name = ExportName::new(b"vol")?;
-    let done = answer_events(alloc, line(alloc)?, data, hash, 0, name, &client(alloc)?, &mut replies);
+    let done = answer_events(
+        alloc,
+        line(alloc)?,
+        data,
+        hash,
+        0,
+        name,
+        &client(alloc)?,
+        &mut replies,
+    );
     assert_eq!(rt; done, Err(AnswerFault::Check(CheckFault::CacheSize)));
     assert_eq!(rt; replies.len(), 0);
     Ok(())

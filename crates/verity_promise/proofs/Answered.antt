@@ -6,7 +6,6 @@ use Rattle.nbd_hub.specs.declared.events.Event.{Event}
 use Rattle.nbd_hub.specs.declared.events.HubReply.{HubReply}
 use Rattle.nbd_hub.specs.After.{EachAfter, IsAfter}
 use Rattle.nbd_hub.specs.Sessions.{HubState}
-use Rattle.nbd_hub.specs.History.{Step}
 use Rattle.verity_store.specs.declared.store.BlockStore as store
 use Rattle.verity_check.specs.Table.{Table}
 use Rattle.verity_check.specs.Right.{Fits}
@@ -32,9 +31,9 @@ module _ {D H : Type 0} (data_facts : store.Ghosts D) (hash_facts : store.Ghosts
       (offer : hub.0.offer ≡ record { name = called; size = v.table.data_blocks * v.table.data_block_size; block = v.table.data_block_size })
       (begins : IsAfter (facts_of data_facts hash_facts v) hub.0 [])
       (reads : IsOnlyReading data_facts hash_facts hub.1 hub'.1)
-      (replies : new ≡ old ++ added) (few : length added ≤ length events)
+      (replies : new ≡ old ++ added)
       (ran : IsAfter (facts_of data_facts hash_facts hub.1) hub.0 [] → (image : List (List ℕ)) → Fits hub.1.table image
-          → EachAfter (IsRightFor data_facts hash_facts hub'.1 image) hub.0.offer [] events added) where
+      → EachAfter (IsRightFor data_facts hash_facts hub'.1 image) hub.0.offer [] events added) where
     pub answered : AreRightAnswers data_facts hash_facts t d h called events old new
     answered = record {
       made = v;
@@ -43,25 +42,11 @@ module _ {D H : Type 0} (data_facts : store.Ghosts D) (hash_facts : store.Ghosts
       reads = subst (λ x. IsOnlyReading data_facts hash_facts x hub'.1) same reads;
       added = added;
       replies = replies;
-      few = few;
       right = λ image fits.
           subst (λ o. EachAfter (IsRightFor data_facts hash_facts hub'.1 image) o [] events added) (offer ∙ same_offer v over called)
           (ran (subst (λ x. IsAfter (facts_of data_facts hash_facts x) hub.0 []) (sym same) begins) image
           (subst (λ (x : Table). Fits x image) (sym (ap (λ (x : Verifying D H). x.table) same ∙ over.table)) fits));
     }
-
-  -- no verifier was made, and no reply added
-  pub unmade : {A B : Type 0} (called : List ℕ) (events : List (Event B)) (old : List (HubReply A)) (fault : CheckFault)
-      → (fault ≡ check.Lengths) ⊎ (fault ≡ check.CacheSize) ⊎ (fault ≡ check.NoMemory) → ExplainsUnanswered data_facts hash_facts t d h called events old old (Check fault)
-  unmade {A = A} called events old fault e =
-      let P : CheckFault → Type 0 = λ f. ExplainsUnanswered data_facts hash_facts t d h called events old old (Check f) in
-      let lengths : P check.Lengths = nothing old in
-      let size : P check.CacheSize = nothing old in
-      let memory : P check.NoMemory = nothing old in
-      elim e [
-        | inl is ↦ subst P (sym is) lengths
-        | inr rest ↦ elim rest [ inl is ↦ subst P (sym is) size | inr is ↦ subst P (sym is) memory ]
-      ]
 
 abbrev pub fault_in : AnswerFault → CheckFault
 fault_in (Check fault) = fault

@@ -1,32 +1,31 @@
 -- A volume that was opened, edited and closed.
-use Rattle.std.proofs.Common.{◌≡◌, ◌*◌, ◌/◌, ◌+◌, ◌-◌, ◌<◌, ◌≤◌, ℕ, Bool, true, false, List, [], ◌∷◌, length, take, drop, ◌++◌, get_or, get_or-take, length-take, inl, refl, sym, ap, ◌∙◌, subst, arith}
+use Rattle.std.proofs.Common.{◌≡◌, ◌/◌, ◌-◌, ◌<◌, ◌≤◌, ℕ, true, false, List, [], ◌∷◌, length, take, drop, ◌++◌, get_or, get_or-take, length-take, inl, refl, sym, ap, ◌∙◌, subst, arith}
 use Rattle.std.specs.List.{concat, list_any, All}
 use Rattle.std.specs.Prelude.{Option, Some, None, IfSome, Result, Ok, Err, OnOk}
 use Rattle.std.proofs.lemmas.List.{take_all, append_assoc}
 use Rattle.verity_digest.specs.Hash.{hashing, size_of}
 use Rattle.verity_digest.specs.Tree.{Hashing, root, tree, per_block}
 use Rattle.verity_digest.specs.Shape.{total}
-use Rattle.verity_digest.specs.declared.algorithm.Algorithm.{Algorithm}
 use Rattle.verity_store.specs.declared.store.BlockStore as store
 use Rattle.verity_store.specs.Stores.{StaysStore}
 use Rattle.verity_store.proofs.BlockLemmas.{take_same}
-use Rattle.verity_superblock.specs.Superblock.{Params, Volume, salted}
-use Rattle.verity_superblock.specs.Image.{hash_image, hash_blocks, superblock_block, tree_of, start_behind}
-use Rattle.verity_superblock.specs.Line.{TableLine, algorithm_of}
+use Rattle.verity_superblock.specs.Superblock.{Params, salted}
+use Rattle.verity_superblock.specs.Image.{hash_image, superblock_block, tree_of, start_behind}
+use Rattle.verity_superblock.specs.Line.{TableLine}
 use Rattle.verity_superblock.proofs.LineReads.{algorithm_of-sized}
 use Rattle.verity_edit.specs.declared.command.Command.{Command}
 use Rattle.verity_edit.specs.declared.command.Reply.{Reply}
 use Rattle.verity_edit.specs.Edits.{unedited}
 use Rattle.verity_edit.specs.After.{State, After}
 use Rattle.verity_edit.specs.Planning.{volume_hashing}
-use Rattle.verity_edit.specs.Editing.{Editing, FitsStores, Stands, Stays, IsIn, IsWhole, edits_in, hashing_in}
+use Rattle.verity_edit.specs.Editing.{Editing, FitsStores, Stands, IsWhole, hashing_in}
 use Rattle.verity_edit.specs.Opening.{IsOpened}
 use Rattle.verity_edit.specs.Running.{AreAnswered, LeadsAll, IsUnfailed, is_commit}
 use Rattle.verity_check.specs.Table.{hashing_of, tree_len}
 use Rattle.verity_check.specs.Holds.{Holds}
 use Rattle.verity_check.specs.Verifier.{AreStoresOf}
 use Rattle.verity_promise.specs.declared.edited.Edited.{Edited}
-use Rattle.verity_promise.specs.Closing.{IsLine, IsClosed}
+use Rattle.verity_promise.specs.Closing.{IsLine}
 use Rattle.verity_promise.specs.Scratch.{IsFromScratch, IsEdited}
 
 -- what is said of a value follows
@@ -171,7 +170,7 @@ module _ {D H A C : Type 0} (data_facts : store.Ghosts D) (hash_facts : store.Gh
         let e' = ap (λ x. hash_facts.failures x) hash_is in
         runs.unfailed (omega (arith, a, b, e, data_same)) (omega (arith, a', b', e', hash_same)) opens.broken
 
-    pub from_scratch : IsFromScratch data_facts hash_facts opened.volume front d h (take count commands) runs.added left
+    pub from_scratch : IsFromScratch data_facts hash_facts d h offset opened.volume.params (take count commands) runs.added left
     from_scratch =
         let flag : leads.state.broken ≡ closed.broken = leads.is_in.broken in
         record {
@@ -187,9 +186,9 @@ module _ {D H A C : Type 0} (data_facts : store.Ghosts D) (hash_facts : store.Gh
           table = if_some left.table _ _ (λ t l. (
             flag ∙ l.0,
             subst (λ x. Holds t (data_facts.tells x) (data_facts.content x) (hash_facts.tells left.hash_store) (hash_facts.content left.hash_store) leads.state.edits.committed) (sym data_is)
-            (subst (λ x. Holds t (data_facts.tells closed.data_store) (data_facts.content closed.data_store) (hash_facts.tells x) (hash_facts.content x) leads.state.edits.committed) (sym hash_is)
-            (subst (λ image. Holds t (data_facts.tells closed.data_store) (data_facts.content closed.data_store) (hash_facts.tells closed.hash_store) (hash_facts.content closed.hash_store) image) (image_of l.0)
-            (holds_closed data_facts hash_facts closed start (fits l.0) (begins ∙ sym first) t l.1 still_data still_hash (stands l.0 still_data still_hash)))),
+                (subst (λ x. Holds t (data_facts.tells closed.data_store) (data_facts.content closed.data_store) (hash_facts.tells x) (hash_facts.content x) leads.state.edits.committed) (sym hash_is)
+                (subst (λ image. Holds t (data_facts.tells closed.data_store) (data_facts.content closed.data_store) (hash_facts.tells closed.hash_store) (hash_facts.content closed.hash_store) image) (image_of l.0)
+                (holds_closed data_facts hash_facts closed start (fits l.0) (begins ∙ sym first) t l.1 still_data still_hash (stands l.0 still_data still_hash)))),
           )) line;
         }
 
@@ -213,7 +212,7 @@ module _ {D H A C : Type 0} (data_facts : store.Ghosts D) (hash_facts : store.Gh
         data_stays = data_stays;
         hash_stays = hash_stays;
         unread = ap (λ x. data_facts.reads x) data_is ∙ runs.stays.data_reads;
-        front = λ q below. ap (λ x. get_or (hash_facts.content x) q []) hash_is ∙ runs.stays.front q (omega (arith, behind, below)) ∙ ap (λ x. get_or x q []) opens.hash_store.content;
+        stays_front = λ q below. ap (λ x. get_or (hash_facts.content x) q []) hash_is ∙ runs.stays.front q (omega (arith, behind, below)) ∙ ap (λ x. get_or x q []) opens.hash_store.content;
         fits = stores_fit;
-        scratch = λ data_told hash_told. subst (λ n. IsFromScratch data_facts hash_facts opened.volume front d h (take n commands) runs.added left) (sym runs.each) (from_scratch data_told hash_told);
+        scratch = λ data_told hash_told. subst (λ n. IsFromScratch data_facts hash_facts d h offset opened.volume.params (take n commands) runs.added left) (sym runs.each) (from_scratch data_told hash_told);
       }

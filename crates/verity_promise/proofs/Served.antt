@@ -1,8 +1,7 @@
 -- One client of an edited volume.
-use Rattle.std.proofs.Common.{◌≡◌, ◌*◌, ◌⊎◌, true, false, ℕ, Bool, List, [], refl, sym, ap, ◌∙◌, subst}
-use Rattle.std.specs.Prelude.{Result, Ok, Err, Option, Some, None, IfOk, IfErr, IfSome, is_err}
+use Rattle.std.proofs.Common.{◌≡◌, ◌*◌, ◌⊎◌, false, ℕ, List, refl, sym, ap, ◌∙◌, subst}
+use Rattle.std.specs.Prelude.{Result, Ok, Err, Some, None, IfOk, IfErr, IfSome, is_err}
 use Rattle.std.proofs.lemmas.Bool.{true≢false}
-use Rattle.nbd_session.specs.declared.offer.Offer.{Offer}
 use Rattle.nbd_hub.specs.declared.fault.ServeFault.{ServeFault}
 use Rattle.nbd_hub.specs.Sessions.{HubState}
 use Rattle.nbd_hub.specs.Stream.{Ends, ServedBy}
@@ -18,8 +17,9 @@ use Rattle.verity_promise.specs.declared.edited.Edited.{Edited}
 use Rattle.verity_promise.specs.declared.delivery.Unserved.{Unserved}
 use Rattle.verity_promise.specs.declared.delivery.Unserved.TheVariants as unserved
 use Rattle.verity_promise.specs.Scratch.{IsEdited}
+use Rattle.verity_promise.specs.Closing.{IsServed}
 use Rattle.verity_promise.specs.Answers.{IsMadeOver, offer_of}
-use Rattle.verity_promise.specs.Delivery.{IsServed, Delivers, ExplainsUnmade, ExplainsUnserved}
+use Rattle.verity_promise.specs.Delivery.{Delivers, ExplainsUnmade, ExplainsUnserved}
 use Rattle.verity_promise.proofs.Answered.{same_offer}
 
 -- what is said of a value follows
@@ -45,7 +45,7 @@ module _ {D H A : Type 0} (data_facts : store.Ghosts D) (hash_facts : store.Ghos
     offered : hub.0.offer ≡ offer_of t called
     offered = offer ∙ same_offer data_facts hash_facts t left.data_store left.hash_store v over called
 
-    pub served_by : IsServed data_facts hash_facts left called ends limit result
+    pub served_by : IsServed data_facts hash_facts called ends limit result left
     served_by = record {
       done = done;
       t = t;
@@ -64,11 +64,18 @@ module _ {D H A : Type 0} (data_facts : store.Ghosts D) (hash_facts : store.Ghos
   module _ {C : Type 0} (d : D) (h : H) (offset : ℕ) (commands : List (Command C)) (old_replies new_replies : List Reply)
       (edited : IsEdited data_facts hash_facts d h offset commands old_replies new_replies left) where
     -- what was committed is what is served
-    pub delivers : IsServed data_facts hash_facts left called ends limit result → Delivers data_facts hash_facts A d h offset commands old_replies new_replies called ends limit result
+    pub delivers : IsServed data_facts hash_facts called ends limit result left → Delivers data_facts hash_facts called ends limit result A d h offset commands old_replies new_replies
     delivers s = record {
       left = left;
       edited = edited;
-      served = s;
+      done = s.done;
+      t = s.t;
+      table = s.table;
+      made = s.old;
+      after = s.new;
+      over = s.over;
+      reads = s.reads;
+      right = s.right;
       exact = λ data_told hash_told.
           let e = edited.scratch data_told hash_told in
           let image : List (List ℕ) = e.state.edits.committed in
@@ -89,8 +96,8 @@ module _ {D H A : Type 0} (data_facts : store.Ghosts D) (hash_facts : store.Ghos
 module _ {D H A C : Type 0} (data_facts : store.Ghosts D) (hash_facts : store.Ghosts H) (left : Edited D H A) (called : List ℕ) (ends : Ends) (limit : ℕ)
     (d : D) (h : H) (offset : ℕ) (commands : List (Command C)) (old_replies new_replies : List Reply)
     (edited : IsEdited data_facts hash_facts d h offset commands old_replies new_replies left) (r : Result (Result (Unit {0}) ServeFault) (Unserved D H A)) where
-  pub all_delivered : IfOk r (λ served. IsServed data_facts hash_facts left called ends limit served)
-      → IfOk r (λ served. Delivers data_facts hash_facts A d h offset commands old_replies new_replies called ends limit served)
+  pub all_delivered : IfOk r (λ served. IsServed data_facts hash_facts called ends limit served left)
+      → IfOk r (λ served. Delivers data_facts hash_facts called ends limit served A d h offset commands old_replies new_replies)
   all_delivered s = if_ok r _ _ (λ served x. delivers data_facts hash_facts left called ends limit served d h offset commands old_replies new_replies edited x) s
 
   pub all_explained : IfErr r (ExplainsUnmade left) → IfErr r (ExplainsUnserved data_facts hash_facts d h offset commands old_replies new_replies)

@@ -1,5 +1,5 @@
 -- What clients are told, whatever two stores return. The facts of a store of the type S are S.BlockStore.
-use Rattle.std.specs.Prelude.{◌≡◌, ℕ, ◌*◌, ◌≤◌, List, [], ◌++◌, length}
+use Rattle.std.specs.Prelude.{◌≡◌, ℕ, ◌*◌, ◌⊎◌, List, [], ◌++◌, length}
 use Rattle.nbd_session.specs.declared.offer.Offer.{Offer}
 use Rattle.nbd_hub.specs.declared.events.Event.{Event}
 use Rattle.nbd_hub.specs.declared.events.HubReply.{HubReply}
@@ -17,34 +17,33 @@ use Rattle.verity_promise.specs.declared.answers.AnswerFault.TheVariants.{Check,
 abbrev pub offer_of : Table → (called : List ℕ) → Offer
 offer_of t called = record { name = called; size = t.data_blocks * t.data_block_size; block = t.data_block_size }
 
-module _ {D H : Type 0} (data_facts : store.Ghosts D) (hash_facts : store.Ghosts H) where
-  -- a verifier of the table line was made over these very stores: `failures` counts from then on
-  pub record IsMadeOver (t : Table) (d : D) (h : H) (v : Verifying D H) : Type 0 where
+module _ {D H : Type 0} (data_facts : store.Ghosts D) (hash_facts : store.Ghosts H) (t : Table) (d : D) (h : H) where
+  -- a verifier of the table line was made over these very stores, and counts what they give, and their failures, from then on
+  pub record IsMadeOver (v : Verifying D H) : Type 0 where
     pub table : v.table ≡ t
     pub data_store : v.data_store ≡ d
     pub hash_store : v.hash_store ≡ h
     pub data_mark : v.data_mark ≡ data_facts.failures d
     pub hash_mark : v.hash_mark ≡ hash_facts.failures h
+    pub since : v.since ≡ record { of_data = length (data_facts.given d); of_hash = length (hash_facts.given h) }
 
   -- Replies were added to the first of the events. For every image that fits the table line, after each of them the output of
   -- each session is the talk of its own input, by verdicts that are right for the image: its own bytes, unless a store, in a
   -- later state of the very one that was handed in, gave a block that clashes with the image's own; ENOMEM; or EIO, where such
   -- a store gave a wrong block in the range or has failed since.
-  pub record AreRightAnswers {A B : Type 0} (t : Table) (d : D) (h : H) (called : List ℕ) (events : List (Event B)) (old_replies new_replies : List (HubReply A)) : Type 0 where
+  pub record AreRightAnswers {A B : Type 0} (called : List ℕ) (events : List (Event B)) (old new : List (HubReply A)) : Type 0 where
     pub made : Verifying D H
     pub left : Verifying D H
-    pub over : IsMadeOver t d h made
+    pub over : IsMadeOver made
     pub reads : IsOnlyReading data_facts hash_facts made left
     pub added : List (HubReply A)
-    pub replies : new_replies ≡ old_replies ++ added
-    pub few : length added ≤ length events
-    pub right : (image : List (List ℕ)) → Fits t image → EachAfter (IsRightFor data_facts hash_facts left image) (offer_of t called) [] events added
+    pub replies : new ≡ old ++ added
+    pub right : (image : List (List ℕ)) → Fits t image
+        → EachAfter (IsRightFor data_facts hash_facts left image) (offer_of t called) [] events added
 
   -- No other fault is named. Where no verifier was made, nothing was done; where memory was refused for a reply, the events with
   -- a reply were done and no other.
-  abbrev pub ExplainsUnanswered : {A B : Type 0} → (t : Table) (d : D) (h : H) (called : List ℕ) (events : List (Event B)) (old_replies new_replies : List (HubReply A)) → AnswerFault → Type 0
-  ExplainsUnanswered t d h called events old new (Check check.Lengths) = new ≡ old
-  ExplainsUnanswered t d h called events old new (Check check.CacheSize) = new ≡ old
-  ExplainsUnanswered t d h called events old new (Check check.NoMemory) = new ≡ old
-  ExplainsUnanswered t d h called events old new (Check fault) = ⊥
-  ExplainsUnanswered t d h called events old new Memory = AreRightAnswers t d h called events old new
+  abbrev pub ExplainsUnanswered : {A B : Type 0} → List ℕ → List (Event B) → (old new : List (HubReply A)) → AnswerFault → Type 0
+  ExplainsUnanswered called events old new (Check fault) =
+      (new ≡ old) × ((fault ≡ check.Lengths) ⊎ (fault ≡ check.CacheSize) ⊎ (fault ≡ check.NoMemory))
+  ExplainsUnanswered called events old new Memory = AreRightAnswers called events old new

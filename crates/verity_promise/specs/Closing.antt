@@ -1,11 +1,19 @@
 -- What is known of an editor that was closed. The facts of a store of the type S are S.BlockStore.
-use Rattle.std.specs.Prelude.{◌≡◌, ℕ, true, false, List, length, IfSome, Result}
+use Rattle.std.specs.Prelude.{◌≡◌, ℕ, true, false, List, length, IfSome, Result, Some, Ok}
 use Rattle.std.specs.declared.alloc.AllocError.{AllocError}
 use Rattle.verity_profile.specs.Profile.{AllSized}
 use Rattle.verity_store.specs.declared.store.BlockStore as store
 use Rattle.verity_superblock.specs.Line.{TableLine, algorithm_of}
 use Rattle.verity_edit.specs.Editing.{Editing, FitsStores, Stands}
+use Rattle.nbd_hub.specs.declared.fault.ServeFault.{ServeFault}
+use Rattle.nbd_hub.specs.Stream.{Ends}
+use Rattle.verity_check.specs.Table.{Table}
+use Rattle.verity_check.specs.Right.{Fits}
+use Rattle.verity_check.specs.Verifier.{Verifying, IsOnlyReading}
+use Rattle.verity_hub.specs.Volume.{HoldsFor, SaysRight, SaysExact}
 use Rattle.verity_promise.specs.declared.edited.Edited.{Edited}
+use Rattle.verity_promise.specs.Answers.{IsMadeOver}
+use Rattle.verity_promise.specs.Delivery.{Serves}
 
 module _ {D H : Type 0} (data_facts : store.Ghosts D) (hash_facts : store.Ghosts H) where
   -- the table line has the sizes and the count of the stores, and these values
@@ -28,3 +36,19 @@ module _ {D H : Type 0} (data_facts : store.Ghosts D) (hash_facts : store.Ghosts
     pub table : IfSome left.table (λ t. (e.broken ≡ false) × IsLine e.data_store e.hash_store start e.root e.volume.params.salt t)
     pub fits : e.broken ≡ false → FitsStores data_facts hash_facts e
     pub stands : e.broken ≡ false → data_facts.tells e.data_store ≡ true → hash_facts.tells e.hash_store ≡ true → Stands data_facts hash_facts e
+
+module _ {D H : Type 0} (data_facts : store.Ghosts D) (hash_facts : store.Ghosts H) (called : List ℕ) (ends : Ends) (limit : ℕ)
+    (result : Result (Unit {0}) ServeFault) where
+  -- A stream was served under the table line of these stores: right for every image that fits the line, and exact where the
+  -- stores hold one.
+  pub record IsServed {A : Type 0} (left : Edited D H A) : Type 0 where
+    pub done : left.done ≡ Ok tt
+    pub t : Table
+    pub table : left.table ≡ Some t
+    pub old : Verifying D H
+    pub new : Verifying D H
+    pub over : IsMadeOver data_facts hash_facts t left.data_store left.hash_store old
+    pub reads : IsOnlyReading data_facts hash_facts old new
+    pub right : (image : List (List ℕ)) → Fits t image → Serves data_facts hash_facts called ends limit result t (SaysRight data_facts hash_facts new image)
+    pub exact : (image : List (List ℕ)) → HoldsFor data_facts hash_facts old image
+        → Serves data_facts hash_facts called ends limit result t (SaysExact data_facts hash_facts old new image)

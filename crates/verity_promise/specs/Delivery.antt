@@ -1,5 +1,6 @@
 -- What a client is served of an edited volume. The facts of a store of the type S are S.BlockStore.
-use Rattle.std.specs.Prelude.{◌≡◌, ◌≢◌, ◌⊎◌, true, ℕ, List, Result, Ok, Some, None}
+use Rattle.std.specs.Prelude.{◌≡◌, ◌≢◌, ◌⊎◌, true, ℕ, List, Option, Result, Ok, Some, None}
+use Rattle.nbd_session.specs.declared.offer.Offer.{Offer}
 use Rattle.nbd_hub.specs.declared.fault.ServeFault.{ServeFault}
 use Rattle.nbd_hub.specs.Stream.{Ends, ServedBy}
 use Rattle.verity_store.specs.declared.store.BlockStore as store
@@ -9,7 +10,7 @@ use Rattle.verity_check.specs.Table.{Table}
 use Rattle.verity_check.specs.Right.{Fits}
 use Rattle.verity_check.specs.Verifier.{Verifying, IsOnlyReading}
 use Rattle.verity_check.specs.declared.fault.CheckFault.TheVariants.{NoMemory}
-use Rattle.verity_hub.specs.Volume.{HoldsFor, SaysRight, SaysExact}
+use Rattle.verity_hub.specs.Volume.{SaysRight, SaysExact}
 use Rattle.verity_promise.specs.declared.edited.Edited.{Edited}
 use Rattle.verity_promise.specs.declared.delivery.Unserved.{Unserved}
 use Rattle.verity_promise.specs.declared.delivery.Unserved.TheVariants as unserved
@@ -22,35 +23,39 @@ ExplainsUnmade left (unserved.Opened r) = ⊥
 ExplainsUnmade left (unserved.Edited same) = (same ≡ left) × ((left.done ≢ Ok tt) ⊎ (left.table ≡ None))
 ExplainsUnmade left (unserved.Check fault) = fault ≡ NoMemory
 
-module _ {D H : Type 0} (data_facts : store.Ghosts D) (hash_facts : store.Ghosts H) where
-  -- A stream was served under the table line of these stores, with what every image that fits the line allows; and exactly
-  -- where the stores hold an image.
-  pub record IsServed {A : Type 0} (left : Edited D H A) (called : List ℕ) (ends : Ends) (limit : ℕ) (result : Result (Unit {0}) ServeFault) : Type 0 where
-    pub done : left.done ≡ Ok tt
-    pub t : Table
-    pub table : left.table ≡ Some t
-    pub old : Verifying D H
-    pub new : Verifying D H
-    pub over : IsMadeOver data_facts hash_facts t left.data_store left.hash_store old
-    pub reads : IsOnlyReading data_facts hash_facts old new
-    pub right : (image : List (List ℕ)) → Fits t image → ServedBy (SaysRight data_facts hash_facts new image (offer_of t called)) (offer_of t called) ends limit result
-    pub exact : (image : List (List ℕ)) → HoldsFor data_facts hash_facts old image → ServedBy (SaysExact data_facts hash_facts old new image (offer_of t called)) (offer_of t called) ends limit result
+-- what a reader has left and what a writer holds, before and after, where they tell
+abbrev pub ends_of : (reader reader' writer writer' : Option (List ℕ)) → Ends
+ends_of reader reader' writer writer' = record { reader = reader; reader' = reader'; writer = writer; writer' = writer' }
+
+module _ {D H : Type 0} (data_facts : store.Ghosts D) (hash_facts : store.Ghosts H) (called : List ℕ) (ends : Ends) (limit : ℕ)
+    (result : Result (Unit {0}) ServeFault) where
+  -- a stream was served the volume of a table line, where S holds of an input and what is said to it
+  abbrev pub Serves : Table → (S : Offer → (input said : List ℕ) → Type 0) → Type 0
+  Serves t S = ServedBy (S (offer_of t called)) (offer_of t called) ends limit result
 
   -- A volume was edited, and served by the very stores that were left. Where they tell, what was committed is what each READ
   -- carries: each verdict is its exact bytes, or want of memory, or an EIO for which a store failed.
-  pub record Delivers {C : Type 0} (A : Type 0) (d : D) (h : H) (offset : ℕ) (commands : List (Command C)) (old_replies new_replies : List Reply)
-      (called : List ℕ) (ends : Ends) (limit : ℕ) (result : Result (Unit {0}) ServeFault) : Type 0 where
+  pub record Delivers {C : Type 0} (A : Type 0) (d : D) (h : H) (offset : ℕ) (commands : List (Command C))
+      (old_replies new_replies : List Reply) : Type 0 where
     pub left : Edited D H A
     pub edited : IsEdited data_facts hash_facts d h offset commands old_replies new_replies left
-    pub served : IsServed left called ends limit result
+    pub done : left.done ≡ Ok tt
+    pub t : Table
+    pub table : left.table ≡ Some t
+    pub made : Verifying D H
+    pub after : Verifying D H
+    pub over : IsMadeOver data_facts hash_facts t left.data_store left.hash_store made
+    pub reads : IsOnlyReading data_facts hash_facts made after
+    pub right : (image : List (List ℕ)) → Fits t image → Serves t (SaysRight data_facts hash_facts after image)
     pub exact : (data_told : data_facts.tells d ≡ true) (hash_told : hash_facts.tells h ≡ true)
-        → ServedBy (SaysExact data_facts hash_facts served.old served.new (edited.scratch data_told hash_told).state.edits.committed (offer_of served.t called))
-        (offer_of served.t called) ends limit result
+        → Serves t (SaysExact data_facts hash_facts made after (edited.scratch data_told hash_told).state.edits.committed)
 
+module _ {D H C : Type 0} (data_facts : store.Ghosts D) (hash_facts : store.Ghosts H) (d : D) (h : H) (offset : ℕ)
+    (commands : List (Command C)) (old_replies new_replies : List Reply) where
   -- Why no client was served.
-  abbrev pub ExplainsUnserved : {A C : Type 0} → (d : D) (h : H) (offset : ℕ) (commands : List (Command C)) (old_replies new_replies : List Reply) → Unserved D H A → Type 0
-  ExplainsUnserved d h offset commands old new (unserved.Opened r) = IsRefused data_facts hash_facts d h offset r × (new ≡ old)
-  ExplainsUnserved d h offset commands old new (unserved.Edited left) =
-      IsEdited data_facts hash_facts d h offset commands old new left × ((left.done ≢ Ok tt) ⊎ (left.table ≡ None))
-  ExplainsUnserved {A = A} d h offset commands old new (unserved.Check fault) =
-      (fault ≡ NoMemory) × ((left : Edited D H A) × IsEdited data_facts hash_facts d h offset commands old new left)
+  abbrev pub ExplainsUnserved : {A : Type 0} → Unserved D H A → Type 0
+  ExplainsUnserved (unserved.Opened r) = IsRefused data_facts hash_facts d h offset r × (new_replies ≡ old_replies)
+  ExplainsUnserved (unserved.Edited left) =
+      IsEdited data_facts hash_facts d h offset commands old_replies new_replies left × ((left.done ≢ Ok tt) ⊎ (left.table ≡ None))
+  ExplainsUnserved {A = A} (unserved.Check fault) =
+      (fault ≡ NoMemory) × ((left : Edited D H A) × IsEdited data_facts hash_facts d h offset commands old_replies new_replies left)

@@ -4,7 +4,7 @@ use Rattle.std.specs.List.{concat, list_any}
 use Rattle.verity_digest.specs.Tree.{root}
 use Rattle.verity_store.specs.Stores.{IsOnlyRead, StaysStore}
 use Rattle.verity_store.specs.declared.store.BlockStore as store
-use Rattle.verity_superblock.specs.Superblock.{Volume}
+use Rattle.verity_superblock.specs.Superblock.{Params, Volume}
 use Rattle.verity_superblock.specs.Image.{hash_image}
 use Rattle.verity_edit.specs.declared.command.Command.{Command}
 use Rattle.verity_edit.specs.declared.command.Reply.{Reply}
@@ -18,22 +18,32 @@ use Rattle.verity_check.specs.Holds.{Holds}
 use Rattle.verity_check.specs.Verifier.{AreStoresOf}
 use Rattle.verity_promise.specs.declared.edited.Edited.{Edited}
 
-module _ {D H : Type 0} (data_facts : store.Ghosts D) (hash_facts : store.Ghosts H) where
-  -- From the content of the data store d on, the commands that were done led to this state with the replies that were added;
-  -- and what is left is made from scratch of its committed image. A state is broken where a commit was cut short.
-  pub record IsFromScratch {A C : Type 0} (volume : Volume) (front : List (List ℕ)) (d : D) (h : H) (done : List (Command C)) (added : List Reply) (left : Edited D H A) : Type 0 where
+module _ {D H : Type 0} (data_facts : store.Ghosts D) (hash_facts : store.Ghosts H) (d : D) (h : H) (offset : ℕ) where
+  -- the blocks in front of the superblock's
+  abbrev pub front : List (List ℕ)
+  front = take (offset / hash_facts.size h) (hash_facts.content h)
+
+  -- the volume as it was opened
+  abbrev pub begun : State
+  begun = record { edits = unedited (data_facts.content d); broken = false }
+
+  -- From there on the commands that were done led to this state with the replies that were added; and what is left is made from
+  -- scratch of its committed image. A state is broken where a commit was cut short.
+  pub record IsFromScratch {A C : Type 0} (p : Params) (done : List (Command C)) (added : List Reply) (left : Edited D H A) : Type 0 where
     pub state : State
-    pub after : After (volume_hashing volume.params) volume.params.data_block_size done added (record { edits = unedited (data_facts.content d); broken = false }) state
+    pub after : After (volume_hashing p) p.data_block_size done added begun state
     pub unfailed : data_facts.failures left.data_store ≡ data_facts.failures d → hash_facts.failures left.hash_store ≡ hash_facts.failures h
         → (state.broken ≡ false) × All IsUnfailed added
     pub image : state.broken ≡ false → data_facts.content left.data_store ≡ state.edits.committed
-    pub device : state.broken ≡ false → list_any is_commit added ≡ true → concat (hash_facts.content left.hash_store) ≡ hash_image volume.params state.edits.committed front
-    pub root : state.broken ≡ false → left.root ≡ root (volume_hashing volume.params) state.edits.committed
-    pub table : IfSome left.table (λ t. (state.broken ≡ false) × Holds t (data_facts.tells left.data_store) (data_facts.content left.data_store)
+    pub device : state.broken ≡ false → list_any is_commit added ≡ true
+        → concat (hash_facts.content left.hash_store) ≡ hash_image p state.edits.committed front
+    pub root : state.broken ≡ false → left.root ≡ root (volume_hashing p) state.edits.committed
+    pub table : IfSome left.table (λ t. (state.broken ≡ false)
+        × Holds t (data_facts.tells left.data_store) (data_facts.content left.data_store)
         (hash_facts.tells left.hash_store) (hash_facts.content left.hash_store) state.edits.committed)
 
   -- no volume was opened, for this fault, and both stores were only read
-  pub record IsRefused (d : D) (h : H) (offset : ℕ) (r : OpenRefused D H) : Type 0 where
+  pub record IsRefused (r : OpenRefused D H) : Type 0 where
     pub fault : ExplainsOpen (presented data_facts hash_facts d h offset) (data_facts.tells d ≡ true) (hash_facts.tells h ≡ true)
         (data_facts.failures d < data_facts.failures r.data_store) (hash_facts.failures h < hash_facts.failures r.hash_store) r.fault
     pub data_store : IsOnlyRead data_facts d r.data_store
@@ -41,11 +51,11 @@ module _ {D H : Type 0} (data_facts : store.Ghosts D) (hash_facts : store.Ghosts
 
   -- A volume at the offset was opened, edited and closed, and replies were added to the first of the commands. Over any stores no
   -- data block is read behind the opening, and the blocks in front stay; `scratch` is over stores that tell.
-  pub record IsEdited {A C : Type 0} (d : D) (h : H) (offset : ℕ) (commands : List (Command C)) (old_replies new_replies : List Reply) (left : Edited D H A) : Type 0 where
+  pub record IsEdited {A C : Type 0} (commands : List (Command C)) (old new : List Reply) (left : Edited D H A) : Type 0 where
     pub volume : Volume
     pub is_volume : hash_facts.tells h ≡ true → IsVolume (first_block_in (presented data_facts hash_facts d h offset)) volume
     pub added : List Reply
-    pub replies : new_replies ≡ old_replies ++ added
+    pub replies : new ≡ old ++ added
     pub few : length added ≤ length commands
     pub all : OnOk left.done (length added ≡ length commands)
     pub data_opened : D
@@ -55,7 +65,8 @@ module _ {D H : Type 0} (data_facts : store.Ghosts D) (hash_facts : store.Ghosts
     pub data_stays : StaysStore data_facts data_opened left.data_store
     pub hash_stays : StaysStore hash_facts hash_opened left.hash_store
     pub unread : data_facts.reads left.data_store ≡ data_facts.reads data_opened
-    pub front : (q : ℕ) → q < offset / hash_facts.size h → slice_index_or (hash_facts.content left.hash_store) q [] ≡ slice_index_or (hash_facts.content h) q []
+    pub stays_front : (q : ℕ) → q < offset / hash_facts.size h
+        → slice_index_or (hash_facts.content left.hash_store) q [] ≡ slice_index_or (hash_facts.content h) q []
     pub fits : IfSome left.table (λ t. AreStoresOf data_facts hash_facts t left.data_store left.hash_store)
     pub scratch : data_facts.tells d ≡ true → hash_facts.tells h ≡ true
-        → IsFromScratch volume (take (offset / hash_facts.size h) (hash_facts.content h)) d h (take (length added) commands) added left
+        → IsFromScratch volume.params (take (length added) commands) added left

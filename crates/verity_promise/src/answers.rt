@@ -27,21 +27,25 @@ pub enum AnswerFault {
 /// # Errors
 ///
 /// The first that applies: V1, V5, V4, as [`Verifier::new`]; `Memory`. The stores are dropped in the end.
-pub fn answer_events<D: BlockStore + Drop, H: BlockStore + Drop, A: Allocator + Copy + Drop, B: Allocator, C: Allocator>(
+pub fn answer_events<D: BlockStore + Drop, H: BlockStore + Drop, A: Allocator + Copy + Drop>(
     alloc: A,
     table: Table<A>,
     data_store: D,
     hash_store: H,
     cache: usize,
     name: ExportName,
-    events: &[Event<B>],
-    replies: &mut Vec<HubReply<A>, C>,
+    events: &[Event<A>],
+    replies: &mut Vec<HubReply<A>, A>,
 ) -> Result<(), AnswerFault>
-    ensures right { OnOk result (AreRightAnswers D.BlockStore H.BlockStore table data_store hash_store name events.now replies.old.items replies.new.items) }
+    ensures right { OnOk result (AreRightAnswers D.BlockStore H.BlockStore table data_store hash_store name events.now
+        replies.old.items replies.new.items) }
     ensures all { OnOk result (length replies.new.items ≡ length replies.old.items + length events.now) }
-    ensures lengths { IsErrOf result (AnswerFault.Check CheckFault.Lengths) ↔ ¬ (AreStoresOf D.BlockStore H.BlockStore table data_store hash_store) }
-    ensures cache_size { IsErrOf result (AnswerFault.Check CheckFault.CacheSize) ↔ (AreStoresOf D.BlockStore H.BlockStore table data_store hash_store × ¬ IsCacheSize cache) }
-    ensures refused { IfErr result (ExplainsUnanswered D.BlockStore H.BlockStore table data_store hash_store name events.now replies.old.items replies.new.items) }
+    ensures lengths { IsErrOf result (AnswerFault.Check CheckFault.Lengths) ↔ ¬ (AreStoresOf D.BlockStore H.BlockStore table
+        data_store hash_store) }
+    ensures cache_size { IsErrOf result (AnswerFault.Check CheckFault.CacheSize) ↔ (AreStoresOf D.BlockStore H.BlockStore table
+        data_store hash_store × ¬ IsCacheSize cache) }
+    ensures refused { IfErr result (ExplainsUnanswered D.BlockStore H.BlockStore table data_store hash_store name events.now
+        replies.old.items replies.new.items) }
 {
     let verifier = match Verifier::new(alloc, table, data_store, hash_store, cache) {
         Ok(verifier) => verifier,

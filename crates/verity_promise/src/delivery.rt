@@ -2,12 +2,13 @@
 
 ghost use Rattle.std.specs.Prelude.{◌≡◌, Ok, IfOk, IfErr, IfSome, OnErr, Some};
 ghost use Rattle.verity_check.specs.Verifier.{AreStoresOf};
-ghost use Rattle.verity_promise.specs.Delivery.{Delivers, ExplainsUnserved, ExplainsUnmade, IsServed};
+ghost use Rattle.verity_promise.specs.Delivery.{Delivers, ExplainsUnserved, ExplainsUnmade, ends_of};
+ghost use Rattle.verity_promise.specs.Closing.{IsServed};
 
 use crate::edited::Edited;
 use crate::scratch::edit_from_scratch;
 use nbd_session::ExportName;
-use std::alloc::Allocator;
+use std::alloc::{Allocator, Global};
 use std::io::{Read, Write};
 use verity_check::{CheckFault, Verifier};
 use verity_edit::{Command, OpenRefused, Reply};
@@ -19,7 +20,7 @@ const CACHE: usize = 1024;
 
 /// Why no client was served. Nothing was read from it or written to it.
 #[derive(Drop)]
-pub enum Unserved<D, H, A: Allocator> {
+pub enum Unserved<D, H, A: Allocator = Global> {
     /// The volume wasn't opened, and no command was done.
     Opened(OpenRefused<D, H>),
     /// Memory for a reply or for the table line was refused, or a commit was cut short.
@@ -33,29 +34,23 @@ pub enum Unserved<D, H, A: Allocator> {
 /// # Errors
 ///
 /// [`Unserved`], where no client was served; a [`ServeFault`] where one was and the stream was left before its end.
-pub fn edit_and_serve<
-    D: BlockStore + Drop,
-    H: BlockStore + Drop,
-    A: Allocator + Copy + Drop,
-    C: Allocator,
-    P: Allocator,
-    R: Read,
-    W: Write,
->(
-    alloc: A,
+pub fn edit_and_serve<D: BlockStore + Drop, H: BlockStore + Drop, R: Read, W: Write>(
+    alloc: Global,
     data_store: D,
     hash_store: H,
     offset: u64,
-    commands: &[Command<C>],
-    replies: &mut Vec<Reply, P>,
+    commands: &[Command],
+    replies: &mut Vec<Reply>,
     name: ExportName,
     reader: &mut R,
     writer: &mut W,
     limit: u64,
-) -> Result<Result<(), ServeFault>, Unserved<D, H, A>>
-    ensures delivers { IfOk result (λ served. Delivers D.BlockStore H.BlockStore A data_store hash_store offset commands.now replies.old.items replies.new.items name
-        (record { reader = R.remaining reader.old; reader' = R.remaining reader.new; writer = W.contents writer.old; writer' = W.contents writer.new }) limit served) }
-    ensures refused { IfErr result (ExplainsUnserved D.BlockStore H.BlockStore data_store hash_store offset commands.now replies.old.items replies.new.items) }
+) -> Result<Result<(), ServeFault>, Unserved<D, H>>
+    ensures delivers { IfOk result (λ served. Delivers D.BlockStore H.BlockStore name
+        (ends_of (R.remaining reader.old) (R.remaining reader.new) (W.contents writer.old) (W.contents writer.new)) limit served
+        Global data_store hash_store offset commands.now replies.old.items replies.new.items) }
+    ensures refused { IfErr result (ExplainsUnserved D.BlockStore H.BlockStore data_store hash_store offset commands.now
+        replies.old.items replies.new.items) }
     ensures unread { OnErr result (R.remaining reader.new ≡ R.remaining reader.old) }
     ensures unwritten { OnErr result (W.contents writer.new ≡ W.contents writer.old) }
 {
@@ -66,17 +61,17 @@ pub fn edit_and_serve<
 }
 
 // Serves one client over the stores of an edited volume.
-fn serve_edited<D: BlockStore + Drop, H: BlockStore + Drop, A: Allocator + Copy + Drop, R: Read, W: Write>(
-    alloc: A,
-    edited: Edited<D, H, A>,
+fn serve_edited<D: BlockStore + Drop, H: BlockStore + Drop, R: Read, W: Write>(
+    alloc: Global,
+    edited: Edited<D, H>,
     name: ExportName,
     reader: &mut R,
     writer: &mut W,
     limit: u64,
-) -> Result<Result<(), ServeFault>, Unserved<D, H, A>>
+) -> Result<Result<(), ServeFault>, Unserved<D, H>>
     requires { IfSome edited.table (λ t. AreStoresOf D.BlockStore H.BlockStore t edited.data_store edited.hash_store) }
-    ensures served { IfOk result (λ served. IsServed D.BlockStore H.BlockStore edited name
-        (record { reader = R.remaining reader.old; reader' = R.remaining reader.new; writer = W.contents writer.old; writer' = W.contents writer.new }) limit served) }
+    ensures served { IfOk result (λ served. IsServed D.BlockStore H.BlockStore name
+        (ends_of (R.remaining reader.old) (R.remaining reader.new) (W.contents writer.old) (W.contents writer.new)) limit served edited) }
     ensures refused { IfErr result (ExplainsUnmade edited) }
     ensures unread { OnErr result (R.remaining reader.new ≡ R.remaining reader.old) }
     ensures unwritten { OnErr result (W.contents writer.new ≡ W.contents writer.old) }

@@ -19,15 +19,16 @@ use verity_superblock::{Table, tree_start};
 /// # Errors
 ///
 /// The fault of [`Editor::open_at`], with both stores, which were only read; no command was done.
-pub fn edit_from_scratch<D: BlockStore, H: BlockStore, A: Allocator + Copy, C: Allocator, R: Allocator>(
+pub fn edit_from_scratch<D: BlockStore, H: BlockStore, A: Allocator + Copy>(
     alloc: A,
     data_store: D,
     hash_store: H,
     offset: u64,
-    commands: &[Command<C>],
-    replies: &mut Vec<Reply, R>,
+    commands: &[Command<A>],
+    replies: &mut Vec<Reply, A>,
 ) -> Result<Edited<D, H, A>, OpenRefused<D, H>>
-    ensures edited { IfOk result (IsEdited D.BlockStore H.BlockStore data_store hash_store offset commands.now replies.old.items replies.new.items) }
+    ensures edited { IfOk result (IsEdited D.BlockStore H.BlockStore data_store hash_store offset commands.now replies.old.items
+        replies.new.items) }
     ensures refused { IfErr result (IsRefused D.BlockStore H.BlockStore data_store hash_store offset) }
     ensures unsaid { OnErr result (replies.new.items ≡ replies.old.items) }
 {

@@ -19,6 +19,7 @@ returns-clause-served g c =
       hash_store = ap (λ x. x.hash_store) made;
       data_mark = ap (λ x. x.data_mark) made;
       hash_mark = ap (λ x. x.hash_mark) made;
+      since = ap (λ x. x.since) made;
     } in
     let hub : HubState × Verifying g.row.D.Denot g.row.H.Denot = c.new-hub.result in
     let hub' : HubState × Verifying g.row.D.Denot g.row.H.Denot = c.serve_stream.new.hub in

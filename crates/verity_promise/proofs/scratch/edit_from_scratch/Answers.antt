@@ -1,4 +1,4 @@
-use Rattle.std.proofs.Common.{◌≡◌, ◌∙◌, ◌+◌, ℕ, List, length, sym, ap, subst, arith}
+use Rattle.std.proofs.Common.{◌≡◌, subst, arith}
 use Rattle.verity_superblock.specs.Image.{CanBegin, start_behind}
 use Rattle.verity_edit.specs.Editing.{Editing}
 use Rattle.verity_edit.specs.Opening.{IsOpened}
