@@ -201,6 +201,36 @@ torn_over at new bytes fits =
       no_longer = omega (arith, long);
     }
 
+-- a write that may go past the end
+pub torn_written : (at : ℕ) (new bytes : List ℕ) → at ≤ length bytes → Torn at (length new) bytes (overwritten at new bytes)
+torn_written at new bytes fits =
+    let front : length (take at bytes) ≡ at = simp length-take (omega arith) in
+    let both : length (take at bytes ++ new) ≡ at + length new = simp length-append (omega (arith, front)) in
+    let behind = drop (at + length new) bytes in
+    let rest : length behind ≡ length bytes - (at + length new) = simp length-drop refl in
+    let long : length (overwritten at new bytes) ≡ at + (length new + (length bytes - (at + length new))) = simp length-append (omega (arith, front, rest)) in
+    record {
+      before = take_at (take at bytes) (new ++ behind) at front;
+      after = ap (λ (l : List ℕ). drop (at + length new) l) (sym (append_assoc (take at bytes) new behind)) ∙ drop_at (take at bytes ++ new) behind (at + length new) both;
+      no_shorter = omega (arith, long);
+      no_longer = omega (arith, long);
+    }
+
+-- a whole change of length
+pub stretched_whole : (n : ℕ) (b : List ℕ) → Stretched n b (with_length n b)
+stretched_whole n b =
+    let m = min (length b) n in
+    let long = length-with_length n b in
+    let l1 : length (take m (with_length n b)) ≡ m = simp length-take (omega (arith, long)) in
+    let l2 : length (take m b) ≡ m = simp length-take (omega arith) in
+    record {
+      front = ext_get_or 0 (take m (with_length n b)) (take m b) (l1 ∙ sym l2) (λ i h.
+          let low : i < m = omega (arith, h, l1) in
+          get_or-take m (with_length n b) i 0 low ∙ with_length_front n b i (omega (arith, low)) (omega (arith, low)) ∙ sym (get_or-take m b i 0 low));
+      no_shorter = omega (arith, long);
+      no_longer = omega (arith, long);
+    }
+
 torn_not : (at n : ℕ) (b : List ℕ) → Torn at n b b
 torn_not at n b = record { before = refl; after = refl; no_shorter = omega arith; no_longer = omega arith }
 

@@ -67,8 +67,10 @@ pub fn make<K: Disks, A: Allocator>(
     ensures failed { OnErr result (K.faults disks.old < K.faults disks.new) }
     ensures faults { K.faults disks.old ≤ K.faults disks.new }
 {
-    disks.set_len(device, side.keep())?;
-    disks.set_len(device, side.len())?;
+    let keep = side.keep();
+    let len = side.len();
+    disks.set_len(device, keep)?;
+    disks.set_len(device, len)?;
     change(disks, device, side)?;
     disks.sync(device)
 }

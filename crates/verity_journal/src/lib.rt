@@ -25,12 +25,18 @@ mod changing;
 mod disks;
 mod journal;
 pub mod laws;
+mod memory;
+mod past;
 mod plan;
 mod reading;
 mod recovering;
+mod tearing;
+mod three;
 
 pub use disks::{Device, DiskFault, Disks};
 pub use journal::{commit_through, spell};
+pub use memory::TearingDisks;
 pub use plan::{Change, Plan, Side};
 pub use reading::parse_journal;
 pub use recovering::{recover, start};
+pub use tearing::{Step, TearingDevice};
