@@ -1,9 +1,11 @@
 -- What the steps of making a side lead to.
 use Rattle.std.proofs.Common.{◌≡◌, ℕ, ◌<◌, ◌≤◌, List, [], length, get_or, sym, ap, ◌∙◌, subst}
+use Rattle.std.proofs.Common.{zero, suc, ◌∷◌, arith}
+use Rattle.std.specs.Prelude.{All}
 use Rattle.verity_store.specs.RawFile.{with_length}
 use Rattle.verity_journal.specs.declared.disks.Device.{Device}
 use Rattle.verity_journal.specs.Disks.{Contents, put, Torn, Stretched, Reached, Follows}
-use Rattle.verity_journal.specs.Plan.{Side, Amid, changed, made}
+use Rattle.verity_journal.specs.Plan.{Side, Amid, IsBelow, Fit, changed, made}
 use Rattle.verity_journal.proofs.Made.{amid_trans, amid_change, amid_stretched, amid_self}
 use Rattle.verity_journal.proofs.Moments.{reached_more, reached_self, put_here, put_twice}
 
@@ -46,3 +48,13 @@ made_seen side device old one two three first second third =
     let two_here : two device ≡ b = seen_here device _ one two second ∙ ap (λ (l : List ℕ). with_length side.len l) one_here in
     let two_is : two ≡ put device b old = second ∙ ap (λ (l : List ℕ). put device (with_length side.len l) one) one_here ∙ ap (λ (f : Contents). put device b f) first ∙ put_twice device b a old in
     third ∙ ap (λ (l : List ℕ). put device (changed side.changes l) two) two_here ∙ ap (λ (f : Contents). put device (changed side.changes b) f) two_is ∙ put_twice device (changed side.changes b) b old
+
+-- each of the changes, by its number
+pub fit_all : (len : ℕ) (changes : List (ℕ × List ℕ)) → All (IsBelow len) changes → Fit len changes
+fit_all len [] all = tt
+fit_all len (change ∷ changes) all = (all 0 (0, []) (omega arith), fit_all len changes (λ k d h. all (suc k) d (omega (arith, h))))
+
+pub all_fit : (len : ℕ) (changes : List (ℕ × List ℕ)) → Fit len changes → All (IsBelow len) changes
+all_fit len [] fit k d h = absurd (omega (arith, h))
+all_fit len (change ∷ changes) fit zero d h = fit.0
+all_fit len (change ∷ changes) fit (suc k) d h = all_fit len changes fit.1 k d (omega (arith, h))

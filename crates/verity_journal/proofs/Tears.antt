@@ -1,13 +1,13 @@
 -- That what three devices in memory do is what is asked of `Disks`.
-use Rattle.std.proofs.Common.{◌≡◌, ◌⊎◌, inl, inr, ⊎_elim, refl, ℕ, suc, ◌+◌, ◌≤◌, ◌<◌, Bool, true, false, List, [], ◌∷◌, ◌++◌, length, take, drop, sym, ap, ◌∙◌, subst, arith}
+use Rattle.std.proofs.Common.{◌≡◌, ◌⊎◌, inl, inr, ⊎_elim, refl, ℕ, ◌+◌, ◌≤◌, List, [], ◌∷◌, ◌++◌, length, take, drop, sym, ap, ◌∙◌, subst, arith}
 use Rattle.std.proofs.lemmas.List.{append_assoc, drop_all}
 use Rattle.std.proofs.Common.{append-nil, ◌-◌}
-use Rattle.verity_store.specs.RawFile.{overwritten, with_length}
+use Rattle.verity_store.specs.RawFile.{overwritten}
 use Rattle.verity_journal.specs.declared.disks.Device.{Device}
 use Rattle.verity_journal.specs.declared.disks.Device.TheVariants.{Data, Hash, Journal}
-use Rattle.verity_journal.specs.Disks.{Contents, put, Torn, Stretched, Reached, Follows, Stays, Only, Elapses}
+use Rattle.verity_journal.specs.Disks.{Contents, put, Stretched, Follows, Stays, Only, Elapses}
 use Rattle.verity_journal.specs.Tearing.{Step, Kept, Three, applied, InPart, replay, read_of, InParts, MayLeave, kept_of, with_kept, stepped, kept_whole, all_read, AllMayLeave, MightHaveLeft}
-use Rattle.verity_journal.proofs.Moments.{put_self, reached_self, torn_self}
+use Rattle.verity_journal.proofs.Moments.{put_self, reached_self}
 
 -- a call, before which the moment was kept
 pub time_goes : (old new : Three) (past past' : List Three) → past' ≡ old ∷ past

@@ -1,5 +1,5 @@
 -- Since the present moment there is no other.
-use Rattle.std.proofs.Common.{◌⊎◌, inl, inr, ℕ, ◌+◌, ◌≤◌, ◌<◌, List, [], ◌∷◌, length, arith}
+use Rattle.std.proofs.Common.{◌⊎◌, inl, inr, ℕ, ◌<◌, List, [], ◌∷◌, length, arith}
 use Rattle.verity_journal.specs.Disks.{Contents}
 use Rattle.verity_journal.specs.Tearing.{Three, MightHaveLeft}
 

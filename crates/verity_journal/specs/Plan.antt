@@ -23,6 +23,10 @@ changed (change ∷ changes) bytes = changed changes (overwritten change.0 chang
 abbrev pub made : Side → List ℕ → List ℕ
 made side bytes = changed side.changes (with_length side.len (with_length side.keep bytes))
 
+-- a change lies below this length
+abbrev pub IsBelow : ℕ → ℕ × List ℕ → Type 0
+IsBelow len change = change.0 + length change.1 ≤ len
+
 -- each change lies below this length
 abbrev pub Fit : ℕ → List (ℕ × List ℕ) → Type 0
 Fit len [] = ⊤

@@ -1,5 +1,5 @@
 -- Three devices in memory that tear: what is on each, what was done since its last sync, and what a stop may leave.
-use Rattle.std.specs.Prelude.{◌≡◌, ◌⊎◌, ℕ, ◌+◌, ◌≤◌, Bool, true, false, List, [], ◌∷◌, ◌++◌, length}
+use Rattle.std.specs.Prelude.{◌≡◌, ◌⊎◌, ℕ, ◌≤◌, Bool, true, false, List, [], ◌∷◌, ◌++◌, length}
 use Rattle.verity_store.specs.RawFile.{overwritten, with_length}
 use Rattle.verity_journal.specs.Disks.{Contents, Torn, Stretched}
 use Rattle.verity_journal.specs.declared.disks.Device.{Device}

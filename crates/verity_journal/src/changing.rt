@@ -18,7 +18,8 @@ pub fn write_synced<K: Disks>(
     ensures written { OnOk result (K.seen disks.new ≡ put device (overwritten at bytes.now (K.seen disks.old device)) (K.seen disks.old)) }
     ensures durable { OnOk result (Only device (K.seen disks.new) (K.may_leave disks.new)) }
     ensures crash { Follows device (Torn at (length bytes.now)) (K.may_leave disks.old) (K.may_leave disks.new) }
-    ensures any_moment { LeavesOnly K.moment K.left_since disks.old disks.new (Reached device (Torn at (length bytes.now)) (K.may_leave disks.old)) }
+    ensures any_moment { LeavesOnly K.moment K.left_since disks.old disks.new
+        (Reached device (Torn at (length bytes.now)) (K.may_leave disks.old)) }
     ensures error { IfErr result (λ e. e ≡ DiskFault.Device) }
     ensures failed { OnErr result (K.faults disks.old < K.faults disks.new) }
     ensures faults { K.faults disks.old ≤ K.faults disks.new }

@@ -1,5 +1,6 @@
 //! What a commit is to change: for each device what is kept of it, its new length, and the changes.
-ghost use Rattle.std.specs.Prelude.{◌≡◌, ℕ, List};
+ghost use Rattle.std.specs.Prelude.{◌≡◌, ◌≤◌, ◌↔◌, ℕ, List, IsTrue};
+ghost use Rattle.verity_journal.specs.Plan.{IsBelow, IsSide, IsSmall};
 
 use std::alloc::{Allocator, Global};
 use std::marker::Model;
@@ -30,6 +31,14 @@ impl<A: Allocator> Change<A> {
         ensures { result ≡ self.now.0 }
     {
         self.at
+    }
+
+    // Whether it lies below this length.
+    fn is_below(&self, len: u64) -> bool
+        ensures { IsTrue result ↔ IsBelow len self.now }
+    {
+        let size = self.bytes.len() as u64;
+        size <= len && self.at <= len - size
     }
 
     /// The bytes.
@@ -78,6 +87,18 @@ impl<A: Allocator> Side<A> {
         self.len
     }
 
+    // Whether no more is kept than the length, and the changes lie below it.
+    #[tactic(auto, using(crate::proofs::Sides::fit_all, crate::proofs::Sides::all_fit))]
+    fn fits(&self) -> bool
+        ensures fits { IsTrue result ↔ IsSide self.now }
+        ensures small { IsSmall self.now }
+    {
+        let keep = self.keep;
+        let len = self.len;
+        let changes = &self.changes;
+        keep <= len && changes.iter().all(|change| change.is_below(len))
+    }
+
     /// The changes.
     pub fn changes(&self) -> &[Change<A>]
         ensures { result.now ≡ self.now.changes }
@@ -124,5 +145,17 @@ impl<A: Allocator> Plan<A> {
         ensures { result.now ≡ self.now.on_hash }
     {
         &self.hash
+    }
+
+    /// Whether it is a plan for devices of these lengths: they have what is kept of them, no more is kept than the new length,
+    /// and the changes lie below it. It takes time for each change.
+    pub fn suits(&self, data_len: u64, hash_len: u64) -> bool
+        ensures suits { IsTrue result ↔ (IsSide self.now.on_data × IsSide self.now.on_hash
+            × (self.now.on_data.keep ≤ data_len) × (self.now.on_hash.keep ≤ hash_len)) }
+        ensures small { IsSmall self.now.on_data × IsSmall self.now.on_hash }
+    {
+        let data_fits = self.data.fits();
+        let hash_fits = self.hash.fits();
+        data_fits && hash_fits && self.data.keep <= data_len && self.hash.keep <= hash_len
     }
 }

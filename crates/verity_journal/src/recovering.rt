@@ -19,7 +19,8 @@ fn read_all<K: Disks, A: Allocator + Copy>(
     ensures bytes { IfOk result (λ bytes. bytes.items ≡ K.seen disks.old device) }
     ensures seen { K.seen disks.new ≡ K.seen disks.old }
     ensures crash { Stays (K.may_leave disks.old) (K.may_leave disks.new) }
-    ensures time { Elapses (K.moment disks.old) (K.moment disks.new) (K.left_since disks.old) (K.left_since disks.new) (K.may_leave disks.new) }
+    ensures time { Elapses (K.moment disks.old) (K.moment disks.new)
+        (K.left_since disks.old) (K.left_since disks.new) (K.may_leave disks.new) }
     ensures failed { result ≡ Err DiskFault.Device → K.faults disks.old < K.faults disks.new }
     ensures own { result ≢ Err DiskFault.Foreign }
     ensures faults { K.faults disks.old ≤ K.faults disks.new }

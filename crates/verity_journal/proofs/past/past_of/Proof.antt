@@ -1,5 +1,5 @@
 -- `past_of` makes a value of no bytes, of any moments.
-use Rattle.std.proofs.Common.{ℕ, List}
+use Rattle.std.proofs.Common.{List}
 use Rattle.verity_journal.specs.Tearing.{Three}
 use mathlib.Core.Path.{refl}
 use mathlib.Core.List.{[], ◌∷◌}

@@ -1,8 +1,7 @@
-use Rattle.std.proofs.Common.{rules, ◌≡◌, length}
-use Rattle.verity_journal.specs.Disks.{Torn, Stretched}
-use Rattle.verity_journal.specs.Tearing.{Three, written, resized, kept_of, with_kept, stepped}
-use Rattle.verity_journal.proofs.Made.{torn_written, stretched_whole}
-use Rattle.verity_journal.proofs.Moments.{torn_self}
+use Rattle.std.proofs.Common.{rules, ◌≡◌}
+use Rattle.verity_journal.specs.Disks.{Stretched}
+use Rattle.verity_journal.specs.Tearing.{resized, kept_of, with_kept, stepped}
+use Rattle.verity_journal.proofs.Made.{stretched_whole}
 use Rattle.verity_journal.proofs.Tears.{step_crash, step_seen, still_crash, stretched_self}
 use Rattle.verity_journal.proofs.memory.TearingDisksDisks.set_len.Goals as goal
 

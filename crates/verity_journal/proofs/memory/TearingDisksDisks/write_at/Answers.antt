@@ -1,9 +1,9 @@
 use Rattle.std.proofs.Common.{rules, ◌≡◌, length}
-use Rattle.verity_journal.specs.Disks.{Torn, Stretched}
-use Rattle.verity_journal.specs.Tearing.{Three, written, resized, kept_of, with_kept, stepped}
-use Rattle.verity_journal.proofs.Made.{torn_written, stretched_whole}
+use Rattle.verity_journal.specs.Disks.{Torn}
+use Rattle.verity_journal.specs.Tearing.{written, kept_of, with_kept, stepped}
+use Rattle.verity_journal.proofs.Made.{torn_written}
 use Rattle.verity_journal.proofs.Moments.{torn_self}
-use Rattle.verity_journal.proofs.Tears.{step_crash, step_seen, still_crash, stretched_self}
+use Rattle.verity_journal.proofs.Tears.{step_crash, step_seen, still_crash}
 use Rattle.verity_journal.proofs.memory.TearingDisksDisks.write_at.Goals as goal
 
 pub returns-then-is_ok-clause-written : goal.returns-then-is_ok-clause-written

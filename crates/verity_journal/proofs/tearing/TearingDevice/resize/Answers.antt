@@ -1,6 +1,6 @@
-use Rattle.std.proofs.Common.{rules, ◌≡◌, ◌++◌, [], ◌∷◌, List}
+use Rattle.std.proofs.Common.{rules, ◌≡◌, ◌++◌, [], ◌∷◌}
 use Rattle.verity_store.specs.RawFile.{with_length}
-use Rattle.verity_journal.specs.Tearing.{Step, resized}
+use Rattle.verity_journal.specs.Tearing.{resized}
 use Rattle.verity_journal.proofs.Tears.{reads_on}
 use Rattle.verity_journal.proofs.tearing.TearingDevice.resize.Goals as goal
 

@@ -1,6 +1,6 @@
-use Rattle.std.proofs.Common.{rules, ◌≡◌, ◌++◌, [], ◌∷◌, List}
+use Rattle.std.proofs.Common.{rules, ◌≡◌, ◌++◌, [], ◌∷◌}
 use Rattle.verity_store.specs.RawFile.{overwritten}
-use Rattle.verity_journal.specs.Tearing.{Step, written}
+use Rattle.verity_journal.specs.Tearing.{written}
 use Rattle.verity_journal.proofs.Tears.{reads_on}
 use Rattle.verity_journal.proofs.tearing.TearingDevice.write.Goals as goal
 
