@@ -11,9 +11,8 @@ use std::alloc::{AllocError, Allocator, Global};
 use verity_count::Count;
 
 /// Three devices in memory that tear: of what isn't synced a stop may leave anything, as the clauses of [`Disks`] have it. They
-/// end after a number of calls, or where memory is refused: from then on each call that may fail fails and changes nothing, as
-/// when a process is killed. It keeps all that was done since each device's last sync, so that a test can list what a stop
-/// leaves.
+/// end after a number of calls: from then on each call that may fail fails, as when a process is killed. A call fails too where
+/// memory is refused. They keep all that was done since each device's last sync, so that a test can list what a stop leaves.
 #[derive(Drop)]
 pub struct TearingDisks<A: Allocator = Global> {
     alloc: A,
