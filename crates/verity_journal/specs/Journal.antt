@@ -1,0 +1,132 @@
+-- What a journal's bytes say: a gate, and behind it a plan. Numbers are of eight bytes, the lowest first.
+use Rattle.std.specs.Prelude.{◌≡◌, ◌≢◌, ◌⊎◌, ℕ, zero, suc, ◌+◌, ◌<◌, ◌≤◌, List, [], ◌∷◌, ◌++◌, length, take, drop}
+use Rattle.std.specs.Prelude.{nat_le, ◌==◌, if◌then◌else◌, Option, None, Some}
+use Rattle.std.specs.Int.{w64, to_le_bytes, from_le_bytes}
+use Rattle.verity_journal.specs.Disks.{Contents, IsDurable}
+use Rattle.verity_journal.specs.Plan.{Side, Plan, made, IsSide}
+use Rattle.verity_journal.specs.declared.disks.Device.TheVariants.{Data, Hash, Journal}
+
+unfoldable pub number : ℕ → List ℕ
+number n = to_le_bytes w64 n
+
+-- a change is its place, how many bytes it has, and these
+abbrev pub spelled_change : ℕ × List ℕ → List ℕ
+spelled_change change = number change.0 ++ (number (length change.1) ++ change.1)
+
+abbrev pub spelled_changes : List (ℕ × List ℕ) → List ℕ
+spelled_changes [] = []
+spelled_changes (change ∷ changes) = spelled_change change ++ spelled_changes changes
+
+-- a side is how many bytes are kept, the length, how many changes there are, and these
+abbrev pub spelled_side : Side → List ℕ
+spelled_side side = number side.keep ++ (number side.len ++ (number (length side.changes) ++ spelled_changes side.changes))
+
+abbrev pub spelled : Plan → List ℕ
+spelled plan = spelled_side plan.on_data ++ spelled_side plan.on_hash
+
+-- a number, and what stands behind it
+abbrev pub read_number : List ℕ → Option (ℕ × List ℕ)
+read_number bytes = if nat_le 8 (length bytes) then Some (from_le_bytes w64 (take 8 bytes), drop 8 bytes) else None
+
+-- so many bytes, and what stands behind them
+abbrev pub read_bytes : ℕ → List ℕ → Option (List ℕ × List ℕ)
+read_bytes n bytes = if nat_le n (length bytes) then Some (take n bytes, drop n bytes) else None
+
+abbrev pub and_then : {A B : Type 0} → Option A → (A → Option B) → Option B
+and_then None f = None
+and_then (Some a) f = f a
+
+-- a change that lies below a length, and what stands behind it
+abbrev pub read_change : ℕ → List ℕ → Option ((ℕ × List ℕ) × List ℕ)
+read_change len bytes =
+    and_then (read_number bytes) (λ at. and_then (read_number at.1) (λ size. and_then (read_bytes size.0 size.1) (λ new.
+    if nat_le (at.0 + size.0) len then Some ((at.0, new.0), new.1) else None)))
+
+-- so many of them, and what stands behind them
+abbrev pub read_changes : ℕ → ℕ → List ℕ → Option (List (ℕ × List ℕ) × List ℕ)
+read_changes len zero bytes = Some ([], bytes)
+read_changes len (suc count) bytes =
+    and_then (read_change len bytes) (λ first. and_then (read_changes len count first.1) (λ rest.
+    Some (first.0 ∷ rest.0, rest.1)))
+
+abbrev pub read_side : List ℕ → Option (Side × List ℕ)
+read_side bytes =
+    and_then (read_number bytes) (λ keep. and_then (read_number keep.1) (λ len. and_then (read_number len.1) (λ count.
+    if nat_le keep.0 len.0 then and_then (read_changes len.0 count.0 count.1) (λ changes.
+    Some (record { keep = keep.0; len = len.0; changes = changes.0 }, changes.1)) else None)))
+
+-- the plan that bytes begin with
+abbrev pub read_plan : List ℕ → Option Plan
+read_plan bytes = and_then (read_side bytes) (λ d. and_then (read_side d.1) (λ h. Some (record { on_data = d.0; on_hash = h.0 })))
+
+-- the plan of a journal, where its gate is open, which is any byte but 0, and a whole one stands behind it
+abbrev pub plan_of : List ℕ → Option Plan
+plan_of [] = None
+plan_of (gate ∷ rest) = if gate == 0 then None else read_plan rest
+
+-- the data and the hash device
+abbrev pub Pair : Type 0
+Pair = List ℕ × List ℕ
+
+-- what a plan makes of both
+abbrev pub made_pair : Plan → Pair → Pair
+made_pair plan pair = (made plan.on_data pair.0, made plan.on_hash pair.1)
+
+abbrev pub under : Option Plan → Pair → Pair
+under None pair = pair
+under (Some plan) pair = made_pair plan pair
+
+-- what recovery makes of both: the changes of an open journal, and nothing where it is closed
+abbrev pub recovered : List ℕ → Pair → Pair
+recovered journal pair = under (plan_of journal) pair
+
+-- the data and the hash device of three
+abbrev pub pair_of : Contents → Pair
+pair_of contents = (contents Data, contents Hash)
+
+-- what recovery makes of three devices
+abbrev pub volume : Contents → Pair
+volume contents = recovered (contents Journal) (pair_of contents)
+
+-- a closed gate stands first
+abbrev pub IsClosed : List ℕ → Type 0
+IsClosed journal = (rest : List ℕ) × (journal ≡ 0 ∷ rest)
+
+-- a gate stands first, and behind it this plan
+abbrev pub IsGated : Plan → List ℕ → Type 0
+IsGated plan journal = (gate : ℕ) × (rest : List ℕ) × (journal ≡ gate ∷ rest) × (read_plan rest ≡ Some plan)
+
+-- and the gate is open
+abbrev pub IsOpen : Plan → List ℕ → Type 0
+IsOpen plan journal = (gate : ℕ) × (rest : List ℕ) × (journal ≡ gate ∷ rest) × (read_plan rest ≡ Some plan) × (gate ≢ 0)
+
+-- a plan stands behind an open gate, and a device has fewer bytes than it keeps: it was made for other devices
+abbrev pub IsForeign : Contents → Type 0
+IsForeign contents =
+    (plan : Plan) × (plan_of (contents Journal) ≡ Some plan)
+    × ((length (contents Data) < plan.on_data.keep) ⊎ (length (contents Hash) < plan.on_hash.keep))
+
+-- no commit is under way: all is on the devices, and the gate is closed
+pub record IsSettled (seen : Contents) (may_leave : Contents → Type 0) : Type 0 where
+  pub durable : IsDurable seen may_leave
+  pub closed : IsClosed (seen Journal)
+
+-- a plan is under way: all is on the devices, and it stands behind an open gate
+pub record IsReady (plan : Plan) (seen : Contents) (may_leave : Contents → Type 0) : Type 0 where
+  pub durable : IsDurable seen may_leave
+  pub opened : IsOpen plan (seen Journal)
+
+-- the volume as it was or as it is to be
+abbrev pub IsOldOrNew : Plan → Pair → Contents → Type 0
+IsOldOrNew plan old contents = (volume contents ≡ old) ⊎ (volume contents ≡ made_pair plan old)
+
+-- the volume as it is to be
+abbrev pub IsNew : Plan → Pair → Contents → Type 0
+IsNew plan old contents = volume contents ≡ made_pair plan old
+
+-- both sides fit, and leave what they keep
+pub record Suits (plan : Plan) (pair : Pair) : Type 0 where
+  pub on_data : IsSide plan.on_data
+  pub on_hash : IsSide plan.on_hash
+  pub data_kept : plan.on_data.keep ≤ length pair.0
+  pub hash_kept : plan.on_hash.keep ≤ length pair.1

@@ -1,0 +1,42 @@
+//! A journal for the commits of a volume, so that a stop in the middle of one leaves a volume and not a ruin.
+//!
+//! A commit changes two devices, the data and the hash device, in many writes. A third device, the journal, gets all of them
+//! first: [`commit_through`] writes the plan behind a closed gate, opens the gate, makes the changes, and closes it. After a
+//! stop [`start`] makes again what an open gate's plan says, and does nothing where the gate is closed.
+//!
+//! # The contract
+//!
+//! `specs/Disks.antt` says what a stop may leave of three devices under one clock: each write that wasn't synced may be
+//! there, or not, or torn at any byte, and each change of length may be there in part. Over every such [`Disks`]: a stop at any
+//! moment of [`commit_through`] leaves devices that stand for the volume from before the call, or for the one with all
+//! changes, byte for byte (`IsOldOrNew`), and after `Ok` for the latter (`made`). A stop at any moment of [`recover`] changes
+//! nothing of that, so it may be stopped any number of times. `specs/Journal.antt` has the journal's bytes and what they stand
+//! for (`volume`), `specs/Plan.antt` what a plan makes of a device.
+//!
+//! Nothing is said of files of the system: that a `Disks` over them meets these clauses is for whoever writes one.
+//!
+//! # Errors
+//!
+//! [`DiskFault`]: a device failed; there was too little memory, and nothing was changed; the journal isn't of this volume, and
+//! nothing was changed. After a failed device, [`start`] again.
+#![tactic(auto)]
+
+mod changing;
+mod disks;
+mod journal;
+pub mod laws;
+mod memory;
+mod past;
+mod plan;
+mod reading;
+mod recovering;
+mod tearing;
+mod three;
+
+pub use disks::{Device, DiskFault, Disks};
+pub use journal::{commit_through, spell};
+pub use memory::TearingDisks;
+pub use plan::{Change, Plan, Side};
+pub use reading::parse_journal;
+pub use recovering::{recover, start};
+pub use tearing::{Step, TearingDevice};

@@ -1,0 +1,123 @@
+//! Recovery: what an open journal says is made again.
+ghost use Rattle.std.specs.Prelude.{◌≡◌, ◌≢◌, ◌⊎◌, ◌≤◌, ◌<◌, List, ℕ, [], ◌∷◌, length, Some, None, Err, OnOk, OnErr, IfOk, IfErr};
+ghost use Rattle.verity_journal.specs.declared.disks.Device.TheVariants.{Data, Hash, Journal};
+ghost use Rattle.verity_journal.specs.Disks.{Contents, put, Only, Stays, Elapses, LeavesOnly, IsDurable};
+ghost use Rattle.verity_journal.specs.Journal.{plan_of, IsSettled, IsForeign, pair_of, volume};
+
+use crate::changing::write_synced;
+use crate::journal::carry_out;
+use crate::reading::parse_journal;
+use crate::{Device, DiskFault, Disks, Plan};
+use std::alloc::{AllocError, Allocator};
+
+/// All bytes of a device.
+fn read_all<K: Disks, A: Allocator + Copy>(
+    alloc: A,
+    disks: &mut K,
+    device: Device,
+) -> Result<Vec<u8, A>, DiskFault>
+    ensures bytes { IfOk result (λ bytes. bytes.items ≡ K.seen disks.old device) }
+    ensures seen { K.seen disks.new ≡ K.seen disks.old }
+    ensures crash { Stays (K.may_leave disks.old) (K.may_leave disks.new) }
+    ensures time { Elapses (K.moment disks.old) (K.moment disks.new)
+        (K.left_since disks.old) (K.left_since disks.new) (K.may_leave disks.new) }
+    ensures failed { result ≡ Err DiskFault.Device → K.faults disks.old < K.faults disks.new }
+    ensures own { result ≢ Err DiskFault.Foreign }
+    ensures faults { K.faults disks.old ≤ K.faults disks.new }
+{
+    let len = disks.len(device);
+    let Ok(mut bytes) = vec![in alloc; 0; len as usize] else {
+        return Err(DiskFault::NoMemory);
+    };
+    disks.read_at(device, 0, &mut bytes)?;
+    Ok(bytes)
+}
+
+/// Closes a gate behind which no plan stands.
+fn shut<K: Disks>(disks: &mut K, journal: &[u8]) -> Result<(), DiskFault>
+    requires durable { IsDurable (K.seen disks.old) (K.may_leave disks.old) }
+    requires journal { journal.now ≡ K.seen disks.old Journal }
+    requires none { plan_of (K.seen disks.old Journal) ≡ None }
+    ensures volume { OnOk result (pair_of (K.seen disks.new) ≡ volume (K.seen disks.old)) }
+    ensures settled { OnOk result (IsSettled (K.seen disks.new) (K.may_leave disks.new)) }
+    ensures any_moment { LeavesOnly K.moment K.left_since disks.old disks.new (λ c. volume c ≡ volume (K.seen disks.old)) }
+    ensures error { IfErr result (λ e. e ≡ DiskFault.Device) }
+    ensures failed { OnErr result (K.faults disks.old < K.faults disks.new) }
+    ensures faults { K.faults disks.old ≤ K.faults disks.new }
+{
+    // A gate that is closed stays untouched: a write that is cut short might open it.
+    if let [0, ..] = journal {
+        return Ok(());
+    }
+    write_synced(disks, Device::Journal, 0, &[0])?;
+    Ok(())
+}
+
+/// Makes the changes of an open journal again.
+fn redo<K: Disks, A: Allocator>(disks: &mut K, plan: &Plan<A>) -> Result<(), DiskFault>
+    requires durable { IsDurable (K.seen disks.old) (K.may_leave disks.old) }
+    requires plan { plan_of (K.seen disks.old Journal) ≡ Some plan.now }
+    requires data_kept { plan.now.on_data.keep ≤ length (K.seen disks.old Data) }
+    requires hash_kept { plan.now.on_hash.keep ≤ length (K.seen disks.old Hash) }
+    ensures volume { OnOk result (pair_of (K.seen disks.new) ≡ volume (K.seen disks.old)) }
+    ensures settled { OnOk result (IsSettled (K.seen disks.new) (K.may_leave disks.new)) }
+    ensures any_moment { LeavesOnly K.moment K.left_since disks.old disks.new (λ c. volume c ≡ volume (K.seen disks.old)) }
+    ensures error { IfErr result (λ e. e ≡ DiskFault.Device) }
+    ensures failed { OnErr result (K.faults disks.old < K.faults disks.new) }
+    ensures faults { K.faults disks.old ≤ K.faults disks.new }
+{
+    carry_out(disks, plan)?;
+    Ok(())
+}
+
+/// Makes the volume that three devices stand for after a stop, and closes the journal. It may be stopped too: at any moment
+/// the devices stand for the same volume.
+///
+/// Where the gate is closed it only reads the journal. It takes as much memory as the journal's bytes, twice. With too little,
+/// or where a device is shorter than what the plan keeps of it, nothing was changed.
+pub fn recover<K: Disks, A: Allocator + Copy>(alloc: A, disks: &mut K) -> Result<(), DiskFault>
+    requires { IsDurable (K.seen disks.old) (K.may_leave disks.old) }
+    ensures volume { OnOk result (pair_of (K.seen disks.new) ≡ volume (K.seen disks.old)) }
+    ensures settled { OnOk result (IsSettled (K.seen disks.new) (K.may_leave disks.new)) }
+    ensures any_moment { LeavesOnly K.moment K.left_since disks.old disks.new (λ c. volume c ≡ volume (K.seen disks.old)) }
+    ensures memory { result ≡ Err DiskFault.NoMemory → K.seen disks.new ≡ K.seen disks.old }
+    ensures foreign { result ≡ Err DiskFault.Foreign → IsForeign (K.seen disks.old) }
+    ensures foreign_stays { result ≡ Err DiskFault.Foreign → K.seen disks.new ≡ K.seen disks.old }
+    ensures failed { result ≡ Err DiskFault.Device → K.faults disks.old < K.faults disks.new }
+{
+    let journal = read_all(alloc, disks, Device::Journal)?;
+    let plan = match parse_journal(alloc, &journal) {
+        Ok(plan) => plan,
+        Err(_) => return Err(DiskFault::NoMemory),
+    };
+    let Some(plan) = plan else {
+        shut(disks, &journal)?;
+        return Ok(());
+    };
+    if disks.len(Device::Data) < plan.data().keep()
+        || disks.len(Device::Hash) < plan.hash().keep()
+    {
+        return Err(DiskFault::Foreign);
+    }
+    redo(disks, &plan)?;
+    Ok(())
+}
+
+/// Syncs all three devices, so that what is read is what a stop leaves, and recovers. It asks nothing of the devices, and may be
+/// stopped: at any moment a stop leaves what it might have left before the call, or the volume that the devices stand for.
+pub fn start<K: Disks, A: Allocator + Copy>(alloc: A, disks: &mut K) -> Result<(), DiskFault>
+    ensures volume { OnOk result (pair_of (K.seen disks.new) ≡ volume (K.seen disks.old)) }
+    ensures settled { OnOk result (IsSettled (K.seen disks.new) (K.may_leave disks.new)) }
+    ensures any_moment { LeavesOnly K.moment K.left_since disks.old disks.new
+        (λ c. K.may_leave disks.old c ⊎ (volume c ≡ volume (K.seen disks.old))) }
+    ensures memory { result ≡ Err DiskFault.NoMemory → K.seen disks.new ≡ K.seen disks.old }
+    ensures foreign { result ≡ Err DiskFault.Foreign → IsForeign (K.seen disks.old) }
+    ensures foreign_stays { result ≡ Err DiskFault.Foreign → K.seen disks.new ≡ K.seen disks.old }
+    ensures failed { result ≡ Err DiskFault.Device → K.faults disks.old < K.faults disks.new }
+{
+    disks.sync(Device::Data)?;
+    disks.sync(Device::Hash)?;
+    disks.sync(Device::Journal)?;
+    recover(alloc, disks)?;
+    Ok(())
+}
