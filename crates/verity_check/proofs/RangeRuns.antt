@@ -3,7 +3,7 @@ use Rattle.std.proofs.Common.{suc, zero, arith, ◌≡◌, ◌<◌, ◌≤◌, �
 use Rattle.std.specs.List.{concat}
 use Rattle.std.proofs.Math.Nat.{add-mul, mul-le-mul_left}
 use Rattle.std.proofs.lemmas.Nat.{mod_below, div-add-mod', le-div}
-use Rattle.std.proofs.lemmas.List.{append_assoc, append-nil, length-append, length-drop, length-take}
+use Rattle.std.proofs.lemmas.List.{append_assoc, append-nil, length-append, length-drop, length-take, drop-append-le, take-append-le}
 use Rattle.verity_profile.proofs.Bounds.{block_size_high, block_size_some, block_count_high}
 use Rattle.verity_store.specs.Blocks.{cut}
 use Rattle.verity_store.proofs.BlockLemmas.{length-cut, concat-cut}
@@ -40,6 +40,11 @@ done_run t given more g offset len n skip left done d size count x whole served 
       ∙ d.split (x ++ c) ∙ ap (λ l. done ++ l) (take_piece left skip x c l piece e)
       ∙ sym (append_assoc done (take piece (drop skip x)) (take (left - piece) c));
 }
+
+-- a piece of what stands in front of more bytes
+pub piece_front : (front back : List ℕ) (skip piece : ℕ) → skip + piece ≤ length front → take piece (drop skip (front ++ back)) ≡ take piece (drop skip front)
+piece_front front back skip piece fits =
+    ap (take piece) (drop-append-le skip front back (omega (arith, fits))) ∙ take-append-le piece (drop skip front) back (omega (arith, fits, length-drop skip front))
 
 -- the blocks of a run begin before the end of the range
 pub run_within : (n count size skip left end j : ℕ) → 0 < size → 0 < left → count ≤ (skip + left - 1) / size + 1 → n * size + skip + left ≡ end → j < count → (n + j) * size < end
@@ -90,11 +95,10 @@ pub refuses_run : (t : Table) (given more : Given) → Grows given more → (p q
     → 0 < t.data_block_size → 0 < left → count ≤ (skip + left - 1) / t.data_block_size + 1 → n * t.data_block_size + skip + left ≡ offset + len
     → (fault : CheckFault) → RefusesOneOf t more p q n count fault → RefusesAfter t more p' q' offset len fault
 refuses_run t given more g p q p' q' f h offset len n skip left done d count size some most at fault why =
-    let x = why.0 in
-    let before = run_within n count t.data_block_size skip left (offset + len) (length why.0) size some most at why.2.0 in
+    let before = run_within n count t.data_block_size skip left (offset + len) (length why.0) size some most at why.2 in
     let first : offset / t.data_block_size ≤ n = omega (arith, d.at) in
     refuses_next t more p' q' offset len (n + length why.0) (d.blocks ++ why.0)
     (Served-append t more (offset / t.data_block_size) d.blocks why.0 n d.at (Served-grows t given more g (offset / t.data_block_size) d.blocks d.served) why.1)
     (omega (arith, d.at, length-append d.blocks why.0))
     (touches_at t offset len (n + length why.0) size (omega (arith, some, d.count)) (omega (arith, first)) before)
-    fault (Explains-more t more more (λ r i y gave. gave) p p' q q' f h (n + length why.0) fault why.2.2)
+    fault (Explains-more t more more (λ r i y gave. gave) p p' q q' f h (n + length why.0) fault why.3)
