@@ -1,4 +1,4 @@
-use Rattle.std.proofs.Common.{◌≡◌, ◌≢◌, ℕ, ◌+◌, ◌-◌, ◌*◌, ◌<◌, ◌≤◌, ◌++◌, ◌∙◌, List, [], length, ap, sym, arith, inl, inr, refl}
+use Rattle.std.proofs.Common.{◌≡◌, ◌≢◌, ℕ, ◌+◌, ◌-◌, ◌*◌, ◌≤◌, ◌++◌, ◌∙◌, List, [], length, ap, arith, inl, inr, refl}
 use Rattle.std.proofs.lemmas.Bool.{cases_lt}
 use Rattle.std.proofs.lemmas.List.{get_or-set_same, get_or-set_other, length-set}
 use Rattle.std.proofs.Math.Nat.{mul-le-mul_left}
@@ -6,7 +6,7 @@ use Rattle.sha2.specs.Sha256.{sha256}
 use Rattle.verity_digest.proofs.Groups.{block_in_group}
 use Rattle.verity_digest.specs.Hash.{Salted, salted_digest}
 use Rattle.verity_digest.specs.declared.algorithm.Algorithm.TheVariants.{Sha256}
-use Rattle.verity_digest.proofs.hasher.Hasher.digest_many.Goals as goal
+use Rattle.verity_digest.proofs.hasher.Hasher.digest_eights.Goals as goal
 
 sha256_salted : (s : Salted) (salt block : List ℕ) → s.algorithm ≡ Sha256 → salt ≡ s.salt → sha256 (salt ++ block) ≡ salted_digest s block
 sha256_salted s salt block ea es = rw (ea, es) refl
@@ -37,6 +37,6 @@ lanes-preserved g c =
             rw (← e) (get_or-set_same c.lanes.out at _ [] (omega (arith, c.lanes.invariant.0))
             ∙ c.from_bytes.ensures ∙ c.digest_eight-group.ensures c.lanes.j (omega arith)
             ∙ ap (λ b. sha256 (c.bytes.result.now ++ b)) (rw width (block_in_group c.args.blocks.now c.args.size start c.lanes.j 8 (8 * c.groups.g) (omega arith) place))
-            ∙ sha256_salted s c.bytes.result.now _ (c.groups.invariant.5 (omega arith)) salt)
+            ∙ sha256_salted s c.bytes.result.now _ c.requires.algorithm salt)
       ],
     )

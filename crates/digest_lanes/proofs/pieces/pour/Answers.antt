@@ -1,6 +1,6 @@
 use Rattle.std.proofs.Common.{◌≡◌, ◌+◌, ◌-◌, ◌∙◌, ap, arith, drop, take}
-use Rattle.digest_lanes.proofs.Chunks.{poured, poured_none}
-use Rattle.digest_lanes.proofs.messages.pour.Goals as goal
+use Rattle.digest_lanes.proofs.Parts.{poured, poured_none}
+use Rattle.digest_lanes.proofs.pieces.pour.Goals as goal
 
 pub returns-then-offset-source-clause-bytes : goal.returns-then-offset-source-clause-bytes
 returns-then-offset-source-clause-bytes c = poured_none c.args.room.now c.args.source.now c.args.used c.args.offset c.requires (omega arith)

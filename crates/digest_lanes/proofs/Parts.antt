@@ -4,10 +4,13 @@ use Rattle.std.proofs.lemmas.List.{take-append-le, take_all, drop_all, drop-appe
 use Rattle.std.proofs.lemmas.Slice.{take-put_mid, take-put_mid_below}
 use Rattle.std.proofs.lemmas.Bool.{cases_lt}
 use Rattle.std.proofs.Math.Seq.{take-append-add, drop-append-add}
-use Rattle.std.specs.Int.{w64, to_be_bytes}
-use Rattle.sha2.specs.Sha256.{padding, padded_message, compress, hash_after}
+use Rattle.std.specs.Int.{w64, w128, to_be_bytes}
+use Rattle.std.proofs.Math.Nat.{mul-le-mul_left}
+use Rattle.sha2.specs.Sha512 as wide
+use Rattle.sha2.proofs.Absorbing512 as wide_absorbing
+use Rattle.sha2.specs.Sha256.{padding, compress, hash_after}
 use Rattle.sha2.proofs.Absorbing256.{hash_after_next}
-use Rattle.digest_lanes.specs.Lanes.{lane, lane_at, chunk_at}
+use Rattle.digest_lanes.specs.Lanes.{lane, lane_at, piece_at}
 use Rattle.std.specs.Fork.{slice_chunk}
 use borrow.Rule.Slice.PartMut.{put_mid}
 
@@ -61,50 +64,57 @@ poured_none room source used at fits past =
     rw (drop_all at source past, append-nil) (sym (take_all (length room) (take used room) (omega arith)))
 
 -- three parts poured into an empty room
-pub filled : (r r1 r2 r3 a b c : List ℕ) (n n2 n3 u1 u2 u3 : ℕ) → n2 ≡ n - length a → n3 ≡ n2 - length b → length r ≡ 64 → length r1 ≡ 64 → length r2 ≡ 64 → length r3 ≡ 64 → u3 ≤ 64
-    → n + 64 ≤ length a + length b + length c
+pub filled : (r r1 r2 r3 a b c : List ℕ) (s n n2 n3 u1 u2 u3 : ℕ) → n2 ≡ n - length a → n3 ≡ n2 - length b → length r ≡ s → length r1 ≡ s → length r2 ≡ s → length r3 ≡ s → u3 ≤ s
+    → n + s ≤ length a + length b + length c
     → take u1 r1 ≡ take (length r) (take 0 r ++ drop n a)
     → take u2 r2 ≡ take (length r1) (take u1 r1 ++ drop n2 b)
     → take u3 r3 ≡ take (length r2) (take u2 r2 ++ drop n3 c)
-    → r3 ≡ chunk_at (a ++ (b ++ c)) n
-filled r r1 r2 r3 a b c n n2 n3 u1 u2 u3 en2 en3 lr l1 l2 l3 le within e1 e2 e3 =
+    → r3 ≡ piece_at s (a ++ (b ++ c)) n
+filled r r1 r2 r3 a b c s n n2 n3 u1 u2 u3 en2 en3 lr l1 l2 l3 le within e1 e2 e3 =
     let da : List ℕ = drop n a in
     let db : List ℕ = drop n2 b in
     let dc : List ℕ = drop n3 c in
-    let t1 : take u1 r1 ≡ take 64 da = rw lr at e1 in
-    let t2 : take u2 r2 ≡ take 64 (da ++ db) = rw (l1, t1) at e2 ∙ take_take_append 64 da db in
-    let t3 : take u3 r3 ≡ take 64 ((da ++ db) ++ dc) = rw (l2, t2) at e3 ∙ take_take_append 64 (da ++ db) dc in
+    let t1 : take u1 r1 ≡ take s da = rw lr at e1 in
+    let t2 : take u2 r2 ≡ take s (da ++ db) = rw (l1, t1) at e2 ∙ take_take_append s da db in
+    let t3 : take u3 r3 ≡ take s ((da ++ db) ++ dc) = rw (l2, t2) at e3 ∙ take_take_append s (da ++ db) dc in
     let whole : drop n (a ++ (b ++ c)) ≡ (da ++ db) ++ dc = drop_append n a (b ++ c) ∙ ap (λ (l : List ℕ). da ++ l) (ap (λ (k : ℕ). drop k (b ++ c)) (sym en2) ∙ drop_append n2 b c ∙ ap (λ (k : ℕ). db ++ drop k c) (sym en3)) ∙ sym (append_assoc da db dc) in
-    let t : take u3 r3 ≡ chunk_at (a ++ (b ++ c)) n = t3 ∙ ap (take 64) (sym whole) in
+    let t : take u3 r3 ≡ piece_at s (a ++ (b ++ c)) n = t3 ∙ ap (take s) (sym whole) in
     let lw : length (drop n (a ++ (b ++ c))) ≡ length a + (length b + length c) - n = omega (arith, length-drop n (a ++ (b ++ c)), length-append a (b ++ c), length-append b c) in
-    let lc : length (chunk_at (a ++ (b ++ c)) n) ≡ 64 = length-take-le 64 (drop n (a ++ (b ++ c))) (omega arith) in
+    let lc : length (piece_at s (a ++ (b ++ c)) n) ≡ s = length-take-le s (drop n (a ++ (b ++ c))) (omega arith) in
     let lu : length (take u3 r3) ≡ u3 = length-take-le u3 r3 (omega arith) in
-    let full : u3 ≡ 64 = sym lu ∙ ap length t ∙ lc in
-    sym (take_all 64 r3 (omega arith)) ∙ ap (λ (k : ℕ). take k r3) (sym full) ∙ t
+    let full : u3 ≡ s = sym lu ∙ ap length t ∙ lc in
+    sym (take_all s r3 (omega arith)) ∙ ap (λ (k : ℕ). take k r3) (sym full) ∙ t
 
--- a write to part j of parts of 64 bytes
-pub part_below : (room ys : List ℕ) (j k s : ℕ) → j < k → 64 * k ≤ length room → chunk_at (put_mid (64 * k) s room ys) (j * 64) ≡ chunk_at room (j * 64)
-part_below room ys j k s lt fits =
-    let e : j * 64 + 64 ≤ 64 * k = omega arith in
-    let m : ℕ = 64 * k in
-    let cut : (l : List ℕ) → drop (j * 64) (take (j * 64 + 64) l) ≡ chunk_at l (j * 64) = λ l. drop-take (j * 64) 64 l in
-    sym (cut (put_mid m s room ys)) ∙ ap (drop (j * 64)) (take-put_mid_below m s room ys (j * 64 + 64) e fits) ∙ cut room
+-- a write to part k of parts of one size
+pub part_below : (room ys : List ℕ) (size j k s : ℕ) → j < k → k * size ≤ length room → piece_at size (put_mid (k * size) s room ys) (j * size) ≡ piece_at size room (j * size)
+part_below room ys size j k s lt fits =
+    let next : j + 1 ≤ k = omega arith in
+    let e : j * size + size ≤ k * size = omega (arith, mul-le-mul_left size next) in
+    let m : ℕ = k * size in
+    let cut : (l : List ℕ) → drop (j * size) (take (j * size + size) l) ≡ piece_at size l (j * size) = λ l. drop-take (j * size) size l in
+    sym (cut (put_mid m s room ys)) ∙ ap (drop (j * size)) (take-put_mid_below m s room ys (j * size + size) e fits) ∙ cut room
 
-pub part_at : (room ys : List ℕ) (k s : ℕ) → length ys ≡ 64 → 64 * k ≤ length room → chunk_at (put_mid (64 * k) s room ys) (k * 64) ≡ ys
-part_at room ys k s ly fits =
-    let m : ℕ = 64 * k in
-    let e : k * 64 ≡ m = omega arith in
+pub part_at : (room ys : List ℕ) (size k s : ℕ) → length ys ≡ size → k * size ≤ length room → piece_at size (put_mid (k * size) s room ys) (k * size) ≡ ys
+part_at room ys size k s ly fits =
+    let m : ℕ = k * size in
     let lt : length (take m room) ≡ m = length-take-le m room fits in
-    let cut : drop m (take (m + 64) (put_mid m s room ys)) ≡ chunk_at (put_mid m s room ys) m = drop-take m 64 (put_mid m s room ys) in
-    ap (λ (n : ℕ). chunk_at (put_mid m s room ys) n) e ∙ sym cut
-    ∙ ap (drop m) (take-put_mid m s room ys (m + 64) (omega arith) fits)
+    let cut : drop m (take (m + size) (put_mid m s room ys)) ≡ piece_at size (put_mid m s room ys) m = drop-take m size (put_mid m s room ys) in
+    sym cut
+    ∙ ap (drop m) (take-put_mid m s room ys (m + size) (omega arith) fits)
     ∙ drop_append m (take m room) ys
     ∙ (let z : m - length (take m room) ≡ 0 = omega arith in rw (drop_all m (take m room) (omega arith), z) refl)
 
--- 64 bytes of a block are those of its message
-pub whole_in_block : (salt blocks pad : List ℕ) (size j n : ℕ) → length salt ≤ n → n + 64 ≤ length salt + size → (j + 1) * size ≤ length blocks
-    → chunk_at blocks (j * size + (n - length salt)) ≡ chunk_at (salt ++ (slice_chunk blocks size j ++ pad)) n
-whole_in_block salt blocks pad size j n low high fits =
+-- the part that is lent for it
+pub same_part : (room ys message : List ℕ) (n k size from : ℕ) → ys ≡ piece_at (length (take k (drop n room))) message from → k ≡ size → n + size ≤ length room → ys ≡ piece_at size message from
+same_part room ys message n k size from e ek fits =
+    let room_left : size ≤ length (drop n room) = omega (arith, length-drop n room) in
+    let len : length (take k (drop n room)) ≡ size = ap (λ (m : ℕ). length (take m (drop n room))) ek ∙ length-take-le size (drop n room) room_left in
+    e ∙ ap (λ (m : ℕ). piece_at m message from) len
+
+-- a piece of a block is one of its message
+pub whole_in_block : (salt blocks pad : List ℕ) (s size j n : ℕ) → length salt ≤ n → n + s ≤ length salt + size → (j + 1) * size ≤ length blocks
+    → piece_at s blocks (j * size + (n - length salt)) ≡ piece_at s (salt ++ (slice_chunk blocks size j ++ pad)) n
+whole_in_block salt blocks pad s size j n low high fits =
     let m : ℕ = n - length salt in
     let rest : List ℕ = drop (j * size) blocks in
     let lrest : length rest ≡ length blocks - j * size = length-drop (j * size) blocks in
@@ -114,23 +124,28 @@ whole_in_block salt blocks pad size j n low high fits =
     let lm : length (drop m (slice_chunk blocks size j)) ≡ size - m = length-drop m (slice_chunk blocks size j) ∙ ap (λ (k : ℕ). k - m) lb in
     let split : size ≡ m + (size - m) = omega arith in
     let inner : drop m (slice_chunk blocks size j) ≡ take (size - m) (drop m rest) = ap (λ (k : ℕ). drop m (take k rest)) split ∙ drop-take m (size - m) rest in
-    sym (ap (take 64) start
-    ∙ ap (take 64) (drop-append-le m (slice_chunk blocks size j) pad (omega arith))
-    ∙ take-append-le 64 (drop m (slice_chunk blocks size j)) pad (omega arith)
-    ∙ ap (take 64) inner
-    ∙ take-take 64 (size - m) (drop m rest) (omega arith)
-    ∙ ap (take 64) (drop-drop m (j * size) blocks))
+    sym (ap (take s) start
+    ∙ ap (take s) (drop-append-le m (slice_chunk blocks size j) pad (omega arith))
+    ∙ take-append-le s (drop m (slice_chunk blocks size j)) pad (omega arith)
+    ∙ ap (take s) inner
+    ∙ take-take s (size - m) (drop m rest) (omega arith)
+    ∙ ap (take s) (drop-drop m (j * size) blocks))
 
--- the state after one more chunk
-pub hashed_next : (h h2 i p : List ℕ) (k : ℕ) (b : List ℕ) → h ≡ hash_after i p k → h2 ≡ compress h b → b ≡ chunk_at p (64 * k) → h2 ≡ hash_after i p (k + 1)
+-- the state after one more piece
+pub hashed_next : (h h2 i p : List ℕ) (k : ℕ) (b : List ℕ) → h ≡ hash_after i p k → h2 ≡ compress h b → b ≡ piece_at 64 p (64 * k) → h2 ≡ hash_after i p (k + 1)
 hashed_next h h2 i p k b eh e2 eb =
     let n : 64 * k ≡ k * 64 = omega arith in
-    e2 ∙ ap₂ compress eh (eb ∙ ap (chunk_at p) n) ∙ sym (hash_after_next i p k)
+    e2 ∙ ap₂ compress eh (eb ∙ ap (piece_at 64 p) n) ∙ sym (hash_after_next i p k)
+
+pub wide_hashed_next : (h h2 i p : List ℕ) (k : ℕ) (b : List ℕ) → h ≡ wide.hash_after i p k → h2 ≡ wide.compress h b → b ≡ piece_at 128 p (128 * k) → h2 ≡ wide.hash_after i p (k + 1)
+wide_hashed_next h h2 i p k b eh e2 eb =
+    let n : 128 * k ≡ k * 128 = omega arith in
+    e2 ∙ ap₂ wide.compress eh (eb ∙ ap (piece_at 128 p) n) ∙ sym (wide_absorbing.hash_after_next i p k)
 
 -- the padding begins with a bit 1 and zeros
-pub padding_front : (x y z : ℕ) → z ≤ 63 → take (z + 1) (x ∷ replicate 71 y) ≡ x ∷ replicate z y
-padding_front x y z h =
-    let zeros : take z (replicate 71 y) ≡ replicate z y = take-replicate z 71 y (omega arith) in
+pub padding_front : (x y z n : ℕ) → z ≤ n → take (z + 1) (x ∷ replicate n y) ≡ x ∷ replicate z y
+padding_front x y z n h =
+    let zeros : take z (replicate n y) ≡ replicate z y = take-replicate z n y h in
     rw (add-one, zeros) refl
 
 pub length_padding : (n : ℕ) → length (padding n) ≡ (119 - n % 64) % 64 + 9
@@ -139,16 +154,24 @@ length_padding n =
     let z : ℕ = (119 - n % 64) % 64 in
     omega (arith, length-append (replicate z zero_byte) (to_be_bytes w64 (n * 8 % 2 ^ 64)), length-replicate z zero_byte)
 
--- the parts of a padded message
-pub message_parts : (salt block pad : List ℕ) (n : ℕ) → n ≡ length salt + length block → pad ≡ padding n → salt ++ (block ++ pad) ≡ padded_message (salt ++ block)
-message_parts salt block pad n en ep =
+pub wide_length_padding : (n : ℕ) → length (wide.padding n) ≡ (239 - n % 128) % 128 + 17
+wide_length_padding n =
+    let zero_byte : ℕ = 0 in
+    let z : ℕ = (239 - n % 128) % 128 in
+    omega (arith, length-append (replicate z zero_byte) (to_be_bytes w128 (n * 8 % 2 ^ 128)), length-replicate z zero_byte)
+
+-- the parts of a message and its padding
+pub message_parts : (padding : ℕ → List ℕ) (salt block pad : List ℕ) (n : ℕ) → n ≡ length salt + length block → pad ≡ padding n
+    → salt ++ (block ++ pad) ≡ (salt ++ block) ++ padding (length (salt ++ block))
+message_parts padding salt block pad n en ep =
     let len : length (salt ++ block) ≡ n = length-append salt block ∙ sym en in
     rw (len, append_assoc, ep) refl
 
-pub length_message : (salt block : List ℕ) (n : ℕ) → n ≡ length salt + length block → length (padded_message (salt ++ block)) ≡ n + ((119 - n % 64) % 64 + 9)
-length_message salt block n en =
+pub length_message : (padding : ℕ → List ℕ) (salt block : List ℕ) (n : ℕ) → n ≡ length salt + length block
+    → length ((salt ++ block) ++ padding (length (salt ++ block))) ≡ n + length (padding n)
+length_message padding salt block n en =
     let len : length (salt ++ block) ≡ n = length-append salt block ∙ sym en in
-    length-append (salt ++ block) (padding (length (salt ++ block))) ∙ rw (len, length_padding n) refl
+    length-append (salt ++ block) (padding (length (salt ++ block))) ∙ rw len refl
 
 pub length_block : (blocks : List ℕ) (size j : ℕ) → (j + 1) * size ≤ length blocks → length (slice_chunk blocks size j) ≡ size
 length_block blocks size j fits = length-take-le size (drop (j * size) blocks) (omega (arith, length-drop (j * size) blocks))
