@@ -41,9 +41,10 @@ def timed(words):
     return used.ru_utime + used.ru_stime, peak
 
 
-def bare_loop(loop, data, block_size, *mode):
-    """Seconds of a bare loop of digests over the same blocks in memory: one by one, or by the mode `lanes` eight at a time."""
-    out = subprocess.run([loop, data, block_size, SALT, *mode], capture_output=True, text=True, check=True).stdout
+def bare_loop(loop, data, block_size, algorithm, *mode):
+    """Seconds of a bare loop of digests over the same blocks in memory: one by one, or by the mode `lanes` as many side by side as
+    the algorithm has lanes."""
+    out = subprocess.run([loop, data, block_size, SALT, algorithm, *mode], capture_output=True, text=True, check=True).stdout
     return int(re.search(r"us=(\d+)", out).group(1)) / 1e6
 
 
@@ -55,7 +56,7 @@ def builds(folder):
     return dict(reversed(made.items()))
 
 
-def compared(name, made, ours, theirs, data, block_size, mebibytes):
+def compared(name, made, ours, theirs, data, block_size, mebibytes, algorithm="sha256"):
     """Runs each in turn, five times, and prints the best of each: the throughput, and that over the scalar loop and over the
     lanes of the same build. `ours` gives the words for a program, `theirs` are those of veritysetup, or None."""
     seconds = {}
@@ -68,11 +69,11 @@ def compared(name, made, ours, theirs, data, block_size, mebibytes):
         for processor, (program, loop) in made.items():
             took, peaks[processor] = timed(ours(program))
             note((name, processor), took)
-            note(("scalar loop", processor), bare_loop(loop, data, block_size))
-            note(("lanes", processor), bare_loop(loop, data, block_size, "lanes"))
+            note(("scalar loop", processor), bare_loop(loop, data, block_size, algorithm))
+            note(("lanes", processor), bare_loop(loop, data, block_size, algorithm, "lanes"))
         if theirs:
             note(("veritysetup", ""), timed(theirs)[0])
-    print(f"{name}, blocks of {block_size} bytes, {mebibytes} MiB{'MB/s':>29}{'of scalar':>11}{'of lanes':>10}")
+    print(f"{name}, {algorithm}, blocks of {block_size} bytes, {mebibytes} MiB{'MB/s':>21}{'of scalar':>11}{'of lanes':>10}")
     for (label, processor), took in seconds.items():
         ratios = "".join(f"{seconds[other, processor] / took:{width}.2f}" for other, width in (("scalar loop", 11), ("lanes", 10))
                          if processor)

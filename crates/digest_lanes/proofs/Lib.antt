@@ -1,3 +1,3 @@
 pub mod ChMaj
-pub mod Chunks
+pub mod Parts
 pub mod Rounds

@@ -3,9 +3,10 @@ use Rattle.std.proofs.Common.{◌≡◌, ℕ, ◌+◌, ◌-◌, ◌*◌, ◌/◌
 use Rattle.std.proofs.lemmas.Simd.{get_or-zip2, length-zip2, get_or-replicate, length-replicate, get_or-chunk}
 use Rattle.std.proofs.lemmas.List.{get_or-map, map-set, length-map}
 use Rattle.std.specs.Simd.Lanes.{zip2}
-use Rattle.std.specs.Int.{w32, rotate_right, bit_not}
-use Rattle.sha2.specs.Sha256.{ch, maj, word_at}
-use Rattle.digest_lanes.specs.Lanes.{lane_at, window_of, chunk_at}
+use Rattle.std.specs.Int.{Width, w32, w64, rotate_right, bit_not}
+use Rattle.sha2.specs.Sha256.{maj, word_at}
+use Rattle.sha2.specs.Sha512 as wide
+use Rattle.digest_lanes.specs.Lanes.{lane_at, window_of, piece_at}
 use Rattle.digest_lanes.proofs.ChMaj.{maj_short}
 
 -- an operator on two vectors of n lanes
@@ -22,18 +23,31 @@ splat_at f xs n j y lx h = zip2_at f xs (replicate n y) n j lx (length-replicate
 pub splat_length : (f : ℕ → ℕ → ℕ) (xs : List ℕ) (n y : ℕ) → length xs ≡ n → length (zip2 f xs (replicate n y)) ≡ n
 splat_length f xs n y lx = zip2_length f xs (replicate n y) n lx (length-replicate n y)
 
--- two shifts and an or are a rotation
+-- two shifts and an or, of words of b bits
+shifts_or : (b n k m : ℕ) (xs : List ℕ) (j : ℕ) → length xs ≡ n → j < n
+    → slice_index (zip2 bit_or (zip2 (λ x m. x / 2 ^ m) xs (replicate n k)) (zip2 (λ x m. x * 2 ^ m % 2 ^ b) xs (replicate n m))) j
+    ≡ bit_or (slice_index xs j / 2 ^ k) (slice_index xs j * 2 ^ m % 2 ^ b)
+shifts_or b n k m xs j lx h =
+    let r : List ℕ = zip2 (λ x m. x / 2 ^ m) xs (replicate n k) in
+    let l : List ℕ = zip2 (λ x m. x * 2 ^ m % 2 ^ b) xs (replicate n m) in
+    zip2_at bit_or r l n j (splat_length _ xs n k lx) (splat_length _ xs n m lx) h ∙ ap₂ bit_or (splat_at _ xs n j k lx h) (splat_at _ xs n j m lx h)
+
+-- they are a rotation
 pub shifts_rotate : (n k : ℕ) → 0 < k → k < 32 → (xs : List ℕ) → length xs ≡ n → (j : ℕ) → j < n
     → slice_index (zip2 bit_or (zip2 (λ x m. x / 2 ^ m) xs (replicate n k)) (zip2 (λ x m. x * 2 ^ m % 2 ^ 32) xs (replicate n (32 - k)))) j
     ≡ rotate_right w32 (slice_index xs j) k
 shifts_rotate n k low high xs lx j h =
     let right : k % 32 ≡ k = omega arith in
     let left : (32 - k) % 32 ≡ 32 - k = omega arith in
-    let r : List ℕ = zip2 (λ x m. x / 2 ^ m) xs (replicate n k) in
-    let l : List ℕ = zip2 (λ x m. x * 2 ^ m % 2 ^ 32) xs (replicate n (32 - k)) in
-    zip2_at bit_or r l n j (splat_length _ xs n k lx) (splat_length _ xs n (32 - k) lx) h
-    ∙ ap₂ bit_or (splat_at _ xs n j k lx h) (splat_at _ xs n j (32 - k) lx h)
-    ∙ rw (right, left) refl
+    shifts_or 32 n k (32 - k) xs j lx h ∙ rw (right, left) refl
+
+pub wide_shifts_rotate : (n k : ℕ) → 0 < k → k < 64 → (xs : List ℕ) → length xs ≡ n → (j : ℕ) → j < n
+    → slice_index (zip2 bit_or (zip2 (λ x m. x / 2 ^ m) xs (replicate n k)) (zip2 (λ x m. x * 2 ^ m % 2 ^ 64) xs (replicate n (64 - k)))) j
+    ≡ rotate_right w64 (slice_index xs j) k
+wide_shifts_rotate n k low high xs lx j h =
+    let right : k % 64 ≡ k = omega arith in
+    let left : (64 - k) % 64 ≡ 64 - k = omega arith in
+    shifts_or 64 n k (64 - k) xs j lx h ∙ rw (right, left) refl
 
 pub xor_at : (xs ys zs : List ℕ) (n j : ℕ) → length xs ≡ n → length ys ≡ n → length zs ≡ n → j < n
     → slice_index (zip2 bit_xor (zip2 bit_xor xs ys) zs) j ≡ bit_xor (bit_xor (slice_index xs j) (slice_index ys j)) (slice_index zs j)
@@ -41,13 +55,13 @@ xor_at xs ys zs n j lx ly lz h =
     zip2_at bit_xor (zip2 bit_xor xs ys) zs n j (zip2_length bit_xor xs ys n lx ly) lz h
     ∙ ap (λ (a : ℕ). bit_xor a (slice_index zs j)) (zip2_at bit_xor xs ys n j lx ly h)
 
-pub ch_at : (xs ys zs : List ℕ) (n j : ℕ) → length xs ≡ n → length ys ≡ n → length zs ≡ n → j < n
-    → slice_index (zip2 bit_xor (zip2 bit_and xs ys) (zip2 bit_and (map (bit_not w32) xs) zs)) j ≡ ch (slice_index xs j) (slice_index ys j) (slice_index zs j)
-ch_at xs ys zs n j lx ly lz h =
-    let lm : length (map (bit_not w32) xs) ≡ n = length-map xs (bit_not w32) ∙ lx in
-    zip2_at bit_xor (zip2 bit_and xs ys) (zip2 bit_and (map (bit_not w32) xs) zs) n j (zip2_length bit_and xs ys n lx ly) (zip2_length bit_and (map (bit_not w32) xs) zs n lm lz) h
+pub ch_at : (w : Width) (xs ys zs : List ℕ) (n j : ℕ) → length xs ≡ n → length ys ≡ n → length zs ≡ n → j < n
+    → slice_index (zip2 bit_xor (zip2 bit_and xs ys) (zip2 bit_and (map (bit_not w) xs) zs)) j ≡ bit_xor (bit_and (slice_index xs j) (slice_index ys j)) (bit_and (bit_not w (slice_index xs j)) (slice_index zs j))
+ch_at w xs ys zs n j lx ly lz h =
+    let lm : length (map (bit_not w) xs) ≡ n = length-map xs (bit_not w) ∙ lx in
+    zip2_at bit_xor (zip2 bit_and xs ys) (zip2 bit_and (map (bit_not w) xs) zs) n j (zip2_length bit_and xs ys n lx ly) (zip2_length bit_and (map (bit_not w) xs) zs n lm lz) h
     ∙ ap₂ bit_xor (zip2_at bit_and xs ys n j lx ly h)
-    (zip2_at bit_and (map (bit_not w32) xs) zs n j lm lz h ∙ ap (λ (a : ℕ). bit_and a (slice_index zs j)) (get_or-map (bit_not w32) xs j 0 0 (omega arith)))
+    (zip2_at bit_and (map (bit_not w) xs) zs n j lm lz h ∙ ap (λ (a : ℕ). bit_and a (slice_index zs j)) (get_or-map (bit_not w) xs j 0 0 (omega arith)))
 
 pub maj_at : (xs ys zs : List ℕ) (n j : ℕ) → length xs ≡ n → length ys ≡ n → length zs ≡ n → j < n
     → slice_index (zip2 bit_xor ys (zip2 bit_and (zip2 bit_xor xs ys) (zip2 bit_xor ys zs))) j ≡ maj (slice_index xs j) (slice_index ys j) (slice_index zs j)
@@ -71,18 +85,37 @@ window_length j w = length-map w (λ (v : List ℕ). slice_index v j)
 pub window_set : (j : ℕ) (w : List (List ℕ)) (k : ℕ) (v : List ℕ) → window_of j (slice_set w k v) ≡ slice_set (window_of j w) k (slice_index v j)
 window_set j w k v = map-set (λ (u : List ℕ). slice_index u j) w k v
 
--- a word of the 64 bytes at n
-pub word_at_chunk : (bytes : List ℕ) (n k : ℕ) → k < 16 → word_at (chunk_at bytes n) (4 * k) ≡ word_at bytes (n + 4 * k)
-word_at_chunk bytes n k h =
-    let e1 : n + (4 * k + 1) ≡ n + 4 * k + 1 = omega arith in
-    let e2 : n + (4 * k + 2) ≡ n + 4 * k + 2 = omega arith in
-    let e3 : n + (4 * k + 3) ≡ n + 4 * k + 3 = omega arith in
+-- a word of a piece
+pub word_at_piece : (bytes : List ℕ) (n k : ℕ) → k < 16 → word_at (piece_at 64 bytes n) (4 * k) ≡ word_at bytes (n + 4 * k)
+word_at_piece bytes n k h =
+    let next : (d : ℕ) → n + (4 * k + d) ≡ n + 4 * k + d = λ d. omega arith in
     rw (
       get_or-chunk n 64 bytes (4 * k) 0 (omega arith),
       get_or-chunk n 64 bytes (4 * k + 1) 0 (omega arith),
       get_or-chunk n 64 bytes (4 * k + 2) 0 (omega arith),
       get_or-chunk n 64 bytes (4 * k + 3) 0 (omega arith),
-      e1,
-      e2,
-      e3,
+      next 1,
+      next 2,
+      next 3,
+    ) refl
+
+pub wide_word_at_piece : (bytes : List ℕ) (n k : ℕ) → k < 16 → wide.word_at (piece_at 128 bytes n) (8 * k) ≡ wide.word_at bytes (n + 8 * k)
+wide_word_at_piece bytes n k h =
+    let next : (d : ℕ) → n + (8 * k + d) ≡ n + 8 * k + d = λ d. omega arith in
+    rw (
+      get_or-chunk n 128 bytes (8 * k) 0 (omega arith),
+      get_or-chunk n 128 bytes (8 * k + 1) 0 (omega arith),
+      get_or-chunk n 128 bytes (8 * k + 2) 0 (omega arith),
+      get_or-chunk n 128 bytes (8 * k + 3) 0 (omega arith),
+      get_or-chunk n 128 bytes (8 * k + 4) 0 (omega arith),
+      get_or-chunk n 128 bytes (8 * k + 5) 0 (omega arith),
+      get_or-chunk n 128 bytes (8 * k + 6) 0 (omega arith),
+      get_or-chunk n 128 bytes (8 * k + 7) 0 (omega arith),
+      next 1,
+      next 2,
+      next 3,
+      next 4,
+      next 5,
+      next 6,
+      next 7,
     ) refl

@@ -15,6 +15,6 @@ lane j x =
 abbrev pub window_of : ℕ → List (List ℕ) → List ℕ
 window_of j w = map (λ (v : List ℕ). slice_index v j) w
 
--- the 64 bytes from n on
-abbrev pub chunk_at : List ℕ → ℕ → List ℕ
-chunk_at bytes n = take 64 (drop n bytes)
+-- so many bytes, from n on
+abbrev pub piece_at : ℕ → List ℕ → ℕ → List ℕ
+piece_at size bytes n = take size (drop n bytes)

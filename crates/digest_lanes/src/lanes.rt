@@ -1,8 +1,9 @@
 //! The compression of SHA-256 (FIPS 180-4, sections 4.1.2 and 6.2.2), on a block of 64 bytes of each of eight messages at a time.
 ghost use Rattle.std.specs.Prelude.{bit_xor, ◌≡◌, ℕ, ◌+◌, ◌-◌, ◌*◌, ◌/◌, ◌%◌, ◌^◌, ◌<◌, ◌≤◌, List, length, slice_index, slice_set};
 ghost use Rattle.std.specs.Int.{w32, rotate_right};
-ghost use Rattle.sha2.specs.Sha256.{IsRoundsAt, IsWindow, add32, add_state, big_sigma0, big_sigma1, ch, compress, maj, round, rounds, schedule, small_sigma0, small_sigma1, window_word, word_at};
-ghost use Rattle.digest_lanes.specs.Lanes.{lane, window_of, chunk_at};
+ghost use Rattle.sha2.specs.Sha256.{add32, big_sigma0, big_sigma1, ch, maj, small_sigma0, small_sigma1, word_at};
+ghost use Rattle.sha2.specs.Sha256.{IsRoundsAt, IsWindow, compress, round, rounds, schedule, window_word};
+ghost use Rattle.digest_lanes.specs.Lanes.{lane, window_of, piece_at};
 
 use crate::constants::ROUND_CONSTANTS;
 use std::simd::u32x8;
@@ -215,7 +216,7 @@ fn four_steps(w: &mut [u32x8; 16], v: [u32x8; 8], turn: usize, place: usize) -> 
 /// the result to `state` (section 6.2.2).
 pub(crate) fn compress(state: &mut [u32x8; 8], bytes: &[u8], stride: usize, offset: usize)
     requires { 7 * stride + offset + 64 ≤ length bytes.now }
-    ensures { (j : ℕ) → j < 8 → lane j state.new ≡ compress (lane j state.old) (chunk_at bytes.now (j * stride + offset)) }
+    ensures { (j : ℕ) → j < 8 → lane j state.new ≡ compress (lane j state.old) (piece_at 64 bytes.now (j * stride + offset)) }
 {
     let mut w = [u32x8::splat(0); 16];
     'load: for i in 0..16 {

@@ -175,3 +175,48 @@ fn digests_of_sha512(rt: HostRuntime) -> Result<(), Fail> {
     )?;
     Ok(())
 }
+
+// With every salt of up to 256 bytes, each 7, of eight to fifteen blocks of a hundred bytes, where byte n of all is n modulo 251: what is
+// expected is the SHA-256 digest of all digests, salt after salt, count after count. So the padding's border is met at every place.
+fn check_every_salt(
+    rt: &impl Abort,
+    alloc: Global,
+    algorithm: Algorithm,
+    expected: &str,
+) -> Result<(), Fail> {
+    let mut bytes = [0u8; 1500];
+    for (n, byte) in bytes.iter_mut().enumerate() {
+        *byte = (n % 251) as u8;
+    }
+    let mut all = Vec::new(alloc);
+    for salt in 0..257 {
+        let mut hasher = Hasher::new(Salt::new(alloc, &[7; 256][..salt])?, algorithm);
+        for count in 8..16 {
+            let mut digests = [Digest::from_bytes(ZERO); 15];
+            hasher.digest_many(&bytes[..100 * count], 100, &mut digests[..count]);
+            for digest in &digests[..count] {
+                all.extend_from_slice(digest.bytes())?;
+            }
+        }
+    }
+    let mut plain = Hasher::new(Salt::new(alloc, b"")?, Algorithm::Sha256);
+    let found = hex::encode(alloc, plain.digest(&all).bytes())?;
+    assert_eq!(rt; found.as_str(), expected);
+    Ok(())
+}
+
+#[test]
+fn every_salt(rt: HostRuntime) -> Result<(), Fail> {
+    check_every_salt(
+        &rt,
+        rt.alloc(),
+        Algorithm::Sha256,
+        "d8df34a143e2b586e1ed29fc8955e3989934cb4f17202d0b7a90b60672c472b5",
+    )?;
+    check_every_salt(
+        &rt,
+        rt.alloc(),
+        Algorithm::Sha512,
+        "7f7841760506e31b27a2bdda2b0e29b63a3b51be98bc98148bd7dc876ea604c0",
+    )
+}

@@ -5,7 +5,7 @@ use Rattle.std.specs.Int.{w32, to_be_bytes}
 use Rattle.sha2.specs.Sha256.{digest_bytes}
 use Rattle.sha2.proofs.Absorbing256.{digest_more}
 use Rattle.digest_lanes.specs.Lanes.{lane}
-use Rattle.digest_lanes.proofs.Chunks.{lane_word}
+use Rattle.digest_lanes.proofs.Parts.{lane_word}
 use Rattle.digest_lanes.proofs.messages.digest_of.Goals as goal
 
 pub words-init : goal.words-init

@@ -1,0 +1,181 @@
+//! The tree that a table line describes, as a check goes down it.
+ghost use Rattle.std.specs.Prelude.{◌≡◌, suc, ◌+◌, ◌*◌, ◌/◌, ◌%◌, ◌^◌, ◌<◌, ◌≤◌, ◌↔◌, IsTrue, length, IfOk};
+ghost use Rattle.verity_digest.specs.Tree.{slot as slot_in};
+ghost use Rattle.verity_chain.specs.Table.{IsTable, shape_of, salted_of, hashing_of, branching};
+ghost use Rattle.verity_chain.specs.Table.{height, row_len, tree_len, hash_place, path_index};
+
+use std::alloc::{AllocError, Allocator, Global};
+use std::marker::Model;
+use verity_digest::{Algorithm, Digest, Hasher, Salt, SaltFault};
+use verity_geometry::Geometry;
+use verity_superblock::Table;
+
+/// What is needed to find the blocks of a volume and to check them. A contract sees the table line.
+#[derive(Drop)]
+pub struct Tree<A: Allocator = Global> {
+    table: Table<A>,
+    geometry: Geometry,
+    hasher: Hasher<A>,
+}
+
+impl<A: Allocator> Model for Tree<A> {
+    ghost use Rattle.std.specs.Prelude.{◌≡◌};
+    ghost use Rattle.verity_chain.specs.Table.{Table as Values, IsTable, shape_of, salted_of};
+
+    ghost Value = { Values };
+
+    ghost view = { λ t. t.table };
+
+    ghost invariant = { λ t. IsTable t.table × (t.geometry ≡ shape_of t.table) × (t.hasher.salted ≡ salted_of t.table) };
+}
+
+/// The geometry of a table line, which is of the profile.
+pub fn geometry_of<A: Allocator>(table: &Table<A>) -> Geometry
+    ensures { result ≡ shape_of table.now }
+{
+    let data_size = table.data_block_size();
+    let hash_size = table.hash_block_size();
+    let blocks = table.data_blocks();
+    match Geometry::with_digest(data_size, hash_size, blocks, table.algorithm().size()) {
+        Ok(geometry) => geometry,
+        Err(_) => unreachable!(),
+    }
+}
+
+impl<A: Allocator + Copy> Tree<A> {
+    /// The tree of a table line. It takes memory for a copy of the salt.
+    pub fn new(alloc: A, table: Table<A>, geometry: Geometry) -> Result<Self, AllocError>
+        requires { geometry ≡ shape_of table }
+        ensures { IfOk result (λ t. t ≡ table) }
+    {
+        let _start = table.hash_start_block();
+        let _sizes = (
+            table.data_block_size(),
+            table.hash_block_size(),
+            table.data_blocks(),
+        );
+        match Salt::new(alloc, table.salt().bytes()) {
+            Ok(salt) => {
+                let hasher = Hasher::new(salt, table.algorithm());
+                Ok(Tree {
+                    table,
+                    geometry,
+                    hasher,
+                })
+            }
+            Err(_) => Err(AllocError),
+        }
+    }
+}
+
+impl<A: Allocator> Tree<A> {
+    /// The values of the table line.
+    pub fn table(&self) -> &Table<A>
+        ensures value { result.now ≡ self.now }
+        ensures allowed { IsTable self.now }
+    {
+        let _ = &self.geometry;
+        &self.table
+    }
+
+    /// How many levels there are.
+    pub fn levels(&self) -> usize
+        ensures value { result ≡ height self.now }
+        ensures most { result ≤ 14 }
+    {
+        self.geometry.levels()
+    }
+
+    /// The index in a level of the block above data block `n`.
+    pub fn above(&self, level: usize, n: u64) -> u64
+        requires level { level < height self.now }
+        requires within { n < self.now.data_blocks }
+        ensures value { result ≡ path_index self.now n (suc level) }
+        ensures within { result < row_len self.now (suc level) }
+    {
+        self.geometry.above(level, n)
+    }
+
+    /// The index in a row of the block above data block `n`, or of data block `n` itself.
+    pub fn path_index(&self, row: usize, n: u64) -> u64
+        requires row { row ≤ height self.now }
+        requires within { n < self.now.data_blocks }
+        ensures { result ≡ path_index self.now n row }
+    {
+        if row == 0 { n } else { self.above(row - 1, n) }
+    }
+
+    /// The number in the hash store of a block of a level.
+    pub fn hash_place(&self, level: usize, index: u64) -> u64
+        requires level { level < height self.now }
+        requires index { index < row_len self.now (suc level) }
+        ensures value { result ≡ hash_place self.now level index }
+        ensures within { result < self.now.hash_start_block + tree_len self.now }
+    {
+        self.table.hash_start_block() + self.geometry.place(level, index)
+    }
+
+    /// How many blocks a level has.
+    pub fn level_len(&self, level: usize) -> u64
+        requires { level < height self.now }
+        ensures value { result ≡ row_len self.now (suc level) }
+        ensures few { result ≤ 2 ^ 40 }
+        ensures low { level < 14 }
+    {
+        let _levels = self.geometry.levels();
+        self.geometry.level_len(level)
+    }
+
+    /// The index of the parent of a block of a row below the top.
+    pub fn parent_of(&self, row: usize, index: u64) -> u64
+        requires row { row < height self.now }
+        requires index { index < row_len self.now row }
+        ensures value { result ≡ index / branching self.now }
+        ensures within { result < row_len self.now (suc row) }
+    {
+        index / self.geometry.per_block() as u64
+    }
+
+    /// The slot in its parent of the block at an index.
+    pub fn slot_of(&self, index: u64) -> usize
+        ensures value { result ≡ index % branching self.now }
+        ensures within { result < branching self.now }
+    {
+        (index % self.geometry.per_block() as u64) as usize
+    }
+
+    /// The root hash.
+    pub fn root(&self) -> Digest
+        ensures { result ≡ self.now.root }
+    {
+        self.table.root()
+    }
+
+    /// The digest in a slot of a hash block.
+    pub fn digest_in(&self, block: &[u8], slot: usize) -> Digest
+        requires within { slot < branching self.now }
+        requires whole { length block.now ≡ self.now.hash_block_size }
+        ensures { result ≡ slot_in (hashing_of self.now) block.now slot }
+    {
+        match self.table.algorithm() {
+            Algorithm::Sha256 => {
+                let mut bytes = [0; 32];
+                bytes.copy_from_slice(&block[slot * 32..slot * 32 + 32]);
+                Digest::from_bytes(bytes)
+            }
+            Algorithm::Sha512 => {
+                let mut bytes = [0; 64];
+                bytes.copy_from_slice(&block[slot * 64..slot * 64 + 64]);
+                Digest::from_wide(bytes)
+            }
+        }
+    }
+
+    /// Whether a block has this digest.
+    pub fn matches(&mut self, block: &[u8], named: &Digest) -> bool
+        ensures value { IsTrue result ↔ ((hashing_of self.old).digest block.now ≡ named.now) }
+        ensures same { self.new ≡ self.old }
+    {
+        self.hasher.digest(block).bytes() == named.bytes()
+    }
+}
