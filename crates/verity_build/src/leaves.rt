@@ -7,7 +7,7 @@ ghost use Rattle.verity_build.specs.Ahead.{AreAhead};
 use crate::open_tree::OpenTree;
 use std::alloc::Allocator;
 use verity_digest::Digest;
-use verity_store::{BlockStore, StoreFault, read_run};
+use verity_store::{BlockStore, StoreFault};
 
 /// How many data blocks are hashed side by side.
 const AT_A_TIME: usize = 8;
@@ -76,7 +76,7 @@ impl Leaves {
         let left = tree.geometry.blocks() - n;
         let count = (buffer.len() / size).min(AT_A_TIME).min(left as usize);
         let run = &mut buffer[..count * size];
-        read_run(data_store, n, count, run)?;
+        data_store.read_run(n, count, run)?;
         tree.digest_run(run, &mut self.digests[..count]);
         self.taken = 0;
         self.held = count;

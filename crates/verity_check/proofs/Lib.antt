@@ -1,5 +1,3 @@
-pub mod TableLaws
-pub mod ChainLaw
 pub mod FindingLaws
 pub mod RangeLaw
 pub mod CacheLemmas

@@ -1,6 +1,3 @@
-pub mod Table
-pub mod Chain
-pub mod Right
 pub mod Finding
 pub mod Range
 pub mod Texts

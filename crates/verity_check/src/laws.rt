@@ -1,17 +1,18 @@
 //! What follows for callers. Each function does nothing; its contract is a law, in the words of `specs/`. Proofs cite the
-//! lemmas of `proofs/`: `ChainLaw`, `RangeLaw`, `FindingLaws`, `HoldsLaws`.
+//! lemmas of `proofs/`: `RangeLaw`, `FindingLaws`, `HoldsLaws`, and of `verity_chain`: `ChainLaw`.
 ghost use Rattle.std.specs.Prelude.{◌≡◌, ℕ, suc, ◌+◌, ◌*◌, ◌<◌, ◌≤◌, ◌≢◌, true, List, [], length};
 ghost use Rattle.std.specs.List.{concat};
 ghost use Rattle.verity_profile.specs.Profile.{AllSized};
 ghost use Rattle.verity_superblock.specs.Superblock.{Params, IsProfile};
 ghost use Rattle.verity_superblock.specs.Image.{hash_image};
-ghost use Rattle.verity_check.specs.Table.{Table, IsTable};
-ghost use Rattle.verity_check.specs.Chain.{AreSized, EndsChain, WrongAt};
-ghost use Rattle.verity_check.specs.Right.{Fits, IsRight, AreRight, bytes_of};
+ghost use Rattle.verity_chain.specs.Table.{Table, IsTable};
+ghost use Rattle.verity_chain.specs.Chain.{AreSized, EndsChain, WrongAt};
+ghost use Rattle.verity_chain.specs.Right.{Fits, IsRight, AreRight, bytes_of};
 ghost use Rattle.verity_check.specs.Range.{ServesBytes, Wrong};
 ghost use Rattle.verity_check.specs.declared.finding.Finding.TheVariants.{Good};
 ghost use Rattle.verity_check.specs.Finding.{finding};
-ghost use Rattle.verity_check.specs.Stores.{Marks, given_in, hash_given, held_in, BothTell, IsDataStoreOf, IsHashStoreOf};
+ghost use Rattle.verity_chain.specs.Stores.{hash_given, IsHashStoreOf};
+ghost use Rattle.verity_check.specs.Stores.{Marks, given_in, held_in, BothTell, IsDataStoreOf};
 ghost use Rattle.verity_check.specs.Holds.{Holds, IsLineOf};
 
 use verity_store::BlockStore;

@@ -15,9 +15,9 @@
 //!
 //! The errors are V1 to V5 of [`CheckFault`], and `AllocError` of a report.
 //!
-//! The definitions stand in `specs/`: `Table` (the tree of a table line), `Chain` (chains of given blocks), `Right` (the
-//! image's own blocks, clashes), `Range` (ranges of bytes), `Refusal` (why a read is refused), `Finding` and `Report` (what
-//! a report finds and lists), `Holds` (stores that hold an image), `Stores` and `Verifier` (what contracts see of both).
+//! The tree of a table line, chains of given blocks, the image's own blocks and clashes are defined in `verity_chain`, below.
+//! The other definitions stand in `specs/`: `Range` (ranges of bytes), `Refusal` (why a read is refused), `Finding` and `Report`
+//! (what a report finds and lists), `Holds` (stores that hold an image), `Stores` and `Verifier` (what contracts see of both).
 //! `Cache` has the invariant of the cache, and `Reporting` how far a report has come.
 #![tactic(auto)]
 
@@ -28,12 +28,12 @@ pub mod laws;
 mod range;
 mod report;
 mod since;
-mod tree;
 mod verifier;
 mod walk;
 
 pub use cache::Key;
-pub use fault::{CheckFault, Place};
+pub use fault::CheckFault;
 pub use finding::{Finding, Verdict};
 pub use report::{Faults, Report};
 pub use verifier::Verifier;
+pub use verity_chain::Place;

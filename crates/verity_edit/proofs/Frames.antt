@@ -11,13 +11,14 @@ stays_then facts old now new first second =
     record {
       tells = second.tells ∙ first.tells;
       size = second.size ∙ first.size;
+      fixed = second.fixed ∙ first.fixed;
       gave = goes_on_then _ _ _ first.gave second.gave;
       failures = omega (arith, first.failures, second.failures);
       room = omega (arith, first.room, second.room);
     }
 
 pub stays_of : {S : Type 0} (facts : store.Ghosts S) (old new : S) → IsLater facts old new → StaysStore facts old new
-stays_of facts old new later = record { tells = later.tells; size = later.size; gave = later.gave; failures = later.failures; room = later.room }
+stays_of facts old new later = record { tells = later.tells; size = later.size; fixed = later.fixed; gave = later.gave; failures = later.failures; room = later.room }
 
 pub written_same : {S : Type 0} (facts : store.Ghosts S) (s : S) → IsOnlyWritten facts s s
 written_same facts s = record { reads = refl; later = later_same facts s }
@@ -30,11 +31,11 @@ kept_then facts old now new first second =
     record { content = second.content ∙ first.content; reads = second.reads ∙ first.reads; later = later_then facts old now new first.later second.later }
 
 -- a call that reads nothing, after others
-pub wrote : {S : Type 0} (facts : store.Ghosts S) (old now new : S) → IsOnlyWritten facts old now → facts.tells new ≡ facts.tells now → facts.size new ≡ facts.size now
+pub wrote : {S : Type 0} (facts : store.Ghosts S) (old now new : S) → IsOnlyWritten facts old now → facts.tells new ≡ facts.tells now → facts.size new ≡ facts.size now → facts.fixed new ≡ facts.fixed now
     → GoesOn (facts.given now) (facts.given new) → facts.failures now ≤ facts.failures new → facts.reads new ≡ facts.reads now
     → facts.room now ≤ facts.room new → IsOnlyWritten facts old new
-wrote facts old now new first tells size gave failures reads room =
-    written_then facts old now new first (record { reads = reads; later = record { tells = tells; size = size; gave = gave; failures = failures; reads = omega arith; room = room } })
+wrote facts old now new first tells size fixed gave failures reads room =
+    written_then facts old now new first (record { reads = reads; later = record { tells = tells; size = size; fixed = fixed; gave = gave; failures = failures; reads = omega arith; room = room } })
 
 pub stays_same : {S : Type 0} (facts : store.Ghosts S) (s : S) → StaysStore facts s s
 stays_same facts s = stays_of facts s s (later_same facts s)

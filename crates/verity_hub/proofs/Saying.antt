@@ -9,7 +9,7 @@ use Rattle.nbd_session.specs.Session.{Talked}
 use Rattle.nbd_session.proofs.Hearing.{Judged-weaker}
 use Rattle.nbd_hub.proofs.Steps.{Fair-Given}
 use Rattle.verity_store.specs.declared.store.BlockStore as store
-use Rattle.verity_check.specs.Right.{Fits}
+use Rattle.verity_chain.specs.Right.{Fits}
 use Rattle.verity_check.specs.Verifier.{Verifying, IsVerifier}
 use Rattle.verity_hub.specs.Volume.{HoldsFor, facts_of, IsExactFor, IsRightFor, SaysRight, SaysExact}
 use Rattle.verity_hub.proofs.VolumeLaws.{given_right}

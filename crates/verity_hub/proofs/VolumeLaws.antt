@@ -4,14 +4,15 @@ use Rattle.verity_digest.specs.Tree.{tree}
 use Rattle.verity_store.specs.declared.store.BlockStore as store
 use Rattle.verity_check.specs.declared.fault.CheckFault.{CheckFault}
 use Rattle.verity_check.specs.declared.fault.CheckFault.TheVariants as faults
-use Rattle.verity_check.specs.Table.{Table, hashing_of, path_index}
-use Rattle.verity_check.specs.Right.{Fits, AreRight}
+use Rattle.verity_chain.specs.Table.{Table, hashing_of, path_index}
+use Rattle.verity_chain.specs.Right.{Fits, AreRight}
 use Rattle.verity_check.specs.Range.{ServesBytes, Wrong}
 use Rattle.verity_check.specs.Refusal.{Refuses}
 use Rattle.verity_check.specs.Stores.{Marks, given_in}
 use Rattle.verity_check.specs.Holds.{Holds}
 use Rattle.verity_check.specs.Verifier.{Verifying, given_to, IsOnlyReading, IsVerifier, DataFailed, HashFailed, MayServe, MayRefuse}
-use Rattle.verity_check.proofs.WalkLemmas.{Grows, given_in-grows, WrongAt-grows}
+use Rattle.verity_chain.proofs.ChainLemmas.{Grows, WrongAt-grows}
+use Rattle.verity_check.proofs.WalkLemmas.{given_in-grows}
 use Rattle.verity_check.proofs.RangeLemmas.{Served-grows}
 use Rattle.verity_check.proofs.RangeLaw.{bytes_right}
 use Rattle.verity_check.proofs.VerifierLemmas.{sized, verifier_after}

@@ -2,7 +2,7 @@
 use Rattle.std.specs.Prelude.{◌≡◌, ℕ, ◌+◌, ◌*◌, ◌≤◌, ◌⊎◌, List, length, Result, Ok, Err}
 use Rattle.std.specs.List.{concat}
 use Rattle.verity_store.specs.declared.store.BlockStore as store
-use Rattle.verity_check.specs.Right.{AreRight, bytes_of}
+use Rattle.verity_chain.specs.Right.{AreRight, bytes_of}
 use Rattle.verity_check.specs.Holds.{Holds}
 use Rattle.verity_check.specs.Verifier.{Verifying, given_to, MayServe, MayRefuse}
 use Rattle.nbd_session.specs.declared.offer.Offer.{Offer}

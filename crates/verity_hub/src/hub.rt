@@ -3,7 +3,7 @@
 ghost use Rattle.std.specs.Prelude.{◌≡◌, ◌≢◌, ◌↔◌, ◌≤◌, ◌<◌, ◌+◌, ◌*◌, ◌++◌, length, List, [], ℕ, Some, None, IfOk, OnOk, OnErr, Err};
 ghost use Rattle.nbd_session.specs.Conversation.{Grows};
 ghost use Rattle.nbd_session.specs.Handshake.{greeting};
-ghost use Rattle.verity_check.specs.Right.{Fits};
+ghost use Rattle.verity_chain.specs.Right.{Fits};
 ghost use Rattle.verity_check.specs.Verifier.{IsOnlyReading, IsVerifier};
 ghost use Rattle.nbd_hub.specs.declared.events.HubReply.{HubReply};
 ghost use Rattle.nbd_hub.specs.Sessions.{OpensOne, FeedsOne, EndsOne, lookup, max_open, max_opened};

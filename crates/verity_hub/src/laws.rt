@@ -8,7 +8,7 @@ ghost use Rattle.nbd_relay.specs.Client.{ClientState, IsServed, IsSaid};
 ghost use Rattle.verity_profile.specs.Profile.{AllSized};
 ghost use Rattle.verity_superblock.specs.Superblock.{Params, IsProfile};
 ghost use Rattle.verity_superblock.specs.Image.{hash_image};
-ghost use Rattle.verity_check.specs.Right.{Fits};
+ghost use Rattle.verity_chain.specs.Right.{Fits};
 ghost use Rattle.verity_check.specs.Holds.{IsLineOf};
 ghost use Rattle.verity_check.specs.Verifier.{Verifying};
 ghost use Rattle.verity_hub.specs.Volume.{facts_of, HoldsFor, IsRightFor};

@@ -5,7 +5,7 @@ ghost use Rattle.nbd_hub.specs.History.{Step};
 ghost use Rattle.nbd_hub.specs.Sessions.{SetsOnly, max_open, max_opened};
 ghost use Rattle.nbd_hub.specs.After.{IsAfter};
 ghost use Rattle.nbd_hub.specs.Stream.{Served, ServedBy, ServedAfter};
-ghost use Rattle.verity_check.specs.Right.{Fits};
+ghost use Rattle.verity_chain.specs.Right.{Fits};
 ghost use Rattle.verity_check.specs.Verifier.{IsOnlyReading};
 ghost use Rattle.verity_hub.specs.Volume.{facts_of, HoldsFor, SaysRight, SaysExact};
 

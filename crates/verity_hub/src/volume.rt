@@ -93,6 +93,7 @@ impl<D: BlockStore, H: BlockStore, A: Allocator + Copy + Drop> Export for Volume
           reads = D.reads;
           room = D.room;
           synced = D.synced;
+          fixed = D.fixed;
         })
         (record {
           size = H.size;
@@ -103,6 +104,7 @@ impl<D: BlockStore, H: BlockStore, A: Allocator + Copy + Drop> Export for Volume
           reads = H.reads;
           room = H.room;
           synced = H.synced;
+          fixed = H.fixed;
         }) v };
 
     ghost later_on = { λ u v w. reading_on
@@ -115,6 +117,7 @@ impl<D: BlockStore, H: BlockStore, A: Allocator + Copy + Drop> Export for Volume
           reads = D.reads;
           room = D.room;
           synced = D.synced;
+          fixed = D.fixed;
         })
         (record {
           size = H.size;
@@ -125,5 +128,6 @@ impl<D: BlockStore, H: BlockStore, A: Allocator + Copy + Drop> Export for Volume
           reads = H.reads;
           room = H.room;
           synced = H.synced;
+          fixed = H.fixed;
         }) u v w };
 }

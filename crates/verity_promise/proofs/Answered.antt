@@ -7,8 +7,8 @@ use Rattle.nbd_hub.specs.declared.events.HubReply.{HubReply}
 use Rattle.nbd_hub.specs.After.{EachAfter, IsAfter}
 use Rattle.nbd_hub.specs.Sessions.{HubState}
 use Rattle.verity_store.specs.declared.store.BlockStore as store
-use Rattle.verity_check.specs.Table.{Table}
-use Rattle.verity_check.specs.Right.{Fits}
+use Rattle.verity_chain.specs.Table.{Table}
+use Rattle.verity_chain.specs.Right.{Fits}
 use Rattle.verity_check.specs.Verifier.{Verifying, IsOnlyReading}
 use Rattle.verity_check.specs.declared.fault.CheckFault.{CheckFault}
 use Rattle.verity_check.specs.declared.fault.CheckFault.TheVariants as check

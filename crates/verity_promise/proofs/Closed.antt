@@ -21,7 +21,7 @@ use Rattle.verity_edit.specs.Planning.{volume_hashing}
 use Rattle.verity_edit.specs.Editing.{Editing, FitsStores, Stands, IsWhole, hashing_in}
 use Rattle.verity_edit.specs.Opening.{IsOpened}
 use Rattle.verity_edit.specs.Running.{AreAnswered, LeadsAll, IsUnfailed, is_commit}
-use Rattle.verity_check.specs.Table.{hashing_of, tree_len}
+use Rattle.verity_chain.specs.Table.{hashing_of, tree_len}
 use Rattle.verity_check.specs.Holds.{Holds}
 use Rattle.verity_check.specs.Verifier.{AreStoresOf}
 use Rattle.verity_promise.specs.declared.edited.Edited.{Edited}

@@ -8,8 +8,8 @@ use Rattle.nbd_hub.specs.Stream.{Ends, ServedBy}
 use Rattle.verity_store.specs.declared.store.BlockStore as store
 use Rattle.verity_edit.specs.declared.command.Command.{Command}
 use Rattle.verity_edit.specs.declared.command.Reply.{Reply}
-use Rattle.verity_check.specs.Table.{Table}
-use Rattle.verity_check.specs.Right.{Fits}
+use Rattle.verity_chain.specs.Table.{Table}
+use Rattle.verity_chain.specs.Right.{Fits}
 use Rattle.verity_check.specs.Holds.{Holds}
 use Rattle.verity_check.specs.Verifier.{Verifying, IsOnlyReading}
 use Rattle.verity_hub.specs.Volume.{HoldsFor, SaysRight, SaysExact}

@@ -5,8 +5,8 @@ use Rattle.nbd_hub.specs.declared.events.Event.{Event}
 use Rattle.nbd_hub.specs.declared.events.HubReply.{HubReply}
 use Rattle.nbd_hub.specs.After.{EachAfter}
 use Rattle.verity_store.specs.declared.store.BlockStore as store
-use Rattle.verity_check.specs.Table.{Table}
-use Rattle.verity_check.specs.Right.{Fits}
+use Rattle.verity_chain.specs.Table.{Table}
+use Rattle.verity_chain.specs.Right.{Fits}
 use Rattle.verity_check.specs.Verifier.{Verifying, IsOnlyReading}
 use Rattle.verity_check.specs.declared.fault.CheckFault.TheVariants as check
 use Rattle.verity_hub.specs.Volume.{IsRightFor}

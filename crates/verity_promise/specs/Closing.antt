@@ -7,8 +7,8 @@ use Rattle.verity_superblock.specs.Line.{TableLine, algorithm_of}
 use Rattle.verity_edit.specs.Editing.{Editing, FitsStores, Stands}
 use Rattle.nbd_hub.specs.declared.fault.ServeFault.{ServeFault}
 use Rattle.nbd_hub.specs.Stream.{Ends}
-use Rattle.verity_check.specs.Table.{Table}
-use Rattle.verity_check.specs.Right.{Fits}
+use Rattle.verity_chain.specs.Table.{Table}
+use Rattle.verity_chain.specs.Right.{Fits}
 use Rattle.verity_check.specs.Verifier.{Verifying, IsOnlyReading}
 use Rattle.verity_hub.specs.Volume.{HoldsFor, SaysRight, SaysExact}
 use Rattle.verity_promise.specs.declared.edited.Edited.{Edited}

@@ -1,8 +1,9 @@
 -- The blocks of a file whose bytes may be known.
 use Rattle.std.proofs.Common.{◌≡◌, refl, ℕ, zero, suc, ◌+◌, ◌-◌, ◌*◌, ◌/◌, ◌<◌, ◌≤◌, true, Option, None, Some, List, [], ◌∷◌, ◌++◌, length, take, drop, replicate, get_or, set, length-take, length-drop, length-append, Bool, false, ⊎_elim, inl, inr, sym, ap, subst, ◌∙◌, arith}
-use Rattle.std.proofs.Math.Nat.{suc-mul, mul-le-mul_right, mul-div_cancel}
+use Rattle.std.proofs.Math.Nat.{suc-mul, add-mul, mul-le-mul_right, mul-div_cancel}
 use Rattle.std.proofs.lemmas.Bool.{false≢true}
-use Rattle.std.proofs.lemmas.List.{length-replicate}
+use Rattle.std.proofs.lemmas.List.{length-replicate, drop-drop, drop-take, take-take}
+use Rattle.std.specs.Fork.{slice_chunk}
 use Rattle.std.specs.Prelude.{IfSome}
 use Rattle.std.specs.List.{concat}
 use Rattle.verity_profile.specs.Profile.{zero_block, AllSized}
@@ -33,6 +34,35 @@ pub file_read : (size n k : ℕ) (known : Option (List ℕ)) (given : List ℕ) 
 file_read size n k None given within len reads tells = cc
 file_read size n k (Some bytes) given within len reads tells = let below : k < n = omega (arith, length-cut size n bytes) in
     get_or-cut size n bytes k below ∙ ap (λ (m : ℕ). take m (drop (k * size) bytes)) (sym len) ∙ sym reads
+
+-- a block within a run of bytes
+chunk_at : (size first count j : ℕ) (bytes given : List ℕ) → length given ≡ count * size → given ≡ take (length given) (drop (first * size) bytes) → j < count
+    → take size (drop ((first + j) * size) bytes) ≡ slice_chunk given size j
+chunk_at size first count j bytes given len is below =
+    let m : ℕ = j * size in
+    let left : ℕ = count * size - m in
+    let next : suc j * size ≤ count * size = mul-le-mul_right size (omega arith) in
+    let room : m + size ≤ count * size = omega (arith, next, suc-mul j size) in
+    let whole : count * size ≡ m + left = omega (arith, room) in
+    let place : first * size + m ≡ (first + j) * size = omega (arith, add-mul first j size) in
+    let behind : List ℕ = drop (first * size) bytes in
+    let same : given ≡ take (m + left) behind = is ∙ ap (λ n. take n behind) (len ∙ whole) in
+    sym
+    (ap (λ xs. take size (drop m xs)) same
+      ∙ ap (take size) (drop-take m left behind)
+      ∙ take-take size left (drop m behind) (omega (arith, room))
+      ∙ ap (take size) (drop-drop m (first * size) bytes ∙ ap (λ n. drop n bytes) place))
+
+-- each block of a run that is read at once
+pub file_run : (size n first count : ℕ) (known : Option (List ℕ)) (given : List ℕ) → first + count ≤ length (file_blocks size n known) → length given ≡ count * size
+    → Reads known (first * size) given → is_known known ≡ true → (j : ℕ) → j < count → get_or (file_blocks size n known) (first + j) [] ≡ slice_chunk given size j
+file_run size n first count None given within len reads tells j below = cc
+file_run size n first count (Some bytes) given within len reads tells j below =
+    get_or-cut size n bytes (first + j) (omega (arith, length-cut size n bytes)) ∙ chunk_at size first count j bytes given len reads below
+
+-- where a run begins in the file
+pub file_start : (size n first : ℕ) (known : Option (List ℕ)) → first ≤ length (file_blocks size n known) → first * size ≤ n * size
+file_start size n first known within = mul-le-mul_right size (omega (arith, length-file_blocks size n known))
 
 pub length-overwritten : (at : ℕ) (written bytes : List ℕ) → at + length written ≤ length bytes → length (overwritten at written bytes) ≡ length bytes
 length-overwritten at written bytes fits = simp (length-append, length-take, length-drop) (omega arith)

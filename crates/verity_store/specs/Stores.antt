@@ -7,6 +7,7 @@ use Rattle.verity_store.specs.declared.store.BlockStore as store
 pub record IsLater {S : Type 0} (facts : store.Ghosts S) (old new : S) : Type 0 where
   pub tells : facts.tells new ≡ facts.tells old
   pub size : facts.size new ≡ facts.size old
+  pub fixed : facts.fixed new ≡ facts.fixed old
   pub gave : GoesOn (facts.given old) (facts.given new)
   pub failures : facts.failures old ≤ facts.failures new
   pub reads : facts.reads old ≤ facts.reads new
@@ -16,6 +17,7 @@ pub record IsLater {S : Type 0} (facts : store.Ghosts S) (old new : S) : Type 0 
 pub record StaysStore {S : Type 0} (facts : store.Ghosts S) (old new : S) : Type 0 where
   pub tells : facts.tells new ≡ facts.tells old
   pub size : facts.size new ≡ facts.size old
+  pub fixed : facts.fixed new ≡ facts.fixed old
   pub gave : GoesOn (facts.given old) (facts.given new)
   pub failures : facts.failures old ≤ facts.failures new
   pub room : facts.room old ≤ facts.room new

@@ -156,6 +156,8 @@ impl<S: BlockStore> BlockStore for FailStore<S> {
 
     ghost synced = { λ s. S.synced s.store };
 
+    ghost fixed = { λ s. S.fixed s.store };
+
     fn block_size(&self) -> usize {
         self.store.block_size()
     }
@@ -181,6 +183,7 @@ impl<S: BlockStore> BlockStore for FailStore<S> {
         ensures gave { GoesOn (S.given self.old.store) (S.given self.new.store) }
         ensures tells { S.tells self.new.store ≡ S.tells self.old.store }
         ensures size { S.size self.new.store ≡ S.size self.old.store }
+        ensures fixed { S.fixed self.new.store ≡ S.fixed self.old.store }
         ensures room { S.room self.new.store ≡ S.room self.old.store }
     {
         if self.fails_read() {
@@ -206,6 +209,7 @@ impl<S: BlockStore> BlockStore for FailStore<S> {
         ensures gave { GoesOn (S.given self.old.store) (S.given self.new.store) }
         ensures tells { S.tells self.new.store ≡ S.tells self.old.store }
         ensures size { S.size self.new.store ≡ S.size self.old.store }
+        ensures fixed { S.fixed self.new.store ≡ S.fixed self.old.store }
         ensures room { S.room self.new.store ≡ S.room self.old.store }
     {
         if self.fails_call() {
@@ -227,6 +231,7 @@ impl<S: BlockStore> BlockStore for FailStore<S> {
         ensures gave { GoesOn (S.given self.old.store) (S.given self.new.store) }
         ensures tells { S.tells self.new.store ≡ S.tells self.old.store }
         ensures size { S.size self.new.store ≡ S.size self.old.store }
+        ensures fixed { S.fixed self.new.store ≡ S.fixed self.old.store }
         ensures room { S.room self.old.store ≤ S.room self.new.store }
     {
         self.store.reserve(blocks)
@@ -249,6 +254,7 @@ impl<S: BlockStore> BlockStore for FailStore<S> {
         ensures gave { GoesOn (S.given self.old.store) (S.given self.new.store) }
         ensures tells { S.tells self.new.store ≡ S.tells self.old.store }
         ensures size { S.size self.new.store ≡ S.size self.old.store }
+        ensures fixed { S.fixed self.new.store ≡ S.fixed self.old.store }
         ensures room { S.room self.old.store ≤ S.room self.new.store }
     {
         if self.fails_call() {
@@ -271,6 +277,7 @@ impl<S: BlockStore> BlockStore for FailStore<S> {
         ensures gave { GoesOn (S.given self.old.store) (S.given self.new.store) }
         ensures tells { S.tells self.new.store ≡ S.tells self.old.store }
         ensures size { S.size self.new.store ≡ S.size self.old.store }
+        ensures fixed { S.fixed self.new.store ≡ S.fixed self.old.store }
         ensures room { S.room self.new.store ≡ S.room self.old.store }
     {
         if self.fails_call() {

@@ -1,7 +1,8 @@
 //! A store in a file.
-ghost use Rattle.std.specs.Prelude.{◌≡◌, ◌≢◌, ◌*◌, ◌^◌, ◌<◌, ◌≤◌, ◌%◌, ◌↔◌, length, IfOk, IfErr, IfSome, OnOk, OnErr, IsOk, IsTrue, true};
+ghost use Rattle.std.specs.Prelude.{◌≡◌, ◌≢◌, ◌+◌, ◌*◌, ◌^◌, ◌<◌, ◌≤◌, ◌%◌, ◌↔◌, ◌++◌, length, IfOk, IfErr, IfSome, OnOk, OnErr, IsOk, IsTrue, true};
 ghost use Rattle.std.specs.List.{concat};
 ghost use Rattle.verity_profile.specs.Profile.{IsBlockSize};
+ghost use Rattle.verity_store.specs.Given.{run_of};
 ghost use Rattle.verity_store.specs.RawFile.{HasLength, is_known, file_blocks};
 
 use crate::{BlockStore, RawFile, StoreFault};
@@ -15,7 +16,8 @@ use verity_profile::is_block_size;
 
 /// A store whose blocks lie in a file, one after the other, from byte 0 on.
 ///
-/// It tells where the bytes of its file are known. Each read and each write is one access to the file, at its offset. Over a file
+/// It tells where the bytes of its file are known. Each read, of a block or of a run, and each write is one access to the file,
+/// at its offset; where that of a run fails, each of its blocks is counted as a read, and none is given. Over a file
 /// of the system, of whose bytes nothing is known, what it gave is still the very list of what its reads returned.
 #[derive(Drop)]
 pub struct FileStore<F: RawFile> {
@@ -38,6 +40,27 @@ fn has_len<F: RawFile>(file: &F, len: u64) -> bool
     match file.byte_len() {
         Ok(now) => now == len,
         Err(_) => false,
+    }
+}
+
+// Counts so many reads.
+fn count_reads(reads: &mut Count, count: usize)
+    ensures { reads.new.steps ≡ reads.old.steps + count }
+{
+    'each: for _done in 0..count {
+        reads.step();
+    }
+}
+
+// Notes the blocks of a run that was read.
+fn note_run(given: &mut Given, first: u64, size: usize, count: usize, out: &[u8])
+    requires near { first + count < 2 ^ 64 }
+    requires sized { length out.now ≡ count * size }
+    ensures { given.new.blocks ≡ given.old.blocks ++ run_of first size count out.now }
+{
+    'each: for j in 0..count {
+        let at = j * size;
+        given.note(first + j as u64, &out[at..at + size]);
     }
 }
 
@@ -173,6 +196,23 @@ impl<F: RawFile> BlockStore for FileStore<F> {
         match self.file.read_exact_at(at, out) {
             Ok(()) => {
                 self.given.note(n, out);
+                Ok(())
+            }
+            Err(_) => {
+                self.failed.step();
+                Err(StoreFault::Device)
+            }
+        }
+    }
+
+    /// Reads the run by one access to the file.
+    fn read_run(&mut self, first: u64, count: usize, out: &mut [u8]) -> Result<(), StoreFault> {
+        count_reads(&mut self.read_count, count);
+        let _len = self.len();
+        let start = first * self.size as u64;
+        match self.file.read_exact_at(start, out) {
+            Ok(()) => {
+                note_run(&mut self.given, first, self.size, count, out);
                 Ok(())
             }
             Err(_) => {

@@ -1,19 +1,21 @@
 //! Block stores: lists of blocks of one size that may fail and need not be honest.
 //!
-//! Its one contract is `BlockStore`. A contract over a store sees eight facts of it: its block `size`, its `content`, whether
+//! Its one contract is `BlockStore`. A contract over a store sees nine facts of it: its block `size`, its `content`, whether
 //! it `tells` (a read gives the block of `content`, a write puts it there), the list of the blocks that its reads gave, with
 //! their numbers (`given`), how often it failed (`failures`), how often it was read (`reads`), up to how many blocks it has
-//! `room`, and whether it was asked to keep what was written (`synced`). Counts and lists have no bytes at run time.
+//! `room`, whether it was asked to keep what was written (`synced`), and what it is bound to (`fixed`), which no call changes.
+//! Counts and lists have no bytes at run time. A run of blocks is read into one buffer by `read_run`: block by block, or, where
+//! a store has a way of its own as `FileStore` has, at once.
 //!
 //! Its faults are S1 to S4 (`StoreFault`). A call answers S1 only where `failures` rose in it.
 //!
 //! Four stores: `MemStore` in memory and `FileStore` in a file, which are honest; `ScriptStore`, which gives what it was told to
 //! give, and `FailStore`, some of whose calls fail, which are for whoever wants to see what a layer above makes of them. A `Window`
 //! is a file for a `FileStore`: the first bytes of one that doesn't grow, as of a block device.
-//! `move_run` moves a run of blocks within any store, and `read_run` reads one into a buffer.
+//! `move_run` moves a run of blocks within any store.
 //!
 //! Definitions: `specs/Blocks.antt` (lists of blocks), `specs/Moves.antt` (runs that are moved), `specs/Given.antt` (lists of
-//! given blocks), `specs/Stores.antt` (what calls leave of a store's facts), `specs/Script.antt` and `specs/Failing.antt`
+//! given blocks, and runs of them), `specs/Stores.antt` (what calls leave of a store's facts), `specs/Script.antt` and `specs/Failing.antt`
 //! (those two stores), `specs/RawFile.antt` (the bytes of a file), `specs/Window.antt` (its first bytes), `specs/Texts.antt`
 //! (the texts).
 #![tactic(auto)]
@@ -27,7 +29,6 @@ mod mem_file;
 mod memory;
 mod moves;
 mod raw_file;
-mod runs;
 mod script;
 mod store;
 mod window;
@@ -41,7 +42,6 @@ pub use mem_file::MemFile;
 pub use memory::MemStore;
 pub use moves::move_run;
 pub use raw_file::RawFile;
-pub use runs::read_run;
 pub use script::ScriptStore;
 pub use store::BlockStore;
 pub use window::Window;

@@ -24,6 +24,7 @@ fn move_block<S: BlockStore>(
     ensures reads { S.reads store.new ≡ S.reads store.old + 1 }
     ensures tells { S.tells store.new ≡ S.tells store.old }
     ensures size { S.size store.new ≡ S.size store.old }
+    ensures fixed { S.fixed store.new ≡ S.fixed store.old }
     ensures room { S.room store.new ≡ S.room store.old }
     ensures gave { GoesOn (S.given store.old) (S.given store.new) }
 {
@@ -53,6 +54,7 @@ fn move_down<S: BlockStore>(
     ensures reads { S.reads store.new ≤ S.reads store.old + count }
     ensures tells { S.tells store.new ≡ S.tells store.old }
     ensures size { S.size store.new ≡ S.size store.old }
+    ensures fixed { S.fixed store.new ≡ S.fixed store.old }
     ensures room { S.room store.new ≡ S.room store.old }
     ensures gave { GoesOn (S.given store.old) (S.given store.new) }
 {
@@ -84,6 +86,7 @@ fn move_up<S: BlockStore>(
     ensures reads { S.reads store.new ≤ S.reads store.old + count }
     ensures tells { S.tells store.new ≡ S.tells store.old }
     ensures size { S.size store.new ≡ S.size store.old }
+    ensures fixed { S.fixed store.new ≡ S.fixed store.old }
     ensures room { S.room store.new ≡ S.room store.old }
     ensures gave { GoesOn (S.given store.old) (S.given store.new) }
 {
@@ -121,6 +124,7 @@ pub fn move_run<S: BlockStore>(
     ensures reads { S.reads store.new ≤ S.reads store.old + count }
     ensures tells { S.tells store.new ≡ S.tells store.old }
     ensures size { S.size store.new ≡ S.size store.old }
+    ensures fixed { S.fixed store.new ≡ S.fixed store.old }
     ensures room { S.room store.new ≡ S.room store.old }
     ensures gave { GoesOn (S.given store.old) (S.given store.new) }
 {

@@ -1,7 +1,8 @@
 //! What is asked of a block store.
-ghost use Rattle.std.specs.Prelude.{◌≡◌, ◌≢◌, ℕ, ◌+◌, ◌^◌, ◌<◌, ◌≤◌, Bool, true, List, [], ◌∷◌, ◌++◌, length, slice_index_or, slice_set, OnOk, OnErr, IfErr};
+ghost use Rattle.std.specs.Prelude.{◌≡◌, ◌≢◌, ℕ, ◌+◌, ◌*◌, ◌^◌, ◌<◌, ◌≤◌, Bool, true, List, [], ◌∷◌, ◌++◌, length, slice_index_or, slice_set, OnOk, OnErr, IfErr};
 ghost use Rattle.verity_profile.specs.Profile.{IsBlockSize, AllSized};
-ghost use Rattle.verity_store.specs.Given.{GoesOn};
+ghost use Rattle.std.specs.Fork.{slice_chunk};
+ghost use Rattle.verity_store.specs.Given.{GoesOn, run_of, GivesPart};
 ghost use Rattle.verity_store.specs.Blocks.{resized, ResizedToward, ChangesAt};
 
 use crate::StoreFault;
@@ -35,6 +36,9 @@ pub trait BlockStore {
     /// It was asked to keep all that was written. No call but `sync` promises it.
     ghost synced: { Self → Bool } = { λ _. true };
 
+    /// What the store is bound to, as that against which it checks what it reads. No call changes it.
+    ghost fixed: { Self → List (ℕ × List ℕ) } = { λ _. [] };
+
     /// The bytes of a block.
     fn block_size(&self) -> usize
         ensures value { result ≡ size self.now }
@@ -63,7 +67,41 @@ pub trait BlockStore {
         ensures gave { GoesOn (given self.old) (given self.new) }
         ensures tells { tells self.new ≡ tells self.old }
         ensures size { size self.new ≡ size self.old }
+        ensures fixed { fixed self.new ≡ fixed self.old }
         ensures room { room self.new ≡ room self.old };
+
+    /// Reads `count` blocks from `first` on into `out`, which has the bytes of as many, one after the other.
+    ///
+    /// S1 where the device failed at one of them; `out` may then hold anything. Each block that is read is counted as one read.
+    fn read_run(&mut self, first: u64, count: usize, out: &mut [u8]) -> Result<(), StoreFault>
+        requires within { first + count ≤ length (content self.old) }
+        requires sized { length out.old ≡ count * size self.old }
+        ensures given { OnOk result (given self.new ≡ given self.old ++ run_of first (size self.old) count out.new) }
+        ensures given_most { OnErr result (GivesPart first (size self.old) count out.new (given self.old) (given self.new)) }
+        ensures right { OnOk result (tells self.old ≡ true
+            → (j : ℕ) → j < count → slice_index_or (content self.old) (first + j) [] ≡ slice_chunk out.new (size self.old) j) }
+        ensures error { IfErr result (λ e. e ≡ StoreFault.Device) }
+        ensures failed { OnErr result (failures self.old < failures self.new) }
+        ensures unfailed { OnOk result (failures self.new ≡ failures self.old) }
+        ensures failures { failures self.old ≤ failures self.new }
+        ensures counted { OnOk result (reads self.new ≡ reads self.old + count) }
+        ensures counted_least { reads self.old ≤ reads self.new }
+        ensures counted_most { reads self.new ≤ reads self.old + count }
+        ensures content { content self.new ≡ content self.old }
+        ensures gave { GoesOn (given self.old) (given self.new) }
+        ensures tells { tells self.new ≡ tells self.old }
+        ensures size { size self.new ≡ size self.old }
+        ensures fixed { fixed self.new ≡ fixed self.old }
+        ensures room { room self.new ≡ room self.old }
+    {
+        let size = self.block_size();
+        let _len = self.len();
+        'each: for j in 0..count {
+            let at = j * size;
+            self.read(first + j as u64, &mut out[at..at + size])?;
+        }
+        Ok(())
+    }
 
     /// Writes `block`, which has the bytes of a block, to block `n`.
     ///
@@ -83,6 +121,7 @@ pub trait BlockStore {
         ensures gave { GoesOn (given self.old) (given self.new) }
         ensures tells { tells self.new ≡ tells self.old }
         ensures size { size self.new ≡ size self.old }
+        ensures fixed { fixed self.new ≡ fixed self.old }
         ensures room { room self.new ≡ room self.old };
 
     /// Makes room for `blocks` blocks, so that `set_len` to as many is not refused for memory. No block changes.
@@ -100,6 +139,7 @@ pub trait BlockStore {
         ensures gave { GoesOn (given self.old) (given self.new) }
         ensures tells { tells self.new ≡ tells self.old }
         ensures size { size self.new ≡ size self.old }
+        ensures fixed { fixed self.new ≡ fixed self.old }
         ensures room { room self.old ≤ room self.new };
 
     /// Cuts the store to `blocks` blocks, or fills it up to as many with zero blocks.
@@ -121,6 +161,7 @@ pub trait BlockStore {
         ensures gave { GoesOn (given self.old) (given self.new) }
         ensures tells { tells self.new ≡ tells self.old }
         ensures size { size self.new ≡ size self.old }
+        ensures fixed { fixed self.new ≡ fixed self.old }
         ensures room { room self.old ≤ room self.new };
 
     /// Asks the device to keep what was written. No block changes.
@@ -138,5 +179,6 @@ pub trait BlockStore {
         ensures gave { GoesOn (given self.old) (given self.new) }
         ensures tells { tells self.new ≡ tells self.old }
         ensures size { size self.new ≡ size self.old }
+        ensures fixed { fixed self.new ≡ fixed self.old }
         ensures room { room self.new ≡ room self.old };
 }

@@ -69,7 +69,7 @@ loop-level-preserved g c =
           let next = stored_next h s c.args.start j (tree h image) now.blocks.items new.blocks.items now.root new.root (H.content c.loop-level.hash_store) c.block.result.now closes within tree_block (kept.stored tells image count right stored) in
           subst (λ content. AreStored s c.args.start (tree h image) new.blocks.items content) (sym is) next;
       from =
-          let later : IsLater H c.loop-level.hash_store c.write.new.self = record { tells = wrote.tells; size = wrote.size; gave = wrote.gave; failures = wrote.failures; reads = omega (arith, wrote.reads); room = omega (arith, wrote.room) } in
+          let later : IsLater H c.loop-level.hash_store c.write.new.self = record { tells = wrote.tells; size = wrote.size; fixed = wrote.fixed; gave = wrote.gave; failures = wrote.failures; reads = omega (arith, wrote.reads); room = omega (arith, wrote.room) } in
           writes_then H c.args.start c.args.hash_store.now c.loop-level.hash_store c.write.new.self kept.from
           (writes_one H c.args.start (c.args.start + c.place-place.result) c.loop-level.hash_store c.write.new.self (omega arith) wrote.others wrote.reads wrote.room later);
       unfailed = wrote.unfailed ∙ kept.unfailed;

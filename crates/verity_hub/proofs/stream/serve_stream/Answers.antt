@@ -3,8 +3,8 @@ use Rattle.nbd_session.specs.Session.{Talked}
 use Rattle.nbd_hub.specs.Sessions.{HubState}
 use Rattle.nbd_hub.specs.Stream.{Ends, Served}
 use Rattle.nbd_hub.proofs.Weaker.{served_weaker}
-use Rattle.verity_check.specs.Table.{Table}
-use Rattle.verity_check.specs.Right.{Fits}
+use Rattle.verity_chain.specs.Table.{Table}
+use Rattle.verity_chain.specs.Right.{Fits}
 use Rattle.verity_check.specs.Verifier.{Verifying, IsOnlyReading, IsVerifier}
 use Rattle.verity_hub.specs.Volume.{facts_of, SaysRight, SaysExact}
 use Rattle.verity_hub.proofs.Saying.{says_right, says_exact}

@@ -17,6 +17,7 @@ loop-i-preserved g c =
           (ChangesWithin-part c.args.to (c.loop-i.i + 1) (c.args.to + c.loop-i.i) 1 now new (omega arith) (omega arith) one.others);
       tells = one.tells ∙ before.tells;
       size = one.size ∙ before.size;
+      fixed = one.fixed ∙ before.fixed;
       room = one.room ∙ before.room;
       failures = one.unfailed ∙ before.failures;
       reads = omega arith;

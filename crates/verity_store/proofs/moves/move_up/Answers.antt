@@ -21,6 +21,7 @@ loop-left-preserved g c =
           (ChangesWithin-part (to + rest) (c.args.count - rest) (to + rest) 1 now new (omega arith) (omega arith) one.others);
       tells = one.tells ∙ before.tells;
       size = one.size ∙ before.size;
+      fixed = one.fixed ∙ before.fixed;
       room = one.room ∙ before.room;
       failures = one.unfailed ∙ before.failures;
       reads = omega arith;

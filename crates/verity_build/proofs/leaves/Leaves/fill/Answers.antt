@@ -12,9 +12,9 @@ returns-clause-ahead g c =
     let run = c.read_run.new.out in
     let read = c.in_ok-read_run.ensures in
     let room : length (take count c.args.self.now.digests) ≡ count = length-take-le count c.args.self.now.digests (omega arith) in
-    ahead_made D c.args.tree.now.hasher.salted n c.read_run.new.store c.digest_run.new.out _ run c.args.tree.now.geometry.data_size count
+    ahead_made D c.args.tree.now.hasher.salted n c.read_run.new.self c.digest_run.new.out _ run c.args.tree.now.geometry.data_size count
     (c.digest_run.auto.out ∙ room)
-    (omega (arith, ap length read.read.content))
+    (omega (arith, ap length read.content))
     (λ j below. c.digest_run.ensures.digests j (omega (arith, room)))
     (λ tells j below.
-    ap (λ blocks. get_or blocks (n + j) []) read.read.content ∙ read.right (sym read.read.later.tells ∙ tells) j below ∙ ap (λ size. slice_chunk run size j) c.requires.size)
+    ap (λ blocks. get_or blocks (n + j) []) read.content ∙ read.right (sym read.tells ∙ tells) j below ∙ ap (λ size. slice_chunk run size j) c.requires.size)

@@ -3,8 +3,8 @@ use Rattle.nbd_hub.specs.History.{Step, steps}
 use Rattle.nbd_hub.specs.Sessions.{HubState}
 use Rattle.nbd_hub.specs.After.{EachAfter, Given, IsAfter}
 use Rattle.nbd_hub.proofs.Runs.{each_weaker}
-use Rattle.verity_check.specs.Table.{Table}
-use Rattle.verity_check.specs.Right.{Fits}
+use Rattle.verity_chain.specs.Table.{Table}
+use Rattle.verity_chain.specs.Right.{Fits}
 use Rattle.verity_check.specs.Verifier.{Verifying, IsOnlyReading, IsVerifier}
 use Rattle.verity_hub.specs.Volume.{facts_of, IsRightFor}
 use Rattle.verity_hub.proofs.VolumeLaws.{given_right}

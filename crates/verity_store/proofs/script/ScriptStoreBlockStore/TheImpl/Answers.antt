@@ -1,4 +1,4 @@
-use Rattle.std.proofs.Common.{refl, rules, ◌∙◌, sym, arith}
+use Rattle.std.proofs.Common.{refl, rules, arith}
 use Rattle.std.proofs.lemmas.Bool.{false≢true}
 use Rattle.verity_store.specs.Script.{next_block}
 use Rattle.verity_store.proofs.BlockLemmas.{resized_not}
@@ -24,6 +24,7 @@ read-tells g c =
       gave = t.gave;
       tells = refl;
       size = t.size;
+      fixed = refl;
       room = refl;
     }
 
@@ -43,5 +44,6 @@ set_len-tells g c =
       gave = goes_on_same _;
       tells = refl;
       size = refl;
+      fixed = refl;
       room = omega arith;
     })

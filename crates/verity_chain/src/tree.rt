@@ -1,7 +1,8 @@
 //! The tree that a table line describes, as a check goes down it.
 ghost use Rattle.std.specs.Prelude.{◌≡◌, suc, ◌+◌, ◌*◌, ◌/◌, ◌%◌, ◌^◌, ◌<◌, ◌≤◌, ◌↔◌, IsTrue, length, IfOk};
 ghost use Rattle.verity_digest.specs.Tree.{slot as slot_in};
-ghost use Rattle.verity_check.specs.Table.{IsTable, shape_of, salted_of, hashing_of, branching, height, row_len, tree_len, hash_place, path_index};
+ghost use Rattle.verity_chain.specs.Table.{IsTable, shape_of, salted_of, hashing_of, branching};
+ghost use Rattle.verity_chain.specs.Table.{height, row_len, tree_len, hash_place, path_index};
 
 use std::alloc::{AllocError, Allocator, Global};
 use std::marker::Model;
@@ -11,7 +12,7 @@ use verity_superblock::Table;
 
 /// What is needed to find the blocks of a volume and to check them. A contract sees the table line.
 #[derive(Drop)]
-pub(crate) struct Tree<A: Allocator = Global> {
+pub struct Tree<A: Allocator = Global> {
     table: Table<A>,
     geometry: Geometry,
     hasher: Hasher<A>,
@@ -19,7 +20,7 @@ pub(crate) struct Tree<A: Allocator = Global> {
 
 impl<A: Allocator> Model for Tree<A> {
     ghost use Rattle.std.specs.Prelude.{◌≡◌};
-    ghost use Rattle.verity_check.specs.Table.{Table as Values, IsTable, shape_of, salted_of};
+    ghost use Rattle.verity_chain.specs.Table.{Table as Values, IsTable, shape_of, salted_of};
 
     ghost Value = { Values };
 
@@ -29,7 +30,7 @@ impl<A: Allocator> Model for Tree<A> {
 }
 
 /// The geometry of a table line, which is of the profile.
-pub(crate) fn geometry_of<A: Allocator>(table: &Table<A>) -> Geometry
+pub fn geometry_of<A: Allocator>(table: &Table<A>) -> Geometry
     ensures { result ≡ shape_of table.now }
 {
     let data_size = table.data_block_size();
@@ -43,7 +44,7 @@ pub(crate) fn geometry_of<A: Allocator>(table: &Table<A>) -> Geometry
 
 impl<A: Allocator + Copy> Tree<A> {
     /// The tree of a table line. It takes memory for a copy of the salt.
-    pub(crate) fn new(alloc: A, table: Table<A>, geometry: Geometry) -> Result<Self, AllocError>
+    pub fn new(alloc: A, table: Table<A>, geometry: Geometry) -> Result<Self, AllocError>
         requires { geometry ≡ shape_of table }
         ensures { IfOk result (λ t. t ≡ table) }
     {
@@ -69,7 +70,7 @@ impl<A: Allocator + Copy> Tree<A> {
 
 impl<A: Allocator> Tree<A> {
     /// The values of the table line.
-    pub(crate) fn table(&self) -> &Table<A>
+    pub fn table(&self) -> &Table<A>
         ensures value { result.now ≡ self.now }
         ensures allowed { IsTable self.now }
     {
@@ -78,7 +79,7 @@ impl<A: Allocator> Tree<A> {
     }
 
     /// How many levels there are.
-    pub(crate) fn levels(&self) -> usize
+    pub fn levels(&self) -> usize
         ensures value { result ≡ height self.now }
         ensures most { result ≤ 14 }
     {
@@ -86,7 +87,7 @@ impl<A: Allocator> Tree<A> {
     }
 
     /// The index in a level of the block above data block `n`.
-    pub(crate) fn above(&self, level: usize, n: u64) -> u64
+    pub fn above(&self, level: usize, n: u64) -> u64
         requires level { level < height self.now }
         requires within { n < self.now.data_blocks }
         ensures value { result ≡ path_index self.now n (suc level) }
@@ -96,7 +97,7 @@ impl<A: Allocator> Tree<A> {
     }
 
     /// The index in a row of the block above data block `n`, or of data block `n` itself.
-    pub(crate) fn path_index(&self, row: usize, n: u64) -> u64
+    pub fn path_index(&self, row: usize, n: u64) -> u64
         requires row { row ≤ height self.now }
         requires within { n < self.now.data_blocks }
         ensures { result ≡ path_index self.now n row }
@@ -105,7 +106,7 @@ impl<A: Allocator> Tree<A> {
     }
 
     /// The number in the hash store of a block of a level.
-    pub(crate) fn hash_place(&self, level: usize, index: u64) -> u64
+    pub fn hash_place(&self, level: usize, index: u64) -> u64
         requires level { level < height self.now }
         requires index { index < row_len self.now (suc level) }
         ensures value { result ≡ hash_place self.now level index }
@@ -115,7 +116,7 @@ impl<A: Allocator> Tree<A> {
     }
 
     /// How many blocks a level has.
-    pub(crate) fn level_len(&self, level: usize) -> u64
+    pub fn level_len(&self, level: usize) -> u64
         requires { level < height self.now }
         ensures value { result ≡ row_len self.now (suc level) }
         ensures few { result ≤ 2 ^ 40 }
@@ -126,7 +127,7 @@ impl<A: Allocator> Tree<A> {
     }
 
     /// The index of the parent of a block of a row below the top.
-    pub(crate) fn parent_of(&self, row: usize, index: u64) -> u64
+    pub fn parent_of(&self, row: usize, index: u64) -> u64
         requires row { row < height self.now }
         requires index { index < row_len self.now row }
         ensures value { result ≡ index / branching self.now }
@@ -136,7 +137,7 @@ impl<A: Allocator> Tree<A> {
     }
 
     /// The slot in its parent of the block at an index.
-    pub(crate) fn slot_of(&self, index: u64) -> usize
+    pub fn slot_of(&self, index: u64) -> usize
         ensures value { result ≡ index % branching self.now }
         ensures within { result < branching self.now }
     {
@@ -144,14 +145,14 @@ impl<A: Allocator> Tree<A> {
     }
 
     /// The root hash.
-    pub(crate) fn root(&self) -> Digest
+    pub fn root(&self) -> Digest
         ensures { result ≡ self.now.root }
     {
         self.table.root()
     }
 
     /// The digest in a slot of a hash block.
-    pub(crate) fn digest_in(&self, block: &[u8], slot: usize) -> Digest
+    pub fn digest_in(&self, block: &[u8], slot: usize) -> Digest
         requires within { slot < branching self.now }
         requires whole { length block.now ≡ self.now.hash_block_size }
         ensures { result ≡ slot_in (hashing_of self.now) block.now slot }
@@ -171,7 +172,7 @@ impl<A: Allocator> Tree<A> {
     }
 
     /// Whether a block has this digest.
-    pub(crate) fn matches(&mut self, block: &[u8], named: &Digest) -> bool
+    pub fn matches(&mut self, block: &[u8], named: &Digest) -> bool
         ensures value { IsTrue result ↔ ((hashing_of self.old).digest block.now ≡ named.now) }
         ensures same { self.new ≡ self.old }
     {

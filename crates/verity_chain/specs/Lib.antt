@@ -1,0 +1,5 @@
+pub mod Table
+pub mod Chain
+pub mod Right
+pub mod Stores
+pub mod Texts

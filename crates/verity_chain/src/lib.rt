@@ -1,0 +1,19 @@
+//! The tree that a table line describes, and what a chain of given blocks from its root is worth.
+//!
+//! A [`Tree`] finds the blocks of a volume and their digests' places, and compares digests; a [`Place`] names a block. What a
+//! store gave is not trusted: where it gave blocks one below the other, each with the digest that the one above it names and
+//! the first with the root hash, the last one ends a chain. Under the table line of an image such a block is the image's own,
+//! or at some place the store gave a block that differs from the image's own there and has its length and its digest
+//! (`proofs/ChainLaw`; `verity_check` says it of its two stores, as contracts of its `laws`).
+//!
+//! There is no error but `AllocError`.
+//!
+//! The definitions stand in `specs/`: `Table` (the tree of a table line), `Chain` (chains of given blocks), `Right` (the
+//! image's own blocks, clashes), `Stores` (what a store gave at the places of the volume).
+#![tactic(auto)]
+
+mod place;
+mod tree;
+
+pub use place::Place;
+pub use tree::{Tree, geometry_of};
