@@ -13,7 +13,8 @@
 //! nothing of that, so it may be stopped any number of times. `specs/Journal.antt` has the journal's bytes and what they stand
 //! for (`volume`), `specs/Plan.antt` what a plan makes of a device.
 //!
-//! Nothing is said of files of the system: that a `Disks` over them meets these clauses is for whoever writes one.
+//! [`FileDisks`] are three files. What is proved of them is said of devices beside the files: that a file of the system does what
+//! a call asks of it, and what a stop leaves of it, is trusted.
 //!
 //! # Errors
 //!
@@ -23,6 +24,9 @@
 
 mod changing;
 mod disks;
+mod file_device;
+mod file_log;
+mod files;
 mod journal;
 pub mod laws;
 mod memory;
@@ -34,6 +38,8 @@ mod tearing;
 mod three;
 
 pub use disks::{Device, DiskFault, Disks};
+pub use file_device::FileDevice;
+pub use files::FileDisks;
 pub use journal::{commit_through, spell};
 pub use memory::TearingDisks;
 pub use plan::{Change, Plan, Side};

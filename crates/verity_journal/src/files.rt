@@ -1,0 +1,116 @@
+//! Three files under one clock.
+ghost use Rattle.std.specs.Prelude.{◌≡◌, ◌⊎◌, ◌≤◌, [], length, None};
+ghost use Rattle.std.specs.Option.{ForSome};
+ghost use Rattle.std.proofs.Common.{inl};
+ghost use Rattle.verity_journal.specs.Tearing.{read_of, all_read, AllMayLeave, MightHaveLeft};
+ghost use Rattle.verity_journal.specs.Past.{no_later};
+
+use crate::file_device::{FileDevice, ThreeFiles};
+use crate::past::Past;
+use crate::{Device, DiskFault, Disks};
+use std::alloc::{Allocator, Global};
+use verity_count::Count;
+use verity_store::RawFile;
+
+/// Three files as the devices of a journal.
+///
+/// What they hold is a ghost: three devices, which stood in any way at first, and what each call on a file did to its device,
+/// if it did what it was asked to and a stop takes no more than [`Disks`] says. That the files of a system do so can't be
+/// proved, and is trusted; after a call that failed nothing is known of what is read.
+///
+/// The journal is read from memory, as it stood at first: no file is read. After the first change each read is a fault, and
+/// so is each of the other devices.
+#[derive(Drop)]
+pub struct FileDisks<F: RawFile, A: Allocator = Global> {
+    files: ThreeFiles<F>,
+    unchanged_journal: Option<Vec<u8, A>>,
+    failed: Count,
+    past: Past,
+    ghost journal: { ForSome unchanged_journal (λ bytes. bytes.items ≡ read_of files.on_journal) },
+}
+
+impl<F: RawFile, A: Allocator> FileDisks<F, A> {
+    /// These three files, the last of which has these bytes.
+    pub fn new(
+        on_data: FileDevice<F>,
+        on_hash: FileDevice<F>,
+        on_journal: FileDevice<F>,
+        journal: Vec<u8, A>,
+    ) -> FileDisks<F, A>
+        requires { read_of on_journal ≡ journal.items }
+        ensures files { result.files ≡ record { on_data = on_data; on_hash = on_hash; on_journal = on_journal } }
+        ensures past { result.past.moments ≡ [] }
+    {
+        FileDisks {
+            files: ThreeFiles::new(on_data, on_hash, on_journal),
+            unchanged_journal: Some(journal),
+            failed: Count::new(),
+            past: Past::new(),
+        }
+    }
+}
+
+impl<F: RawFile, A: Allocator> Disks for FileDisks<F, A> {
+    ghost seen = { λ d. all_read d.files };
+
+    ghost may_leave = { λ d c. AllMayLeave d.files c };
+
+    ghost moment = { λ d. length d.past.moments };
+
+    ghost left_since = { λ d t c. AllMayLeave d.files c ⊎ MightHaveLeft t d.past.moments c };
+
+    ghost faults = { λ d. d.failed.steps };
+
+    ghost counts_now = { λ d t c le now. inl now };
+
+    ghost only_now = { λ d c left. no_later d.past.moments (AllMayLeave d.files c) c left };
+
+    fn write_at(&mut self, device: Device, at: u64, bytes: &[u8]) -> Result<(), DiskFault> {
+        self.past.note_files(&self.files);
+        let is_small = bytes.len() as u64 <= u64::MAX - at;
+        if !is_small {
+            self.failed.step();
+            return Err(DiskFault::Device);
+        }
+        self.unchanged_journal = None;
+        if self.files.write(device, at, bytes) {
+            return Ok(());
+        }
+        self.failed.step();
+        Err(DiskFault::Device)
+    }
+
+    fn set_len(&mut self, device: Device, len: u64) -> Result<(), DiskFault> {
+        self.past.note_files(&self.files);
+        self.unchanged_journal = None;
+        if self.files.resize(device, len) {
+            return Ok(());
+        }
+        self.failed.step();
+        Err(DiskFault::Device)
+    }
+
+    fn sync(&mut self, device: Device) -> Result<(), DiskFault> {
+        self.past.note_files(&self.files);
+        if self.files.sync(device) {
+            return Ok(());
+        }
+        self.failed.step();
+        Err(DiskFault::Device)
+    }
+
+    fn len(&self, device: Device) -> u64 {
+        self.files.len(device)
+    }
+
+    fn read_at(&mut self, device: Device, at: u64, out: &mut [u8]) -> Result<(), DiskFault> {
+        self.past.note_files(&self.files);
+        if let (Device::Journal, Some(bytes)) = (device, &self.unchanged_journal) {
+            let end = at as usize + out.len();
+            out.copy_from_slice(&bytes[at as usize..end]);
+            return Ok(());
+        }
+        self.failed.step();
+        Err(DiskFault::Device)
+    }
+}

@@ -1,0 +1,22 @@
+//! A store whose changes are staged: kept beside another store.
+//!
+//! A [`Staged`] reads what was written to it, and what wasn't written from the store below. What it holds is, byte for byte,
+//! what its [`Staged::side`] makes of the store below: so whoever changes a volume over two staged stores has the plan of a
+//! commit, which goes through a journal.
+//!
+//! # The contract
+//!
+//! It meets all that is asked of a `BlockStore`: it tells where the store below does, and its content is `staged` of the
+//! store's (`specs/Stage.antt`). `sync` asks no device for anything. That no call writes to the store below is seen by reading
+//! `src/staged.rt`; no clause says it.
+//!
+//! # Errors
+//!
+//! S1 where the store below fails to be read, and where memory for a block that is written was refused.
+#![tactic(auto)]
+
+mod stage;
+mod staged;
+
+pub use stage::Stage;
+pub use staged::Staged;
