@@ -1,3 +1,6 @@
 pub mod TableLaws
 pub mod ChainLaw
 pub mod ChainLemmas
+pub mod NoteLaws
+pub mod NoteLemmas
+pub mod CheckedLemmas

@@ -3,3 +3,5 @@ pub mod Chain
 pub mod Right
 pub mod Stores
 pub mod Texts
+pub mod Notes
+pub mod Checked

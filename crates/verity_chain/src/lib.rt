@@ -6,14 +6,23 @@
 //! or at some place the store gave a block that differs from the image's own there and has its length and its digest
 //! (`proofs/ChainLaw`; `verity_check` says it of its two stores, as contracts of its `laws`).
 //!
-//! There is no error but `AllocError`.
+//! [`fetch`] reads a hash block and the missing ones above it, from the top down, checks each and notes it; [`Checked`] is a
+//! store that reads so. Nothing uses the two yet. What was noted is the image's own, or there is such a clash ([`laws`]).
+//!
+//! The errors are [`ReadRefused`], which has no number of its own, and `AllocError`.
 //!
 //! The definitions stand in `specs/`: `Table` (the tree of a table line), `Chain` (chains of given blocks), `Right` (the
-//! image's own blocks, clashes), `Stores` (what a store gave at the places of the volume).
+//! image's own blocks, clashes), `Stores` (what a store gave at the places of the volume), `Notes` (noted blocks), `Checked`
+//! (a store of checked blocks).
 #![tactic(auto)]
 
+mod checked;
+pub mod laws;
+mod notes;
 mod place;
 mod tree;
 
+pub use checked::Checked;
+pub use notes::{Noted, ReadRefused, fetch};
 pub use place::Place;
 pub use tree::{Tree, geometry_of};

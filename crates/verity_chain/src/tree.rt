@@ -115,6 +115,31 @@ impl<A: Allocator> Tree<A> {
         self.table.hash_start_block() + self.geometry.place(level, index)
     }
 
+    /// The number in the hash store behind the tree's last block.
+    pub fn end(&self) -> u64
+        ensures { result ≡ self.now.hash_start_block + tree_len self.now }
+    {
+        self.table.hash_start_block() + self.geometry.total()
+    }
+
+    /// The level and the index of a hash block of the tree, by its number in the hash store.
+    pub fn locate(&self, number: u64) -> (usize, u64)
+        requires begins { self.now.hash_start_block ≤ number }
+        requires ends { number < self.now.hash_start_block + tree_len self.now }
+        ensures level { result.0 < height self.now }
+        ensures index { result.1 < row_len self.now (suc result.0) }
+        ensures value { hash_place self.now result.0 result.1 ≡ number }
+    {
+        let at = number - self.table.hash_start_block();
+        for level in 0..self.geometry.levels() {
+            let start = self.geometry.level_start(level);
+            if start <= at {
+                return (level, at - start);
+            }
+        }
+        unreachable!()
+    }
+
     /// How many blocks a level has.
     pub fn level_len(&self, level: usize) -> u64
         requires { level < height self.now }

@@ -1,0 +1,82 @@
+-- What reads leave of a checked store.
+use Rattle.std.proofs.Common.{ℕ, suc, ◌+◌, ◌<◌, ◌≤◌, ◌≡◌, ◌++◌, List, [], ◌∷◌, length, Contains, Option, None, Some, sym, ap, ◌∙◌, subst, inl, inr, ⊎_elim, arith, refl}
+use Rattle.std.specs.Prelude.{IfSome, IsSome}
+use Rattle.std.proofs.lemmas.List.Elements.{Contains-push_cases}
+use Rattle.verity_store.specs.Stores.{IsOnlyRead}
+use Rattle.verity_store.specs.declared.store.BlockStore as store
+use Rattle.verity_store.proofs.GivenLemmas.{goes_on_len}
+use Rattle.verity_chain.specs.Table.{Table, tree_len}
+use Rattle.verity_chain.specs.Stores.{hash_given, IsHashStoreOf}
+use Rattle.verity_chain.specs.Notes.{Note, AreChecked, WereGiven, KeepsNotes, ExplainsUnread}
+use Rattle.verity_chain.specs.Checked.{IsAnswer, Checking, IsChecking}
+use Rattle.verity_chain.specs.declared.notes.ReadRefused.{ReadRefused}
+use Rattle.verity_chain.proofs.ChainLemmas.{hash_given-grows}
+use Rattle.verity_chain.proofs.NoteLemmas.{explains_grows}
+
+some_not_none : {X : Type 0} (x : X) → Some x ≡ None → ⊥
+some_not_none x e = subst (λ o. IfSome o (λ y. ⊥)) (sym e) tt
+
+if_some : {X : Type 0} (o : Option X) (P Q : X → Type 0) → ((x : X) → P x → Q x) → IfSome o P → IfSome o Q
+if_some None P Q f h = tt
+if_some (Some x) P Q f h = f x h
+
+-- the store of a table line stays so
+store_later : {H : Type 0} (hash : store.Ghosts H) (t : Table) (old new : H) → IsOnlyRead hash old new → IsHashStoreOf hash t old → IsHashStoreOf hash t new
+store_later hash t old new read h = record {
+  size = read.later.size ∙ h.size;
+  tree = λ some. subst (λ content. t.hash_start_block + tree_len t ≤ length content) (sym read.content) (h.tree some);
+}
+
+-- an answer stays one
+answer_kept : (t : Table) (old new : List Note) (n : ℕ) (block : List ℕ) → KeepsNotes old new → IsAnswer t old n block → IsAnswer t new n block
+answer_kept t old new n block keeps = ⊎_elim inl (λ has. inr (keeps (record { number = n; block = block }) has))
+
+module _ {H : Type 0} (hash : store.Ghosts H) (c : Checking H) (new : H) (notes : List Note) (is : IsChecking hash c) (read : IsOnlyRead hash c.hash_store new)
+    (checked : AreChecked c.table notes) (noted : WereGiven hash c.since new notes) (keeps : KeepsNotes c.notes notes) where
+  since_later : c.since ≤ length (hash.given new)
+  since_later = let old = is.since in let more = goes_on_len (hash.given c.hash_store) (hash.given new) read.later.gave in omega arith
+
+  failed_later : c.failed ≤ hash.failures new
+  failed_later = let old = is.failed in let more = read.later.failures in omega arith
+
+  -- a read that was answered
+  pub checking_answered : (given : List (ℕ × List ℕ)) (asked n : ℕ) (block : List ℕ) → given ≡ c.given ++ (n, block) ∷ [] → IsAnswer c.table notes n block → hash.failures new ≡ hash.failures c.hash_store
+      → IsChecking hash (record c { hash_store = new; notes = notes; given = given; asked = asked })
+  checking_answered given asked n block added answer unfailed = record {
+    store = store_later hash c.table c.hash_store new read is.store;
+    blocks = is.blocks;
+    since = since_later;
+    failed = failed_later;
+    checked = checked;
+    noted = noted;
+    answers = λ m b has. ⊎_elim
+        (λ was. answer_kept c.table c.notes notes m b keeps (is.answers m b was))
+        (λ here. subst (λ (row : ℕ × List ℕ). IsAnswer c.table notes row.0 row.1) here answer)
+        (Contains-push_cases c.given (n, block) (m, b) (subst (λ rows. Contains rows (m, b)) added has));
+    refusal = if_some c.refusal
+        (ExplainsUnread c.table (hash_given hash c.table c.since c.hash_store) (c.failed < hash.failures c.hash_store))
+        (ExplainsUnread c.table (hash_given hash c.table c.since new) (c.failed < hash.failures new))
+        (λ why h. explains_grows c.table (hash_given hash c.table c.since c.hash_store) (hash_given hash c.table c.since new) _ _
+        (hash_given-grows hash c.table c.since c.hash_store new read) (λ less. omega (arith, less, unfailed)) why h)
+        is.refusal;
+    unrefused = is.unrefused;
+    unfailed = λ none. unfailed ∙ is.unfailed none;
+  }
+
+  -- a read that was refused
+  pub checking_refused : (asked refused : ℕ) (why : ReadRefused) → refused ≡ c.refused + 1
+      → ExplainsUnread c.table (hash_given hash c.table c.since new) (hash.failures c.hash_store < hash.failures new) why
+      → IsChecking hash (record c { hash_store = new; notes = notes; asked = asked; refused = refused; refusal = Some why })
+  checking_refused asked refused why more explains = record {
+    store = store_later hash c.table c.hash_store new read is.store;
+    blocks = is.blocks;
+    since = since_later;
+    failed = failed_later;
+    checked = checked;
+    noted = noted;
+    answers = λ m b has. answer_kept c.table c.notes notes m b keeps (is.answers m b has);
+    refusal = explains_grows c.table (hash_given hash c.table c.since new) (hash_given hash c.table c.since new) _ _ (λ r i y gave. gave)
+        (λ less. let old = is.failed in omega arith) why explains;
+    unrefused = λ none. absurd (some_not_none why none);
+    unfailed = λ none. absurd (omega (arith, none, more));
+  }

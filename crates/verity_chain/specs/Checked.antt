@@ -1,0 +1,61 @@
+-- A hash store under a table line, each of whose blocks was checked.
+use Rattle.std.specs.Prelude.{ℕ, ◌+◌, ◌<◌, ◌≤◌, ◌≡◌, ◌⊎◌, List, [], ◌∷◌, length, Contains, Option, None, IfSome}
+use Rattle.verity_profile.specs.Profile.{zero_block}
+use Rattle.verity_digest.specs.Hash.{size_of}
+use Rattle.verity_store.specs.declared.store.BlockStore as store
+use Rattle.verity_chain.specs.Table.{Table, tree_len}
+use Rattle.verity_chain.specs.Stores.{hash_given, IsHashStoreOf}
+use Rattle.verity_chain.specs.Notes.{Note, AreChecked, WereGiven, ExplainsUnread}
+use Rattle.verity_chain.specs.declared.notes.ReadRefused.{ReadRefused}
+
+-- what is read of a block: a noted one, or zeros in front of the tree
+abbrev pub IsAnswer : Table → List Note → ℕ → List ℕ → Type 0
+IsAnswer t notes n block = ((n < t.hash_start_block) × (block ≡ zero_block t.hash_block_size)) ⊎ Contains notes (record { number = n; block = block })
+
+-- the table line; the store below; the blocks that were read of it; those that were given; how many reads were asked for, and how
+-- many refused; why the last of these was; how many blocks there are; and how many blocks the store below had given, and how
+-- often it had failed, when this one was made
+pub record Checking (H : Type 0) : Type 0 where
+  pub table : Table
+  pub hash_store : H
+  pub notes : List Note
+  pub given : List (ℕ × List ℕ)
+  pub asked : ℕ
+  pub refused : ℕ
+  pub refusal : Option ReadRefused
+  pub blocks : ℕ
+  pub since : ℕ
+  pub failed : ℕ
+
+-- what binds it to its table line, and to how many blocks the store below had given: the line's numbers, salt and root
+abbrev pub bound_to : Table → ℕ → List (ℕ × List ℕ)
+bound_to t since = (size_of t.algorithm, t.salt) ∷ (t.data_block_size, t.root) ∷ (t.hash_block_size, [])
+    ∷ (t.data_blocks, []) ∷ (t.hash_start_block, []) ∷ (since, []) ∷ []
+
+-- what is true of each
+pub record IsChecking {H : Type 0} (hash : store.Ghosts H) (c : Checking H) : Type 0 where
+  pub store : IsHashStoreOf hash c.table c.hash_store
+  pub blocks : c.blocks ≤ c.table.hash_start_block + tree_len c.table
+  pub since : c.since ≤ length (hash.given c.hash_store)
+  pub failed : c.failed ≤ hash.failures c.hash_store
+  pub checked : AreChecked c.table c.notes
+  pub noted : WereGiven hash c.since c.hash_store c.notes
+  pub answers : (n : ℕ) (block : List ℕ) → Contains c.given (n, block) → IsAnswer c.table c.notes n block
+  pub refusal : IfSome c.refusal (ExplainsUnread c.table (hash_given hash c.table c.since c.hash_store) (c.failed < hash.failures c.hash_store))
+  pub unrefused : c.refusal ≡ None → c.refused ≡ 0
+  pub unfailed : c.refused ≡ 0 → hash.failures c.hash_store ≡ c.failed
+
+-- nothing was read yet
+abbrev pub unread : {H : Type 0} → store.Ghosts H → Table → H → Checking H
+unread hash t h = record {
+  table = t;
+  hash_store = h;
+  notes = [];
+  given = [];
+  asked = 0;
+  refused = 0;
+  refusal = None;
+  blocks = t.hash_start_block + tree_len t;
+  since = length (hash.given h);
+  failed = hash.failures h;
+}

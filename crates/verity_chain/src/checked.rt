@@ -1,0 +1,248 @@
+//! A hash store under a table line: each block that it gives was checked.
+ghost use Rattle.std.specs.Prelude.{◌≡◌, ℕ, ◌+◌, ◌<◌, ◌≤◌, length, OnOk, IfErr};
+ghost use Rattle.verity_store.specs.Stores.{IsOnlyRead};
+ghost use Rattle.verity_chain.specs.Table.{tree_len};
+ghost use Rattle.verity_chain.specs.Stores.{hash_given, IsHashStoreOf};
+ghost use Rattle.verity_chain.specs.Notes.{AreChecked, WereGiven, KeepsNotes, ExplainsUnread};
+ghost use Rattle.verity_chain.specs.Checked.{IsAnswer, IsChecking, unread};
+
+use crate::notes::{Noted, ReadRefused, fetch};
+use crate::tree::Tree;
+use std::alloc::{Allocator, Global};
+use std::marker::Model;
+use verity_count::{Count, Mark};
+use verity_given::Given;
+use verity_store::{BlockStore, StoreFault};
+use verity_superblock::Table;
+
+/// A hash store that need not be honest, under a table line, as a plan reads it. A block of the tree that it gives was read
+/// from the store below since it was made, and has the digest that its parent, which was checked likewise, or the table line
+/// names. In front of the tree it gives zeros.
+///
+/// A read fails with S1 where a block hasn't that digest, where the store below failed, and where memory was refused;
+/// `refusal` says which of these the last one was. It takes memory for each block that was read. It doesn't tell: what is
+/// written to it goes nowhere. Its `fixed` is its table line and the mark, so no call puts another store in its place unseen.
+#[derive(Drop)]
+pub struct Checked<H: BlockStore, A: Allocator + Copy + Drop = Global> {
+    alloc: A,
+    tree: Tree<A>,
+    hash_store: H,
+    notes: Vec<Noted<A>, A>,
+    given: Given,
+    asked: Count,
+    refused: Count,
+    refusal: Option<ReadRefused>,
+    blocks: u64,
+    since: Mark,
+    failed: Mark,
+}
+
+impl<H: BlockStore, A: Allocator + Copy + Drop> Model for Checked<H, A> {
+    ghost use Rattle.verity_chain.specs.Checked.{Checking, IsChecking};
+
+    ghost Value = { Checking H };
+
+    ghost view = { λ s. record {
+      table = s.tree;
+      hash_store = s.hash_store;
+      notes = s.notes.items;
+      given = s.given.blocks;
+      asked = s.asked.steps;
+      refused = s.refused.steps;
+      refusal = s.refusal;
+      blocks = s.blocks;
+      since = s.since.steps;
+      failed = s.failed.steps;
+    } };
+
+    ghost invariant = { λ s. IsChecking H.BlockStore (record {
+      table = s.tree;
+      hash_store = s.hash_store;
+      notes = s.notes.items;
+      given = s.given.blocks;
+      asked = s.asked.steps;
+      refused = s.refused.steps;
+      refusal = s.refusal;
+      blocks = s.blocks;
+      since = s.since.steps;
+      failed = s.failed.steps;
+    }) };
+}
+
+// Gives the block of this number, checked.
+fn look_up<H: BlockStore, A: Allocator + Copy + Drop>(
+    alloc: A,
+    tree: &mut Tree<A>,
+    store: &mut H,
+    notes: &mut Vec<Noted<A>, A>,
+    since: &Mark,
+    number: u64,
+    out: &mut [u8],
+) -> Result<(), ReadRefused>
+    requires within { number < tree.old.hash_start_block + tree_len tree.old }
+    requires sized { length out.old ≡ tree.old.hash_block_size }
+    requires store { IsHashStoreOf H.BlockStore tree.old store.old }
+    requires since { since.now.steps ≤ length (H.given store.old) }
+    requires checked { AreChecked tree.old notes.old.items }
+    requires given { WereGiven H.BlockStore since.now.steps store.old notes.old.items }
+    ensures gave { OnOk result (IsAnswer tree.old notes.new.items number out.new) }
+    ensures checked { AreChecked tree.old notes.new.items }
+    ensures given { WereGiven H.BlockStore since.now.steps store.new notes.new.items }
+    ensures kept { KeepsNotes notes.old.items notes.new.items }
+    ensures err { IfErr result (ExplainsUnread tree.old (hash_given H.BlockStore tree.old since.now.steps store.new)
+        (H.failures store.old < H.failures store.new)) }
+    ensures unfailed { OnOk result (H.failures store.new ≡ H.failures store.old) }
+    ensures keeps { IsOnlyRead H.BlockStore store.old store.new }
+    ensures same { tree.new ≡ tree.old }
+{
+    if number < tree.table().hash_start_block() {
+        out.fill(0);
+        return Ok(());
+    }
+    let (level, index) = tree.locate(number);
+    let c = fetch(alloc, tree, store, notes, since, level, index, out)?;
+    out.copy_from_slice(notes[c].block());
+    Ok(())
+}
+
+// A mark at what a store gave so far.
+fn end_of<S: BlockStore>(_store: &S) -> Mark
+    ghost count: { ℕ }
+    requires { count ≡ length (S.given _store.now) }
+    ensures { result.steps ≡ count }
+{
+    Mark::at()
+}
+
+// A mark at how often a store failed so far.
+fn failures_of<S: BlockStore>(_store: &S) -> Mark
+    ghost count: { ℕ }
+    requires { count ≡ S.failures _store.now }
+    ensures { result.steps ≡ count }
+{
+    Mark::at()
+}
+
+impl<H: BlockStore, A: Allocator + Copy + Drop> Checked<H, A> {
+    /// A hash store under the table line of a tree, of which nothing was read.
+    pub fn new(alloc: A, tree: Tree<A>, hash_store: H) -> Self
+        requires { IsHashStoreOf H.BlockStore tree hash_store }
+        ensures { result ≡ unread H.BlockStore tree hash_store }
+    {
+        let blocks = tree.end();
+        let since = end_of(&hash_store);
+        let failed = failures_of(&hash_store);
+        Checked {
+            alloc,
+            tree,
+            hash_store,
+            notes: Vec::new(alloc),
+            given: Given::new(),
+            asked: Count::new(),
+            refused: Count::new(),
+            refusal: None,
+            blocks,
+            since,
+            failed,
+        }
+    }
+
+    /// The table line. What is true of each such store is said here.
+    pub fn table(&self) -> &Table<A>
+        ensures value { result.now ≡ self.now.table }
+        ensures facts { IsChecking H.BlockStore self.now }
+    {
+        self.tree.table()
+    }
+
+    /// Why the last read that was refused was.
+    pub fn refusal(&self) -> Option<ReadRefused>
+        ensures { result ≡ self.now.refusal }
+    {
+        self.refusal
+    }
+
+    /// Gives the store below back. The notes are dropped.
+    pub fn into_inner(self) -> H
+        ensures { result ≡ self.hash_store }
+    {
+        let Checked { hash_store, .. } = self;
+        hash_store
+    }
+}
+
+impl<H: BlockStore, A: Allocator + Copy + Drop> BlockStore for Checked<H, A> {
+    ghost use Rattle.std.specs.Prelude.{false, replicate};
+    ghost use Rattle.verity_profile.specs.Profile.{zero_block};
+    ghost use Rattle.verity_chain.specs.Checked.{bound_to};
+
+    ghost size = { λ s. s.table.hash_block_size };
+
+    ghost content = { λ s. replicate s.blocks (zero_block s.table.hash_block_size) };
+
+    ghost tells = { λ _. false };
+
+    ghost given = { λ s. s.given };
+
+    ghost failures = { λ s. s.refused };
+
+    ghost reads = { λ s. s.asked };
+
+    ghost room = { λ _. 0 };
+
+    ghost fixed = { λ s. bound_to s.table s.since };
+
+    fn block_size(&self) -> usize {
+        self.tree.table().hash_block_size()
+    }
+
+    fn len(&self) -> u64 {
+        self.blocks
+    }
+
+    fn read(&mut self, n: u64, out: &mut [u8]) -> Result<(), StoreFault> {
+        self.asked.step();
+        match look_up(
+            self.alloc,
+            &mut self.tree,
+            &mut self.hash_store,
+            &mut self.notes,
+            &self.since,
+            n,
+            out,
+        ) {
+            Ok(()) => {
+                self.given.note(n, out);
+                Ok(())
+            }
+            Err(why) => {
+                self.refused.step();
+                self.refusal = Some(why);
+                Err(StoreFault::Device)
+            }
+        }
+    }
+
+    fn write(&mut self, _n: u64, _block: &[u8]) -> Result<(), StoreFault> {
+        Ok(())
+    }
+
+    fn reserve(&mut self, blocks: u64) -> Result<(), StoreFault> {
+        if blocks == 0 {
+            return Ok(());
+        }
+        Err(StoreFault::NoMemory)
+    }
+
+    fn set_len(&mut self, blocks: u64) -> Result<(), StoreFault> {
+        if blocks == 0 {
+            self.blocks = 0;
+            return Ok(());
+        }
+        Err(StoreFault::NoMemory)
+    }
+
+    fn sync(&mut self) -> Result<(), StoreFault> {
+        Ok(())
+    }
+}
