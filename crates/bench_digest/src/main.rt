@@ -89,9 +89,12 @@ fn timed(
 fn main(rt: HostRuntime) -> io::Result<()> {
     let mut words = env::args(&rt)?;
     let _ = words.next();
-    let (Some(path), Some(size), Some(salt), Some(algorithm)) =
-        (words.next(), words.next(), words.next(), words.next())
-    else {
+    let (Some(path), Some(size), Some(salt), Some(algorithm)) = (
+        words.next(),
+        words.next(),
+        words.next(),
+        words.next(),
+    ) else {
         return println!(rt; "bench_digest FILE BLOCK_SIZE SALT sha256|sha512 [lanes]");
     };
     let wide = &*algorithm == "sha512";

@@ -123,7 +123,8 @@ fn devices_of_another_program(rt: HostRuntime) -> Result<(), Fail> {
             salt: &[0x00, 0xff],
             algorithm: Algorithm::Sha512,
             blocks: 2,
-            root: "2b909479caabbc00dba1fb1a035931b1abc45a186b3694d7944142bf0815274bc72edfa03b718b3034fafad6360619e36913ba5b875c8f29ee83608014d177a0",
+            root: "2b909479caabbc00dba1fb1a035931b1abc45a186b3694d7944142bf0815274bc72edfa03b718b3034fafad6360619e36913ba5b875c8\
+                f29ee83608014d177a0",
             device: "881290a1ea9792aea6f15d2a4e78bd1316f72857b40eca3fe0e2de676a32db36",
         },
         Row {
@@ -133,7 +134,8 @@ fn devices_of_another_program(rt: HostRuntime) -> Result<(), Fail> {
             salt: &[0x00, 0xff],
             algorithm: Algorithm::Sha512,
             blocks: 4,
-            root: "5c6c0c8d0e9923808ebe37224509e6a0193c2ee38451ceef808c2c6f10f5bd9a19d458aa2ac7e91df67cb7c38edfed1203d73a1cc0a87359e44cbd05685fe749",
+            root: "5c6c0c8d0e9923808ebe37224509e6a0193c2ee38451ceef808c2c6f10f5bd9a19d458aa2ac7e91df67cb7c38edfed1203d73a1cc0a87\
+                359e44cbd05685fe749",
             device: "e41cb43c7582fa9f25525befb467875a62885bf33021a27c17627dfc02c8fb0f",
         },
     ];

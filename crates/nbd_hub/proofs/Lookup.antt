@@ -1,11 +1,13 @@
 -- Sessions by number, when the list changes.
-use Rattle.std.proofs.Common.{◌≡◌, ◌<◌, ◌≤◌, ◌+◌, ℕ, zero, suc, false, nat_eq, if◌then◌else◌, List, [], ◌∷◌, ◌++◌, Some, None, length, get_or, set, inl, inr, refl, sym, ap, ◌∙◌, subst, arith, eq-eqb}
+use Rattle.std.proofs.Common.{◌≡◌, ◌<◌, ◌≤◌, ◌+◌, ℕ, zero, suc, false, nat_eq, if◌then◌else◌, List, [], ◌∷◌, ◌++◌, Some, None}
+use Rattle.std.proofs.Common.{length, get_or, set, inl, inr, refl, sym, ap, ◌∙◌, subst, arith, eq-eqb}
 use Rattle.std.specs.List.{remove}
 use Rattle.std.proofs.lemmas.Bool.{ne_eqb, cases_eq}
 use Rattle.nbd_session.specs.declared.offer.Offer.{Offer}
 use Rattle.nbd_hub.specs.Sessions.{Entry, lookup, Place, Passed, Rising, AllOffer}
 
-pub Passed-more : (k : ℕ) (ns : List Entry) (i : ℕ) (d : Entry) → Passed k ns i → i < length ns → nat_eq (get_or ns i d).number k ≡ false → Passed k ns (suc i)
+pub Passed-more : (k : ℕ) (ns : List Entry) (i : ℕ) (d : Entry) → Passed k ns i → i < length ns →
+    nat_eq (get_or ns i d).number k ≡ false → Passed k ns (suc i)
 Passed-more k [] i d p l e = absurd (omega arith)
 Passed-more k (n ∷ ns) zero d p l e = (e, tt)
 Passed-more k (n ∷ ns) (suc i) d p l e = (p.0, Passed-more k ns i d p.1 (omega arith) e)
@@ -35,7 +37,8 @@ number-at k (n ∷ ns) zero d p = p
 number-at k (n ∷ ns) (suc i) d p = number-at k ns i d p.1
 
 -- a new one in the place of the first of that number
-pub lookup-set : (k : ℕ) (ns : List Entry) (i : ℕ) (x : Entry) → Place k ns i → x.number ≡ k → (j : ℕ) → lookup j (set ns i x) ≡ (if nat_eq j k then Some x.session else lookup j ns)
+pub lookup-set : (k : ℕ) (ns : List Entry) (i : ℕ) (x : Entry) → Place k ns i → x.number ≡ k → (j : ℕ) →
+    lookup j (set ns i x) ≡ (if nat_eq j k then Some x.session else lookup j ns)
 lookup-set k [] i x p e j = absurd p
 lookup-set k (n ∷ ns) zero x p e j =
     elim (cases_eq j k) [
@@ -64,7 +67,8 @@ lookup-above low (n ∷ ns) next j r l =
     let h = Rising-le (suc n.number) ns next r.1 in
     rw (ne_eqb n.number j (λ q. omega arith)) (lookup-above (suc n.number) ns next j r.1 l)
 
-pub lookup-remove : (k low : ℕ) (ns : List Entry) (next i : ℕ) → Rising low ns next → Place k ns i → (j : ℕ) → lookup j (remove ns i) ≡ (if nat_eq j k then None else lookup j ns)
+pub lookup-remove : (k low : ℕ) (ns : List Entry) (next i : ℕ) → Rising low ns next → Place k ns i → (j : ℕ) →
+    lookup j (remove ns i) ≡ (if nat_eq j k then None else lookup j ns)
 lookup-remove k low [] next i r p j = absurd p
 lookup-remove k low (n ∷ ns) next zero r p j =
     elim (cases_eq j k) [
@@ -93,20 +97,24 @@ lookup-push-other (n ∷ ns) x j e =
       | inr h ↦ rw (ne_eqb n.number j h) (lookup-push-other ns x j e)
     ]
 
-pub lookup-push : (low : ℕ) (ns : List Entry) (next : ℕ) (x : Entry) → Rising low ns next → x.number ≡ next → (j : ℕ) → lookup j (ns ++ x ∷ []) ≡ (if nat_eq j next then Some x.session else lookup j ns)
+pub lookup-push : (low : ℕ) (ns : List Entry) (next : ℕ) (x : Entry) → Rising low ns next → x.number ≡ next → (j : ℕ) →
+    lookup j (ns ++ x ∷ []) ≡ (if nat_eq j next then Some x.session else lookup j ns)
 lookup-push low ns next x r e j =
     elim (cases_eq j next) [
       | inl h ↦ rw (eq-eqb j next h) (lookup-push-new ns x j (lookup-above low ns next j r (omega arith)) (e ∙ sym h))
       | inr h ↦ rw (ne_eqb j next h) (lookup-push-other ns x j (λ q. h (sym q ∙ e)))
     ]
 
-pub Rising-push : (low : ℕ) (ns : List Entry) (next : ℕ) (x : Entry) → Rising low ns next → x.number ≡ next → Rising low (ns ++ x ∷ []) (next + 1)
+pub Rising-push : (low : ℕ) (ns : List Entry) (next : ℕ) (x : Entry) → Rising low ns next → x.number ≡ next →
+    Rising low (ns ++ x ∷ []) (next + 1)
 Rising-push low [] next x r e = (omega arith, omega arith)
 Rising-push low (n ∷ ns) next x r e = (r.0, Rising-push (suc n.number) ns next x r.1 e)
 
-pub Rising-set : (k low : ℕ) (ns : List Entry) (next i : ℕ) (x : Entry) → Rising low ns next → Place k ns i → x.number ≡ k → Rising low (set ns i x) next
+pub Rising-set : (k low : ℕ) (ns : List Entry) (next i : ℕ) (x : Entry) → Rising low ns next → Place k ns i → x.number ≡ k →
+    Rising low (set ns i x) next
 Rising-set k low [] next i x r p e = absurd p
-Rising-set k low (n ∷ ns) next zero x r p e = let g = r.0 in let P : ℕ → Type 0 = λ m. Rising (suc m) ns next in (omega arith, subst P (p ∙ sym e) r.1)
+Rising-set k low (n ∷ ns) next zero x r p e = let g = r.0 in let P : ℕ → Type 0 = λ m. Rising (suc m) ns next in
+    (omega arith, subst P (p ∙ sym e) r.1)
 Rising-set k low (n ∷ ns) next (suc i) x r p e = (r.0, Rising-set k (suc n.number) ns next i x r.1 p.1 e)
 
 Rising-lower : (low low' : ℕ) (ns : List Entry) (next : ℕ) → low ≤ low' → Rising low' ns next → Rising low ns next
@@ -118,11 +126,13 @@ Rising-remove k low [] next i r p = absurd p
 Rising-remove k low (n ∷ ns) next zero r p = let g = r.0 in Rising-lower low (suc n.number) ns next (omega arith) r.1
 Rising-remove k low (n ∷ ns) next (suc i) r p = (r.0, Rising-remove k (suc n.number) ns next i r.1 p.1)
 
-pub AllOffer-push : (offer : Offer) (ns : List Entry) (x : Entry) → AllOffer offer ns → x.session.offer ≡ offer → AllOffer offer (ns ++ x ∷ [])
+pub AllOffer-push : (offer : Offer) (ns : List Entry) (x : Entry) → AllOffer offer ns → x.session.offer ≡ offer →
+    AllOffer offer (ns ++ x ∷ [])
 AllOffer-push offer [] x a e = (e, tt)
 AllOffer-push offer (n ∷ ns) x a e = (a.0, AllOffer-push offer ns x a.1 e)
 
-pub AllOffer-set : (offer : Offer) (k : ℕ) (ns : List Entry) (i : ℕ) (x : Entry) → AllOffer offer ns → Place k ns i → x.session.offer ≡ offer → AllOffer offer (set ns i x)
+pub AllOffer-set : (offer : Offer) (k : ℕ) (ns : List Entry) (i : ℕ) (x : Entry) → AllOffer offer ns → Place k ns i →
+    x.session.offer ≡ offer → AllOffer offer (set ns i x)
 AllOffer-set offer k [] i x a p e = absurd p
 AllOffer-set offer k (n ∷ ns) zero x a p e = (e, a.1)
 AllOffer-set offer k (n ∷ ns) (suc i) x a p e = (a.0, AllOffer-set offer k ns i x a.1 p.1 e)
@@ -132,7 +142,8 @@ AllOffer-remove offer k [] i a p = absurd p
 AllOffer-remove offer k (n ∷ ns) zero a p = a.1
 AllOffer-remove offer k (n ∷ ns) (suc i) a p = (a.0, AllOffer-remove offer k ns i a.1 p.1)
 
-pub AllOffer-at : (offer : Offer) (k : ℕ) (ns : List Entry) (i : ℕ) (d : Entry) → AllOffer offer ns → Place k ns i → (get_or ns i d).session.offer ≡ offer
+pub AllOffer-at : (offer : Offer) (k : ℕ) (ns : List Entry) (i : ℕ) (d : Entry) → AllOffer offer ns → Place k ns i →
+    (get_or ns i d).session.offer ≡ offer
 AllOffer-at offer k [] i d a p = absurd p
 AllOffer-at offer k (n ∷ ns) zero d a p = a.0
 AllOffer-at offer k (n ∷ ns) (suc i) d a p = AllOffer-at offer k ns i d a.1 p.1

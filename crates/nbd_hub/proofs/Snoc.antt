@@ -1,6 +1,8 @@
 -- One more step at the end of a history.
-use Rattle.std.proofs.Common.{◌≡◌, ◌+◌, ℕ, false, true, Bool, ◌||◌, List, [], ◌∷◌, ◌++◌, refl, sym, ap, ◌∙◌, arith, append_assoc, append-nil}
-use Rattle.nbd_hub.specs.History.{Step, Opening, Feeding, Ending, Refusal, Taken, Nothing, Takes, Starves, taken, goes_on, own, is_starves, starved, said, output, opens, opened, closes, closed, ends, ended}
+use Rattle.std.proofs.Common.{◌≡◌, ◌+◌, ℕ, false, true, Bool, ◌||◌, List, [], ◌∷◌, ◌++◌, refl, sym, ap, ◌∙◌, arith, append_assoc}
+use Rattle.std.proofs.Common.{append-nil}
+use Rattle.nbd_hub.specs.History.{Step, Opening, Feeding, Ending, Refusal, Taken, Nothing, Takes, Starves, taken, goes_on, own}
+use Rattle.nbd_hub.specs.History.{is_starves, starved, said, output, opens, opened, closes, closed, ends, ended}
 
 -- the piece that is taken
 abbrev pub piece_of : Taken → List ℕ
@@ -34,7 +36,8 @@ own-awake (x ∷ h) s k a =
     ∙ sym (append_assoc (piece_of t) (own h k) (piece_of (taken s k)))
     ∙ ap (λ z. z ++ piece_of (taken s k)) (sym (own_awake_first t (own h k) (starved h k) a))
 
-own_starved_first : (t : Taken) (later later' : List ℕ) (b : Bool) → (is_starves t || b) ≡ true → (b ≡ true → later ≡ later') → goes_on t later ≡ goes_on t later'
+own_starved_first : (t : Taken) (later later' : List ℕ) (b : Bool) → (is_starves t || b) ≡ true → (b ≡ true → later ≡ later') →
+    goes_on t later ≡ goes_on t later'
 own_starved_first Nothing later later' b h f = f h
 own_starved_first (Takes piece) later later' b h f = ap (λ z. piece ++ z) (f h)
 own_starved_first Starves later later' b h f = refl
@@ -57,7 +60,8 @@ or_true false = refl
 
 pub starved-snoc : (h : List Step) (s : Step) (k : ℕ) → starved (h ++ s ∷ []) k ≡ (starved h k || is_starves (taken s k))
 starved-snoc [] s k = or_false (is_starves (taken s k))
-starved-snoc (x ∷ h) s k = ap (λ z. is_starves (taken x k) || z) (starved-snoc h s k) ∙ or_assoc (is_starves (taken x k)) (starved h k) (is_starves (taken s k))
+starved-snoc (x ∷ h) s k = ap (λ z. is_starves (taken x k) || z) (starved-snoc h s k)
+    ∙ or_assoc (is_starves (taken x k)) (starved h k) (is_starves (taken s k))
 
 pub ended-snoc : (h : List Step) (s : Step) (k : ℕ) → ended (h ++ s ∷ []) k ≡ (ended h k || ends s k)
 ended-snoc [] s k = or_false (ends s k)

@@ -1,5 +1,6 @@
 -- What stays true of one session when a history goes on by one step.
-use Rattle.std.proofs.Common.{◌≡◌, ◌<◌, ◌≤◌, ◌+◌, ℕ, false, true, ◌||◌, List, [], ◌∷◌, ◌++◌, Option, Some, None, inl, inr, refl, sym, ap, ◌∙◌, subst, arith, append-nil, eq-eqb}
+use Rattle.std.proofs.Common.{◌≡◌, ◌<◌, ◌≤◌, ◌+◌, ℕ, false, true, ◌||◌, List, [], ◌∷◌, ◌++◌, Option, Some, None, inl, inr, refl}
+use Rattle.std.proofs.Common.{sym, ap, ◌∙◌, subst, arith, append-nil, eq-eqb}
 use Rattle.std.proofs.lemmas.Bool.{cases_Bool, cases_lt}
 use Rattle.nbd_session.specs.declared.status.Status.{Status}
 use Rattle.nbd_session.specs.declared.status.Status.TheVariants as status
@@ -11,7 +12,8 @@ use Rattle.nbd_session.specs.Session.{State, IsAt, TalksOn, added}
 use Rattle.nbd_session.specs.Export.{Facts, Keeps, Fair}
 use Rattle.nbd_session.proofs.Hearing.{hear-append, Judged-append, Judged-weaker, talk-append}
 use Rattle.nbd_session.proofs.Moving.{Keeps-refl}
-use Rattle.nbd_hub.specs.History.{Step, Opening, Feeding, Ending, Nothing, Takes, Starves, taken_by, taken, own, is_starves, starved, said, output, opened, ends, ended, IsOpen}
+use Rattle.nbd_hub.specs.History.{Step, Opening, Feeding, Ending, Nothing, Takes, Starves, taken_by, taken, own, is_starves}
+use Rattle.nbd_hub.specs.History.{starved, said, output, opened, ends, ended, IsOpen}
 use Rattle.nbd_hub.specs.Sessions.{HubState, lookup}
 use Rattle.nbd_hub.specs.After.{Given, IsTold, Stands, IsFresh, IsAfter}
 use Rattle.nbd_hub.proofs.Snoc.{piece_of, own-awake, own-starved, starved-snoc, ended-snoc, output-snoc, opened-append, or_false, or_true}
@@ -49,20 +51,24 @@ pub record Knows (facts : Facts) (offer : Offer) (history : List Step) (k : ℕ)
   pub told : k < opened history → IsTold (Given facts) offer history k
   pub fresh : opened history ≤ k → IsFresh history k
 
-pub knows : (facts : Facts) (hub : HubState) (h : List Step) → IsAfter facts hub h → (k : ℕ) → Knows facts hub.offer h k (lookup k hub.sessions)
+pub knows : (facts : Facts) (hub : HubState) (h : List Step) → IsAfter facts hub h → (k : ℕ) →
+    Knows facts hub.offer h k (lookup k hub.sessions)
 knows facts hub h a k = record { stands = a.sessions k; told = a.told k; fresh = a.fresh k }
 
 -- the talk of the same input
-pub told_same : (a b : Facts) (offer : Offer) (h h' : List Step) (k : ℕ) → Keeps a b → own h' k ≡ own h k → output h' k ≡ output h k → IsTold (Given a) offer h k → IsTold (Given b) offer h' k
+pub told_same : (a b : Facts) (offer : Offer) (h h' : List Step) (k : ℕ) → Keeps a b → own h' k ≡ own h k →
+    output h' k ≡ output h k → IsTold (Given a) offer h k → IsTold (Given b) offer h' k
 told_same a b offer h h' k keeps w o t =
     let P : List ℕ → Type 0 = λ x. Judged (Given b) (hear offer phase.Flags x).answers t.verdicts in
     record {
       verdicts = t.verdicts;
-      judged = subst P (sym w) (Judged-weaker (Given a) (Given b) (hear offer phase.Flags (own h k)).answers t.verdicts (Given-later a b keeps) t.judged);
+      judged = subst P (sym w) (Judged-weaker (Given a) (Given b) (hear offer phase.Flags (own h k)).answers t.verdicts
+          (Given-later a b keeps) t.judged);
       exact = o ∙ t.exact ∙ ap (λ x. talk offer x t.verdicts) (sym w);
     }
 
-stands_same : (h h' : List Step) (k : ℕ) (o : Option State) → Same h h' k → (k < opened h' → k < opened h) → (k < opened h → k < opened h') → Stands h k o → Stands h' k o
+stands_same : (h h' : List Step) (k : ℕ) (o : Option State) → Same h h' k → (k < opened h' → k < opened h) →
+    (k < opened h → k < opened h') → Stands h k o → Stands h' k o
 stands_same h h' k None s f g x = λ y. x (f y.0, sym s.ended_is ∙ y.1)
 stands_same h h' k (Some session) s f g x =
     let P : List ℕ → Type 0 = λ y. IsAt session y in
@@ -79,7 +85,12 @@ knows_same a b offer h h' k o keeps s f g x = record {
   fresh = λ y.
       let q : opened h ≤ k = first_le (opened h) (opened h') k g y in
       let n = x.fresh q in
-      record { own_none = s.own_is ∙ n.own_none; output_none = s.output_is ∙ n.output_none; awake = s.starved_is ∙ n.awake; lasts = s.ended_is ∙ n.lasts };
+      record {
+        own_none = s.own_is ∙ n.own_none;
+        output_none = s.output_is ∙ n.output_none;
+        awake = s.starved_is ∙ n.awake;
+        lasts = s.ended_is ∙ n.lasts;
+      };
 }
 
 -- a piece that starves the session, or comes after one that did
@@ -95,8 +106,10 @@ knows_starved a b offer h id piece bytes before after keeps n s stays x =
       | inl y ↦ own-starved h e id y
       | inr y ↦ own-awake h e id y ∙ ap (λ z. own h id ++ piece_of z) t ∙ append-nil (own h id)
     ] in
-    let output_is : output (h ++ e ∷ []) id ≡ output h id = output-snoc h e id ∙ ap (λ z. output h id ++ z) (o ∙ n) ∙ append-nil (output h id) in
-    let starved_is : starved (h ++ e ∷ []) id ≡ true = starved-snoc h e id ∙ ap (λ z. starved h id || is_starves z) t ∙ or_true (starved h id) in
+    let output_is : output (h ++ e ∷ []) id ≡ output h id = output-snoc h e id ∙ ap (λ z. output h id ++ z) (o ∙ n)
+    ∙ append-nil (output h id) in
+    let starved_is : starved (h ++ e ∷ []) id ≡ true = starved-snoc h e id ∙ ap (λ z. starved h id || is_starves z) t
+    ∙ or_true (starved h id) in
     let ended_is : ended (h ++ e ∷ []) id ≡ ended h id = ended-snoc h e id ∙ or_false (ended h id) in
     let m : opened (h ++ e ∷ []) ≡ opened h + 0 = opened-append h (e ∷ []) in
     let w = x.stands.0.0 in
@@ -110,8 +123,10 @@ knows_starved a b offer h id piece bytes before after keeps n s stays x =
     )
 
 -- a piece that an awake session takes in
-pub knows_fed : (a b : Facts) (offer : Offer) (h : List Step) (id : ℕ) (piece bytes : List ℕ) (s : Status) (before after : State) → Keeps a b
-    → taken_by s piece ≡ Takes piece → starved h id ≡ false → after.starved ≡ false → IsAt after (own h id ++ piece) → TalksOn a b offer (own h id) piece [] bytes
+pub knows_fed : (a b : Facts) (offer : Offer) (h : List Step) (id : ℕ) (piece bytes : List ℕ) (s : Status) (before after : State) →
+    Keeps a b
+    → taken_by s piece ≡ Takes piece → starved h id ≡ false → after.starved ≡ false → IsAt after (own h id ++ piece) →
+    TalksOn a b offer (own h id) piece [] bytes
     → Knows a offer h id (Some before)
     → Knows b offer (h ++ Feeding id piece s bytes ∷ []) id (Some after)
     × (own (h ++ Feeding id piece s bytes ∷ []) id ≡ own h id ++ piece)
@@ -123,7 +138,8 @@ knows_fed a b offer h id piece bytes s before after keeps tk awake awake' at tal
     let input = own h id in
     let own_is : own (h ++ e ∷ []) id ≡ input ++ piece = own-awake h e id awake ∙ ap (λ z. input ++ piece_of z) t in
     let output_is : output (h ++ e ∷ []) id ≡ output h id ++ bytes = output-snoc h e id ∙ ap (λ z. output h id ++ z) o in
-    let starved_is : starved (h ++ e ∷ []) id ≡ false = starved-snoc h e id ∙ ap (λ z. starved h id || is_starves z) t ∙ or_false (starved h id) ∙ awake in
+    let starved_is : starved (h ++ e ∷ []) id ≡ false = starved-snoc h e id ∙ ap (λ z. starved h id || is_starves z) t
+    ∙ or_false (starved h id) ∙ awake in
     let ended_is : ended (h ++ e ∷ []) id ≡ ended h id = ended-snoc h e id ∙ or_false (ended h id) in
     let m : opened (h ++ e ∷ []) ≡ opened h + 0 = opened-append h (e ∷ []) in
     let w = x.stands.0.0 in
@@ -143,7 +159,12 @@ knows_fed a b offer h id piece bytes s before after keeps tk awake awake' at tal
     ∙ sym (talk-append (Given a) offer input piece told.verdicts talks.verdicts told.judged) in (
       record {
         stands = ((omega arith, ended_is ∙ x.stands.0.1), awake' ∙ sym starved_is, subst P (sym own_is) at);
-        told = λ y. record { verdicts = vs; judged = subst K (sym own_is) judged; exact = output_is ∙ exact ∙ ap (λ z. talk offer z vs) (sym own_is) };
+        told = λ y. record {
+          verdicts = vs;
+          judged = subst K (sym own_is) judged;
+          exact = output_is ∙ exact
+              ∙ ap (λ z. talk offer z vs) (sym own_is);
+        };
         fresh = λ y. absurd (omega arith);
       },
       own_is,
@@ -167,7 +188,12 @@ knows_opened a offer h id session o i at awake x =
     let K : List ℕ → Type 0 = λ y. Judged (Given a) (hear offer phase.Flags y).answers [] in
     record {
       stands = ((omega arith, ended_is), awake ∙ sym starved_is, subst P (sym own_is) at);
-      told = λ y. record { verdicts = []; judged = subst K (sym own_is) tt; exact = output_is ∙ sym (append-nil greeting) ∙ ap (λ z. talk offer z []) (sym own_is) };
+      told = λ y. record {
+        verdicts = [];
+        judged = subst K (sym own_is) tt;
+        exact = output_is ∙ sym (append-nil greeting)
+            ∙ ap (λ z. talk offer z []) (sym own_is);
+      };
       fresh = λ y. absurd (omega arith);
     }
 
@@ -180,7 +206,8 @@ knows_ended a offer h id o was x =
       | inr y ↦ own-awake h e id y ∙ append-nil (own h id)
     ] in
     let output_is : output (h ++ e ∷ []) id ≡ output h id = output-snoc h e id ∙ append-nil (output h id) in
-    let ended_is : ended (h ++ e ∷ []) id ≡ true = ended-snoc h e id ∙ ap (λ z. ended h id || z) (eq-eqb id id refl) ∙ or_true (ended h id) in
+    let ended_is : ended (h ++ e ∷ []) id ≡ true = ended-snoc h e id ∙ ap (λ z. ended h id || z) (eq-eqb id id refl)
+    ∙ or_true (ended h id) in
     let m : opened (h ++ e ∷ []) ≡ opened h + 0 = opened-append h (e ∷ []) in
     let w = was.0 in
     record {

@@ -83,7 +83,8 @@ pub record OpenedAfter (facts : Facts) (hub : HubState) (history : List Step) (i
   pub after : IsAfter facts hub (history ++ Opening id greeting ∷ [])
 
 -- A session was fed after this history, and the output grew by what it said.
-pub record FedAfter (facts : Facts) (hub : HubState) (history : List Step) (id : ℕ) (piece : List ℕ) (s : Status) (out out' : List ℕ) : Type 0 where
+pub record FedAfter (facts : Facts) (hub : HubState) (history : List Step) (id : ℕ) (piece : List ℕ) (s : Status)
+    (out out' : List ℕ) : Type 0 where
   pub said : List ℕ
   pub appends : out' ≡ out ++ said
   pub was_open : IsOpen history id

@@ -51,7 +51,8 @@ ServedBy S offer e limit (Err fault.Read) =
     (input wrote : List ℕ) × Moved e input wrote × S input wrote × IsTaken offer limit input
 -- the same, and each turn gave a byte at least
 ServedBy S offer e limit (Err fault.Turns) =
-    (input wrote : List ℕ) × Moved e input wrote × S input wrote × IsTaken offer limit input × (limit ≤ length input) × (HasEnded offer input → ⊥)
+    (input wrote : List ℕ) × Moved e input wrote × S input wrote × IsTaken offer limit input × (limit ≤ length input) ×
+    (HasEnded offer input → ⊥)
 -- a beginning of the talk of what was read
 ServedBy S offer e limit (Err fault.Write) =
     (input wrote rest : List ℕ) × Moved e input wrote × S input (wrote ++ rest) × IsTaken offer limit input
@@ -91,7 +92,8 @@ Answers old new before after piece bytes =
     (input : List ℕ) → IsAt before input → IsAt after (input ++ piece) × TalksOn old new before.offer input piece [] bytes
 
 -- and was written, or a beginning, or nothing; w and w' are the writer's bytes
-abbrev pub Exchanged : (old new : Facts) → (before after : State) → (piece : List ℕ) → (w w' : Option (List ℕ)) → Result Bool ServeFault → Type 0
+abbrev pub Exchanged : (old new : Facts) → (before after : State) → (piece : List ℕ) → (w w' : Option (List ℕ)) →
+    Result Bool ServeFault → Type 0
 Exchanged old new before after piece w w' (Ok over) =
     (bytes : List ℕ) × Appends w w' bytes × Answers old new before after piece bytes × ((over ≡ true) ↔ (after.phase ≡ phase.Ended))
     × (after.starved ≡ false)

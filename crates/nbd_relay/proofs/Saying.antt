@@ -17,11 +17,13 @@ use Rattle.nbd_relay.specs.Client.{ClientState, IsServed, IsOfAnother, FedOnce, 
 
 same_of : (h : List Step) (s : Step) (k : ℕ) → IsOfAnother k s → Same h (h ++ s ∷ []) k
 same_of h (Opening id bytes) k n = same h (Opening id bytes) k refl (rw (ne_eqb id k n) refl) refl
-same_of h (Feeding id piece status bytes) k n = same h (Feeding id piece status bytes) k (rw (ne_eqb id k n) refl) (rw (ne_eqb id k n) refl) refl
+same_of h (Feeding id piece status bytes) k n =
+    same h (Feeding id piece status bytes) k (rw (ne_eqb id k n) refl) (rw (ne_eqb id k n) refl) refl
 same_of h (Ending id) k n = same h (Ending id) k refl refl (ne_eqb id k n)
 same_of h Refusal k n = same h Refusal k refl refl refl
 
-pub stays : (offer : Offer) (h : List Step) (s : Step) (client : ClientState) (read wrote : List ℕ) → IsOfAnother client.id s → IsServed offer h client read wrote → IsServed offer (h ++ s ∷ []) client read wrote
+pub stays : (offer : Offer) (h : List Step) (s : Step) (client : ClientState) (read wrote : List ℕ) → IsOfAnother client.id s →
+    IsServed offer h client read wrote → IsServed offer (h ++ s ∷ []) client read wrote
 stays offer h s client read wrote n v =
     let q = same_of h s client.id n in
     let m : opened (h ++ s ∷ []) ≡ opened h + opened (s ∷ []) = opened-append h (s ∷ []) in
@@ -34,15 +36,19 @@ stays offer h s client read wrote n v =
       ended = subst P (sym q.own_is) v.ended;
     }
 
-pub turn_stays : (offer : Offer) (h fed : List Step) (id : ℕ) (client : ClientState) (read wrote : List ℕ) → id ≢ client.id → FedOnce id fed → IsServed offer h client read wrote → IsServed offer (h ++ fed) client read wrote
-turn_stays offer h [] id client read wrote n f v = let P : List Step → Type 0 = λ z. IsServed offer z client read wrote in subst P (sym (append-nil h)) v
+pub turn_stays : (offer : Offer) (h fed : List Step) (id : ℕ) (client : ClientState) (read wrote : List ℕ) → id ≢ client.id →
+    FedOnce id fed → IsServed offer h client read wrote → IsServed offer (h ++ fed) client read wrote
+turn_stays offer h [] id client read wrote n f v = let P : List Step → Type 0 = λ z. IsServed offer z client read wrote in
+    subst P (sym (append-nil h)) v
 turn_stays offer h (Opening k bytes ∷ []) id client read wrote n f v = absurd f
-turn_stays offer h (Feeding k piece status bytes ∷ []) id client read wrote n f v = stays offer h (Feeding k piece status bytes) client read wrote (λ e. n (sym f.0 ∙ e)) v
+turn_stays offer h (Feeding k piece status bytes ∷ []) id client read wrote n f v =
+    stays offer h (Feeding k piece status bytes) client read wrote (λ e. n (sym f.0 ∙ e)) v
 turn_stays offer h (Ending k ∷ []) id client read wrote n f v = absurd f
 turn_stays offer h (Refusal ∷ []) id client read wrote n f v = absurd f
 turn_stays offer h (s ∷ t ∷ more) id client read wrote n f v = absurd f
 
-pub is_said : (facts : Facts) (hub : HubState) (h : List Step) (client : ClientState) (read wrote : List ℕ) → IsAfter facts hub h → IsServed hub.offer h client read wrote → IsSaid (Given facts) hub.offer client read wrote
+pub is_said : (facts : Facts) (hub : HubState) (h : List Step) (client : ClientState) (read wrote : List ℕ) → IsAfter facts hub h →
+    IsServed hub.offer h client read wrote → IsSaid (Given facts) hub.offer client read wrote
 is_said facts hub h client read wrote a v =
     let t = a.told client.id v.is_open.0 in
     let fed = own h client.id in
@@ -61,7 +67,8 @@ is_said facts hub h client read wrote a v =
     }
 
 -- a session was opened, and its greeting is unsent
-pub served_open : (fa fb : Facts) (hub hub' : HubState) (h : List Step) (id : ℕ) (unsent : List ℕ) → IsAfter fa hub h → OpenedAfter fb hub' h id → unsent ≡ greeting
+pub served_open : (fa fb : Facts) (hub hub' : HubState) (h : List Step) (id : ℕ) (unsent : List ℕ) → IsAfter fa hub h →
+    OpenedAfter fb hub' h id → unsent ≡ greeting
     → IsServed hub'.offer (h ++ Opening id greeting ∷ []) (record { id = id; waiting = []; unsent = unsent; over = false }) [] []
 served_open fa fb hub hub' h id unsent x o u =
     let e : Step = Opening id greeting in

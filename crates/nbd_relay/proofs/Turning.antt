@@ -1,5 +1,6 @@
 -- A turn of a served client, by its part.
-use Rattle.std.proofs.Common.{◌≡◌, ◌≢◌, ◌↔◌, ◌≤◌, ◌+◌, ◌++◌, ◌⊎◌, ◌||◌, Bool, true, false, ℕ, List, [], ◌∷◌, length, Option, Some, inl, inr, refl, sym, ap, ◌∙◌, subst, arith, append_assoc, append-nil, eq-eqb, length-append}
+use Rattle.std.proofs.Common.{◌≡◌, ◌≢◌, ◌↔◌, ◌≤◌, ◌+◌, ◌++◌, ◌⊎◌, ◌||◌, Bool, true, false, ℕ, List, [], ◌∷◌, length, Option, Some}
+use Rattle.std.proofs.Common.{inl, inr, refl, sym, ap, ◌∙◌, subst, arith, append_assoc, append-nil, eq-eqb, length-append}
 use Rattle.std.proofs.lemmas.Bool.{ne_eqb, cases_Bool}
 use Rattle.std.specs.Io.KnownBytes.{Keeps}
 use Rattle.std.proofs.KnownBytes.{Appends-nil, Consumes-nil, Appends-kept, Consumes-kept}
@@ -14,7 +15,8 @@ use Rattle.nbd_session.specs.Protocol.{longest_reply}
 use Rattle.nbd_session.proofs.Shorter.{replies_once, fair_len}
 use Rattle.nbd_hub.specs.declared.fault.HubFault.TheVariants as hub_fault
 use Rattle.nbd_hub.specs.declared.fault.ServeFault.TheVariants as fault
-use Rattle.nbd_hub.specs.History.{Step, Feeding, Takes, Starves, taken, taken_by, is_starves, own, output, said, starved, opened, ended, IsOpen}
+use Rattle.nbd_hub.specs.History.{Step, Feeding, Takes, Starves, taken, taken_by, is_starves, own, output, said, starved, opened}
+use Rattle.nbd_hub.specs.History.{ended, IsOpen}
 use Rattle.nbd_hub.specs.Sessions.{HubState, lookup}
 use Rattle.nbd_hub.specs.After.{IsAfter, FedAfter, Stands}
 use Rattle.nbd_hub.specs.Stream.{HasEnded}
@@ -24,7 +26,8 @@ use Rattle.nbd_relay.specs.declared.client.Turn.{Turn}
 use Rattle.nbd_relay.specs.declared.client.Turn.TheVariants as turn
 
 -- bytes came and went, and the session wasn't fed
-served_on : (offer : Offer) (h : List Step) (old new : ClientState) (read wrote took gave : List ℕ) → new.id ≡ old.id → new.over ≡ old.over → new.waiting ≡ old.waiting ++ took → old.unsent ≡ gave ++ new.unsent
+served_on : (offer : Offer) (h : List Step) (old new : ClientState) (read wrote took gave : List ℕ) → new.id ≡ old.id →
+    new.over ≡ old.over → new.waiting ≡ old.waiting ++ took → old.unsent ≡ gave ++ new.unsent
     → IsServed offer h old read wrote → IsServed offer (h ++ []) new (read ++ took) (wrote ++ gave)
 served_on offer h old new read wrote took gave e o w u v =
     let S : List Step → Type 0 = λ z. IsServed offer z new (read ++ took) (wrote ++ gave) in
@@ -33,7 +36,8 @@ served_on offer h old new read wrote took gave e o w u v =
     let R : Bool → Type 0 = λ b. (b ≡ true) ↔ HasEnded offer (own h old.id) in
     subst S (sym (append-nil h)) (record {
       is_open = subst O (sym e) v.is_open;
-      reads = ap (λ x. x ++ took) v.reads ∙ append_assoc (own h old.id) old.waiting took ∙ ap (λ x. own h old.id ++ x) (sym w) ∙ ap (λ k. own h k ++ new.waiting) (sym e);
+      reads = ap (λ x. x ++ took) v.reads ∙ append_assoc (own h old.id) old.waiting took ∙ ap (λ x. own h old.id ++ x) (sym w)
+          ∙ ap (λ k. own h k ++ new.waiting) (sym e);
       writes = append_assoc wrote gave new.unsent ∙ ap (λ x. wrote ++ x) (sym u) ∙ v.writes ∙ ap (output h) (sym e);
       ended = subst Q (sym e) (subst R (sym o) v.ended);
     })
@@ -53,8 +57,10 @@ turns_still facts hub h client r w read wrote a v = record {
   served = served_on hub.offer h client client read wrote [] [] refl refl (sym (append-nil client.waiting)) refl v;
 }
 
-pub turns_sent : (facts : Facts) (hub : HubState) (h : List Step) (old new : ClientState) (r r' w w' : Option (List ℕ)) (result : Turn) (read wrote : List ℕ)
-    → Sends old new w w' result → Keeps r r' → IsAfter facts hub h → IsServed hub.offer h old read wrote → TurnsOn facts hub h new (ends r r' w w') read wrote
+pub turns_sent : (facts : Facts) (hub : HubState) (h : List Step) (old new : ClientState) (r r' w w' : Option (List ℕ))
+    (result : Turn) (read wrote : List ℕ)
+    → Sends old new w w' result → Keeps r r' → IsAfter facts hub h → IsServed hub.offer h old read wrote →
+    TurnsOn facts hub h new (ends r r' w w') read wrote
 turns_sent facts hub h old new r r' w w' result read wrote s k a v = record {
   fed = [];
   once = tt;
@@ -65,8 +71,10 @@ turns_sent facts hub h old new r r' w w' result read wrote s k a v = record {
   served = served_on hub.offer h old new read wrote [] s.gave s.id s.over (s.waiting ∙ sym (append-nil old.waiting)) s.parts v;
 }
 
-pub turns_read : (facts : Facts) (hub : HubState) (h : List Step) (old new : ClientState) (r r' w w' : Option (List ℕ)) (result : Turn) (read wrote : List ℕ)
-    → old.waiting ≡ [] → Reads old new r r' result → Keeps w w' → IsAfter facts hub h → IsServed hub.offer h old read wrote → TurnsOn facts hub h new (ends r r' w w') read wrote
+pub turns_read : (facts : Facts) (hub : HubState) (h : List Step) (old new : ClientState) (r r' w w' : Option (List ℕ))
+    (result : Turn) (read wrote : List ℕ)
+    → old.waiting ≡ [] → Reads old new r r' result → Keeps w w' → IsAfter facts hub h → IsServed hub.offer h old read wrote →
+    TurnsOn facts hub h new (ends r r' w w') read wrote
 turns_read facts hub h old new r r' w w' result read wrote n s k a v = record {
   fed = [];
   once = tt;
@@ -88,14 +96,16 @@ takes_it status.Ended piece n = refl
 takes_it status.Starved piece n = absurd (n refl)
 
 -- the session's own input after a feed
-own_fed : (h : List Step) (id : ℕ) (piece bytes : List ℕ) (s : Status) → s ≢ status.Starved → starved (h ++ Feeding id piece s bytes ∷ []) id ≡ false → own (h ++ Feeding id piece s bytes ∷ []) id ≡ own h id ++ piece
+own_fed : (h : List Step) (id : ℕ) (piece bytes : List ℕ) (s : Status) → s ≢ status.Starved →
+    starved (h ++ Feeding id piece s bytes ∷ []) id ≡ false → own (h ++ Feeding id piece s bytes ∷ []) id ≡ own h id ++ piece
 own_fed h id piece bytes s n a =
     let e : Step = Feeding id piece s bytes in
     let t : taken e id ≡ Takes piece = rw (eq-eqb id id refl) (takes_it s piece n) in
     let awake : starved h id ≡ false = sym (starved-snoc h e id ∙ ap (λ z. starved h id || is_starves z) t ∙ or_false (starved h id)) ∙ a in
     own-awake h e id awake ∙ ap (λ z. own h id ++ piece_of z) t
 
-own_unfed : (h : List Step) (id : ℕ) (piece bytes : List ℕ) (s : Status) → s ≡ status.Starved → own (h ++ Feeding id piece s bytes ∷ []) id ≡ own h id
+own_unfed : (h : List Step) (id : ℕ) (piece bytes : List ℕ) (s : Status) → s ≡ status.Starved →
+    own (h ++ Feeding id piece s bytes ∷ []) id ≡ own h id
 own_unfed h id piece bytes s n =
     let e : Step = Feeding id piece s bytes in
     let t : taken e id ≡ Starves = rw (eq-eqb id id refl) (ap (λ z. taken_by z piece) n) in
@@ -112,7 +122,8 @@ still_open h id piece bytes s o =
     (omega arith, ended-snoc h e id ∙ or_false (ended h id) ∙ o.1)
 
 -- the session was fed
-served_fed : (b : Facts) (hub' : HubState) (offer : Offer) (h : List Step) (old new : ClientState) (piece : List ℕ) (s : Status) (read wrote : List ℕ) → hub'.offer ≡ offer → old.unsent ≡ []
+served_fed : (b : Facts) (hub' : HubState) (offer : Offer) (h : List Step) (old new : ClientState) (piece : List ℕ) (s : Status)
+    (read wrote : List ℕ) → hub'.offer ≡ offer → old.unsent ≡ []
     → (s ≢ status.Starved → (old.waiting ≡ piece ++ new.waiting) × ((new.over ≡ true) ↔ (s ≡ status.Ended)))
     → (s ≡ status.Starved → (new.waiting ≡ old.waiting) × (new.over ≡ old.over))
     → (f : FedAfter b hub' h old.id piece s [] new.unsent) → new.id ≡ old.id → IsServed offer h old read wrote
@@ -128,7 +139,9 @@ served_fed b hub' offer h old new piece s read wrote o drained takes starves f i
     ∙ ap (λ x. x ++ f.said) (sym (append-nil wrote) ∙ ap (λ x. wrote ++ x) (sym drained) ∙ v.writes)
     ∙ ap (λ x. output h id ++ x) (sym said_is)
     ∙ sym (output-snoc h e id) in
-    let S : ℕ → Type 0 = λ k. (x : IsOpen h' k) × ((read ++ [] ≡ own h' k ++ new.waiting) × (((wrote ++ []) ++ new.unsent ≡ output h' k) × ((new.over ≡ true) ↔ HasEnded hub'.offer (own h' k)))) in
+    let S : ℕ → Type 0 = λ k. (x : IsOpen h' k) ×
+    ((read ++ [] ≡ own h' k ++ new.waiting) ×
+    (((wrote ++ []) ++ new.unsent ≡ output h' k) × ((new.over ≡ true) ↔ HasEnded hub'.offer (own h' k)))) in
     let r : S id = elim (cases_starved s) [
       | inl y ↦
           let w = own_unfed h id piece f.said s y in
@@ -149,7 +162,8 @@ served_fed b hub' offer h old new piece s read wrote o drained takes starves f i
           let d = f.stands.ended y in (
             still_open h id piece f.said s f.was_open,
             (
-              append-nil read ∙ v.reads ∙ ap (λ x. own h id ++ x) k.0 ∙ sym (append_assoc (own h id) piece new.waiting) ∙ ap (λ x. x ++ new.waiting) (sym w),
+              append-nil read ∙ v.reads ∙ ap (λ x. own h id ++ x) k.0 ∙ sym (append_assoc (own h id) piece new.waiting)
+                  ∙ ap (λ x. x ++ new.waiting) (sym w),
               (writes, ((λ z. d.0 (k.1.0 z)), (λ z. k.1.1 (d.1 z)))),
             ),
           )
@@ -157,8 +171,10 @@ served_fed b hub' offer h old new piece s read wrote o drained takes starves f i
     let q = subst S (sym i) r in
     record { is_open = q.0; reads = q.1.0; writes = q.1.1.0; ended = q.1.1.1 }
 
-pub turns_fed : (a b : Facts) (hub hub' : HubState) (h : List Step) (old new : ClientState) (r w : Option (List ℕ)) (result : Turn) (read wrote : List ℕ)
-    → old.unsent ≡ [] → Feeds a b hub hub' old new result → IsAfter a hub h → IsServed hub.offer h old read wrote → TurnsOn b hub' h new (ends r r w w) read wrote
+pub turns_fed : (a b : Facts) (hub hub' : HubState) (h : List Step) (old new : ClientState) (r w : Option (List ℕ)) (result : Turn)
+    (read wrote : List ℕ)
+    → old.unsent ≡ [] → Feeds a b hub hub' old new result → IsAfter a hub h → IsServed hub.offer h old read wrote →
+    TurnsOn b hub' h new (ends r r w w) read wrote
 turns_fed a b hub hub' h old new r w result read wrote n s x v =
     let f = s.after h x in
     let O : ℕ → Type 0 = λ k. old.id ≡ k in record {
@@ -168,21 +184,25 @@ turns_fed a b hub hub' h old new r w result read wrote n s x v =
       took = [];
       gave = [];
       moved = record { reads = Consumes-nil r; writes = Appends-nil w };
-      served = served_fed b hub' hub.offer h old new s.piece s.state read wrote s.feeds.offer n (λ y. ((s.takes y).0, (s.takes y).1)) (λ y. ((s.starves y).0, (s.starves y).1)) f s.id v;
+      served = served_fed b hub' hub.offer h old new s.piece s.state read wrote s.feeds.offer n
+          (λ y. ((s.takes y).0, (s.takes y).1)) (λ y. ((s.starves y).0, (s.starves y).1)) f s.id v;
     }
 
 -- what the hub's other sessions and the turn's result are after a feed
-pub others_fed : (a b : Facts) (hub hub' : HubState) (old new : ClientState) (result : Turn) → Feeds a b hub hub' old new result → (k : ℕ) → k ≢ old.id → lookup k hub'.sessions ≡ lookup k hub.sessions
+pub others_fed : (a b : Facts) (hub hub' : HubState) (old new : ClientState) (result : Turn) → Feeds a b hub hub' old new result →
+    (k : ℕ) → k ≢ old.id → lookup k hub'.sessions ≡ lookup k hub.sessions
 others_fed a b hub hub' old new result s k n = s.feeds.sets k ∙ rw (ne_eqb k old.id n) refl
 
-pub moves_fed : (a b : Facts) (hub hub' : HubState) (old new : ClientState) (result : Turn) → Feeds a b hub hub' old new result → result ≡ turn.Again → Moves old new
+pub moves_fed : (a b : Facts) (hub hub' : HubState) (old new : ClientState) (result : Turn) → Feeds a b hub hub' old new result →
+    result ≡ turn.Again → Moves old new
 moves_fed a b hub hub' old new result s e =
     elim (cases_starved s.state) [
       | inl y ↦ let q = (s.starves y).2 in absurd (let z : ⊥ = cc in z)
       | inr y ↦ let q = (s.takes y).0 in let l = s.some in inr (inl (omega (arith, ap length q, length-append s.piece new.waiting)))
     ]
 
-pub ready_fed : (a b : Facts) (hub hub' : HubState) (old new : ClientState) (result : Turn) → Feeds a b hub hub' old new result → IsUnready result → ⊥
+pub ready_fed : (a b : Facts) (hub hub' : HubState) (old new : ClientState) (result : Turn) → Feeds a b hub hub' old new result →
+    IsUnready result → ⊥
 ready_fed a b hub hub' old new result s u =
     elim (cases_starved s.state) [
       | inl y ↦ let q = (s.starves y).2 in subst IsUnready q u
@@ -204,7 +224,8 @@ cases_gone (turn.Failed (fault.Hub hub_fault.Unknown)) = inl refl
 cases_gone (turn.Failed (fault.Hub hub_fault.Spent)) = inr (λ e. let q : ⊥ = cc in q)
 
 -- what is unsent after a feed, in transmission
-pub bound_fed : (a b : Facts) (hub hub' : HubState) (h : List Step) (old new : ClientState) (result : Turn) → Feeds a b hub hub' old new result → IsAfter a hub h
+pub bound_fed : (a b : Facts) (hub hub' : HubState) (h : List Step) (old new : ClientState) (result : Turn) →
+    Feeds a b hub hub' old new result → IsAfter a hub h
     → (hear hub.offer phase.Flags (own h old.id)).phase ≡ phase.Transmission → length new.unsent ≤ longest_reply
 bound_fed a b hub hub' h old new result s x t =
     let f = s.feeds.feeds in
@@ -216,12 +237,14 @@ bound_fed a b hub hub' h old new result s x t =
       | inl y ↦ let e = (f.starved y).0 in omega (arith, ap length e)
       | inr y ↦
           let k = f.talks y (own h old.id) stands.2 in
-          let l = replies_once (Fair a b) (fair_len a b) before.offer (own h old.id) s.piece k.verdicts (subst O (sym s.feeds.offers) t) s.short k.judged in
+          let l = replies_once (Fair a b) (fair_len a b) before.offer (own h old.id) s.piece k.verdicts
+          (subst O (sym s.feeds.offers) t) s.short k.judged in
           omega (arith, ap length k.exact, l)
     ]
 
 -- the session that starved
-pub starved_fed : (a b : Facts) (hub hub' : HubState) (old new : ClientState) (result : Turn) → Feeds a b hub hub' old new result → result ≡ turn.Failed fault.Starved
+pub starved_fed : (a b : Facts) (hub hub' : HubState) (old new : ClientState) (result : Turn) → Feeds a b hub hub' old new result →
+    result ≡ turn.Failed fault.Starved
     → (session : State) × (lookup old.id hub'.sessions ≡ Some session) × (session.starved ≡ true)
 starved_fed a b hub hub' old new result s e =
     elim (cases_starved s.state) [

@@ -53,7 +53,8 @@ FedOnce id (s ∷ t ∷ more) = ⊥
 
 -- A turn after this history: the session was fed once or not at all, and with what was read and written in the turn the
 -- client is served so again.
-pub record TurnsOn (facts : Facts) (hub : HubState) (history : List Step) (client : ClientState) (e : Ends) (read wrote : List ℕ) : Type 0 where
+pub record TurnsOn (facts : Facts) (hub : HubState) (history : List Step) (client : ClientState) (e : Ends)
+    (read wrote : List ℕ) : Type 0 where
   pub fed : List Step
   pub once : FedOnce client.id fed
   pub after : IsAfter facts hub (history ++ fed)
@@ -91,10 +92,12 @@ pub record Feeds (old_facts new_facts : Facts) (old_hub new_hub : HubState) (old
   pub state : Status
   pub short : length piece ≤ turn_bytes
   pub some : 0 < length piece
-  pub takes : state ≢ status.Starved → (old.waiting ≡ piece ++ new.waiting) × ((new.over ≡ true) ↔ (state ≡ status.Ended)) × (result ≡ turn.Again)
+  pub takes : state ≢ status.Starved → (old.waiting ≡ piece ++ new.waiting) × ((new.over ≡ true) ↔ (state ≡ status.Ended)) ×
+      (result ≡ turn.Again)
   pub starves : state ≡ status.Starved → (new.waiting ≡ old.waiting) × (new.over ≡ old.over) × (result ≡ turn.Failed fault.Starved)
   pub feeds : FeedsOne old_facts new_facts old_hub new_hub old.id piece [] new.unsent state
-  pub after : (history : List Step) → IsAfter old_facts old_hub history → FedAfter new_facts new_hub history old.id piece state [] new.unsent
+  pub after : (history : List Step) → IsAfter old_facts old_hub history →
+      FedAfter new_facts new_hub history old.id piece state [] new.unsent
 
 -- A beginning of what was unsent was sent, and none of it but where the turn says so.
 pub record Sends (old new : ClientState) (writer writer' : Option (List ℕ)) (result : Turn) : Type 0 where
@@ -117,7 +120,8 @@ pub record Reads (old new : ClientState) (reader reader' : Option (List ℕ)) (r
   pub some : result ≡ turn.Again → 0 < length new.waiting
   pub none : result ≢ turn.Again → new.waiting ≡ []
   pub done : result ≡ turn.Done → IsAtEnd reader'
-  pub fault : (result ≡ turn.Again) ⊎ (result ≡ turn.Blocked) ⊎ (result ≡ turn.Interrupted) ⊎ (result ≡ turn.Done) ⊎ (result ≡ turn.Failed fault.Read)
+  pub fault : (result ≡ turn.Again) ⊎ (result ≡ turn.Blocked) ⊎ (result ≡ turn.Interrupted) ⊎ (result ≡ turn.Done) ⊎
+      (result ≡ turn.Failed fault.Read)
 
 -- the consequence, and what other sessions do
 
@@ -136,5 +140,6 @@ pub record IsSaid (P : ℕ → ℕ → Verdict → Type 0) (offer : Offer) (clie
   pub verdicts : List Verdict
   pub judged : Judged P (hear offer phase.Flags fed).answers verdicts
   pub exact : wrote ++ client.unsent ≡ talk offer fed verdicts
-  pub begins : (more : List Verdict) → talk offer read (verdicts ++ more) ≡ (wrote ++ client.unsent) ++ replies (added offer fed client.waiting) more
+  pub begins : (more : List Verdict) → talk offer read (verdicts ++ more) ≡ (wrote ++ client.unsent) ++ replies
+      (added offer fed client.waiting) more
   pub whole : client.waiting ≡ [] → client.unsent ≡ [] → wrote ≡ talk offer read verdicts

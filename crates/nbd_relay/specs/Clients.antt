@@ -26,7 +26,8 @@ abbrev pub AllServed : {S : Type 0} → Offer → List Step → List (ClientStat
 AllServed offer history [] [] = Unit {0}
 AllServed offer history [] (l ∷ logs) = ⊥
 AllServed offer history (c ∷ clients) [] = ⊥
-AllServed offer history (c ∷ clients) (l ∷ logs) = IsServed offer history c.0 l.read l.wrote × Apart c.0.id clients × AllServed offer history clients logs
+AllServed offer history (c ∷ clients) (l ∷ logs) = IsServed offer history c.0 l.read l.wrote × Apart c.0.id clients ×
+    AllServed offer history clients logs
 
 -- the log went on by what was read and written
 pub record IsLogged (reader reader' writer writer' : Option (List ℕ)) (log log' : Log) : Type 0 where
@@ -37,9 +38,11 @@ pub record IsLogged (reader reader' writer writer' : Option (List ℕ)) (log log
   pub wrote : log'.wrote ≡ log.wrote ++ gave
 
 -- each client is the same, and its log went on by what was read and written
-abbrev pub AllLogged : {S : Type 0} → (remaining contents : S → Option (List ℕ)) → (old new : List (ClientState × S)) → (logs logs' : List Log) → Type 0
+abbrev pub AllLogged : {S : Type 0} → (remaining contents : S → Option (List ℕ)) → (old new : List (ClientState × S)) →
+    (logs logs' : List Log) → Type 0
 AllLogged r w [] [] [] [] = Unit {0}
-AllLogged r w (c ∷ cs) (d ∷ ds) (l ∷ ls) (m ∷ ms) = (d.0.id ≡ c.0.id) × IsLogged (r c.1) (r d.1) (w c.1) (w d.1) l m × AllLogged r w cs ds ls ms
+AllLogged r w (c ∷ cs) (d ∷ ds) (l ∷ ls) (m ∷ ms) = (d.0.id ≡ c.0.id) × IsLogged (r c.1) (r d.1) (w c.1) (w d.1) l m ×
+    AllLogged r w cs ds ls ms
 AllLogged r w cs ds ls ms = ⊥
 
 -- One client took a turn, which came to this; the others stand as they stood.
@@ -54,7 +57,8 @@ pub record TurnsAt {S : Type 0} (asked : S → Asked) (old new : List (ClientSta
   pub done : result ≡ turn.Done → (after.0 ≡ before.0) × (after.0.unsent ≡ [])
 
 -- After this history the hub took some steps, and all clients are served so again.
-pub record RunsOn {S : Type 0} (remaining contents : S → Option (List ℕ)) (facts : Facts) (hub : HubState) (history : List Step) (old new : List (ClientState × S)) (logs : List Log) : Type 0 where
+pub record RunsOn {S : Type 0} (remaining contents : S → Option (List ℕ)) (facts : Facts) (hub : HubState) (history : List Step)
+    (old new : List (ClientState × S)) (logs : List Log) : Type 0 where
   pub fed : List Step
   pub after : IsAfter facts hub (history ++ fed)
   pub later : List Log

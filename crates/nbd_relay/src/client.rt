@@ -19,7 +19,7 @@ use crate::stream::Stream;
 use nbd_hub::{HubFault, ServeFault, Sessions};
 use nbd_session::{Export, Status};
 use std::alloc::{Allocator, Global};
-use std::io::ErrorKind;
+use std::io::{self, ErrorKind};
 use std::marker::Model;
 
 /// The most bytes that are read at once.
@@ -128,6 +128,39 @@ impl<S: Stream + Drop, A: Allocator> Client<S, A> {
         ensures { result ≡ self.now.0.id }
     {
         self.session
+    }
+
+    /// How many bytes are held for what was said, until all of it is sent; then none.
+    pub fn held(&self) -> usize
+        ensures covers { length self.now.0.unsent ≤ result }
+        ensures given_back { self.now.0.unsent ≡ [] → result ≡ 0 }
+    {
+        if self.sent < self.pending.len() {
+            self.pending.len()
+        } else {
+            0
+        }
+    }
+
+    /// Whether its next turn feeds.
+    pub fn is_fed_next(&self) -> bool
+        ensures drained { result ≡ true → self.now.0.unsent ≡ [] }
+        ensures feeds { self.now.0.unsent ≡ [] → self.now.0.over ≡ false → 0 < length self.now.0.waiting → result ≡ true }
+    {
+        if self.sent < self.pending.len() {
+            return false;
+        }
+        !self.over && self.begin < self.end
+    }
+
+    /// Has its stream hand on what it took and holds.
+    pub fn flush(&mut self) -> io::Result<()>
+        ensures same { self.new.0 ≡ self.old.0 }
+        ensures unread { Keeps (S.remaining self.old.1) (S.remaining self.new.1) }
+        ensures written { Keeps (S.contents self.old.1) (S.contents self.new.1) }
+        ensures asked { S.asked self.new.1 ≡ S.asked self.old.1 }
+    {
+        self.stream.flush()
     }
 
     /// Sends a beginning of what is unsent.

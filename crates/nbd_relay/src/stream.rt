@@ -11,7 +11,7 @@ use verity_count::Count;
 
 /// A stream in both directions, which may not be ready: it then answers `WouldBlock`, and has neither given nor taken a byte.
 ///
-/// It doesn't buffer: what it took is on its way, since nothing here flushes. No contract says so.
+/// What it took may wait in it until it is flushed, which [`Client::flush`](crate::Client::flush) does; no turn does so.
 ///
 /// Contracts see the bytes that it will give and those that it was given, where they are known. What is read changes nothing
 /// of what was written, and the other way: a bound `Read + Write` says neither.
@@ -39,6 +39,15 @@ pub trait Stream {
         ensures unread { Keeps (remaining self.old) (remaining self.new) }
         ensures asked { IsAsked (asked self.old) (asked self.new) result }
         ensures stuck { IfOk result (λ n. n ≡ 0 → 0 < length buf.now → (asked self.old).failures < (asked self.new).failures) };
+
+    /// Hands on what it took and holds. A stream that holds nothing has nothing to do.
+    fn flush(&mut self) -> io::Result<()>
+        ensures unread { Keeps (remaining self.old) (remaining self.new) }
+        ensures written { Keeps (contents self.old) (contents self.new) }
+        ensures asked { asked self.new ≡ asked self.old }
+    {
+        Ok(())
+    }
 }
 
 /// Counts of what a stream was asked and answered. They take no bytes.
@@ -118,5 +127,9 @@ impl<R: Read, W: Write> Stream for Pair<R, W> {
         let answer = self.writer.write(buf);
         self.asks.note(&answer, !buf.is_empty());
         answer
+    }
+
+    fn flush(&mut self) -> io::Result<()> {
+        self.writer.flush()
     }
 }

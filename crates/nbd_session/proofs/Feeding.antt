@@ -1,5 +1,6 @@
 -- A feed, for every input that the session was at.
-use Rattle.std.proofs.Common.{◌≡◌, ◌≢◌, ◌↔◌, ◌≤◌, ◌+◌, ℕ, Bool, true, false, List, [], ◌++◌, length, refl, sym, ap, ◌∙◌, subst, arith, append_assoc, append-nil, length-append}
+use Rattle.std.proofs.Common.{◌≡◌, ◌≢◌, ◌↔◌, ◌≤◌, ◌+◌, ℕ, Bool, true, false, List, [], ◌++◌, length, refl, sym, ap, ◌∙◌, subst}
+use Rattle.std.proofs.Common.{arith, append_assoc, append-nil, length-append}
 use Rattle.nbd_session.specs.Protocol.{short, longest_reply}
 use Rattle.nbd_session.specs.declared.phase.Phase.{Phase}
 use Rattle.nbd_session.specs.declared.phase.Phase.TheVariants.{Flags, Transmission, Ended}
@@ -24,7 +25,8 @@ use Rattle.nbd_session.proofs.Moving.{Keeps-refl, counted_on, moves_ended, rest_
 abbrev pub state_of : {A : Type 0} → Offer → Inbox A → Bool → State
 state_of o inbox starved = record { offer = o; phase = inbox.phase; held = inbox.held.items; missing = inbox.missing; starved = starved }
 
-waits_at : {A : Type 0} (o : Offer) (inbox : Inbox A) (starved : Bool) (input : List ℕ) → Reflects (state_of o inbox starved) (hear o Flags input) → Waits inbox (hear o Flags input).unfinished
+waits_at : {A : Type 0} (o : Offer) (inbox : Inbox A) (starved : Bool) (input : List ℕ) →
+    Reflects (state_of o inbox starved) (hear o Flags input) → Waits inbox (hear o Flags input).unfinished
 waits_at o inbox starved input a =
     let h = hear o Flags input in
     let P : Phase → Type 0 = λ p. front p h.unfinished ≡ Partial in
@@ -34,18 +36,21 @@ waits_at o inbox starved input a =
       missing = a.missing ∙ ap (λ p. missing_of p h.unfinished) (sym a.phase);
     }
 
-reflects : {A : Type 0} (old new : Facts) (o : Offer) (after : Inbox A) (starved : Bool) (h : Heard) (said : List ℕ) → starved ≡ false → Stands old new h after said → Reflects (state_of o after starved) h
+reflects : {A : Type 0} (old new : Facts) (o : Offer) (after : Inbox A) (starved : Bool) (h : Heard) (said : List ℕ) →
+    starved ≡ false → Stands old new h after said → Reflects (state_of o after starved) h
 reflects old new o after starved h said e s = record {
   phase = s.phase;
   held = s.waits.held ∙ ap (λ p. kept p h.unfinished) s.phase;
   missing = s.waits.missing ∙ ap (λ p. missing_of p h.unfinished) s.phase;
 }
 
-pub record Fed {A : Type 0} (old new : Facts) (o : Offer) (after : Inbox A) (starved : Bool) (s : State) (input piece out out' : List ℕ) : Type 0 where
+pub record Fed {A : Type 0} (old new : Facts) (o : Offer) (after : Inbox A) (starved : Bool) (s : State)
+    (input piece out out' : List ℕ) : Type 0 where
   pub at : IsAt (state_of o after starved) (input ++ piece)
   pub talks : TalksOn old new s.offer input piece out out'
 
-pub feeds : {A : Type 0} (old new : Facts) (o : Offer) (before after : Inbox A) (starved : Bool) (s : State) (input piece out out' : List ℕ) → state_of o before starved ≡ s → starved ≡ false
+pub feeds : {A : Type 0} (old new : Facts) (o : Offer) (before after : Inbox A) (starved : Bool) (s : State)
+    (input piece out out' : List ℕ) → state_of o before starved ≡ s → starved ≡ false
     → AppendsMove old new o before after piece out out' → IsAt s input → Fed old new o after starved s input piece out out'
 feeds old new o before after starved s input piece out out' v e m =
     let P : State → Type 0 = λ x. IsAt x input → Fed old new o after starved x input piece out out' in
@@ -60,7 +65,14 @@ feeds old new o before after starved s input piece out out' v e m =
     let R : Heard → Type 0 = λ x. Reflects (state_of o after starved) x in
     record {
       at = λ z. subst R (sym (hear-append offer Flags input piece)) (record { phase = r.phase; held = r.held; missing = r.missing });
-      talks = record { verdicts = t.verdicts; judged = t.judged; counted = t.counted; spent = t.spent; exact = m.1 ∙ ap (λ x. out ++ x) t.exact };
+      talks = record {
+        verdicts = t.verdicts;
+        judged = t.judged;
+        counted = t.counted;
+        spent = t.spent;
+        exact = m.1
+            ∙ ap (λ x. out ++ x) t.exact;
+      };
     })
 
 -- A session that has ended stays so.
@@ -86,7 +98,8 @@ feeds_ended now o inbox starved s piece out v f p =
     })
 
 -- what a short piece adds in transmission
-talks_bound : (a b : Facts) (offer : Offer) (input piece out out' : List ℕ) → TalksOn a b offer input piece out out' → (hear offer Flags input).phase ≡ Transmission → length piece ≤ short
+talks_bound : (a b : Facts) (offer : Offer) (input piece out out' : List ℕ) → TalksOn a b offer input piece out out' →
+    (hear offer Flags input).phase ≡ Transmission → length piece ≤ short
     → length out' ≤ length out + longest_reply
 talks_bound a b offer input piece out out' t p l =
     let said = replies (added offer input piece) t.verdicts in
@@ -96,8 +109,10 @@ talks_bound a b offer input piece out out' t p l =
     subst P (sym t.exact) sum
 
 -- A piece was taken in.
-pub feeds_on : {A : Type 0} (old new : Facts) (o : Offer) (before after : Inbox A) (starved : Bool) (s : State) (piece out out' : List ℕ) (result : Status)
-    → state_of o before starved ≡ s → starved ≡ false → Keeps old new → (before.phase ≡ Ended → ⊥) → AppendsMove old new o before after piece out out'
+pub feeds_on : {A : Type 0} (old new : Facts) (o : Offer) (before after : Inbox A) (starved : Bool) (s : State)
+    (piece out out' : List ℕ) (result : Status)
+    → state_of o before starved ≡ s → starved ≡ false → Keeps old new → (before.phase ≡ Ended → ⊥) →
+    AppendsMove old new o before after piece out out'
     → result ≢ Starved → (result ≡ status.Ended) ↔ (after.phase ≡ Ended) → Feeds old new s (state_of o after starved) piece out out' result
 feeds_on old new o before after starved s piece out out' result v f k p m n ended =
     let P : State → Type 0 = λ x. Feeds old new x (state_of o after starved) piece out out' result in
@@ -120,7 +135,8 @@ feeds_on old new o before after starved s piece out out' result v f k p m n ende
 -- feed after feed
 
 -- what was said for an input, and what a feed adds
-pub talked_on : (a b c : Facts) (offer : Offer) (input piece said more : List ℕ) → Keeps a b → Keeps b c → Talked a b offer input said → TalksOn b c offer input piece [] more → Talked a c offer (input ++ piece) (said ++ more)
+pub talked_on : (a b c : Facts) (offer : Offer) (input piece said more : List ℕ) → Keeps a b → Keeps b c →
+    Talked a b offer input said → TalksOn b c offer input piece [] more → Talked a c offer (input ++ piece) (said ++ more)
 talked_on a b c offer input piece said more k l s t =
     let xs = (hear offer Flags input).answers in
     let ys = added offer input piece in
@@ -135,5 +151,6 @@ talked_on a b c offer input piece said more k l s t =
       counted = counted_on a b c s.verdicts t.verdicts k s.counted t.counted;
       exact = ap (λ x. x ++ more) s.exact ∙ ap (λ x. talk offer input s.verdicts ++ x) t.exact
           ∙ append_assoc greeting (replies xs s.verdicts) (replies ys t.verdicts)
-          ∙ ap (λ x. greeting ++ x) (sym (replies-append (Fair a b) xs ys s.verdicts t.verdicts s.judged) ∙ ap (λ x. replies x vs) (sym on));
+          ∙ ap (λ x. greeting ++ x) (sym (replies-append (Fair a b) xs ys s.verdicts t.verdicts s.judged)
+          ∙ ap (λ x. replies x vs) (sym on));
     }

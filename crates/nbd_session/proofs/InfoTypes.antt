@@ -9,7 +9,8 @@ use Rattle.nbd_session.specs.Messages.{number_at}
 use Rattle.nbd_session.specs.Protocol.{option_reply_magic}
 
 -- the first type, and the others
-pub lists_next : (left kind place : ℕ) (types : List ℕ) → 0 < left → (number_at place 2 types ≡ kind → ⊥) → lists_type left kind (drop place types) ≡ lists_type (left - 1) kind (drop (place + 2) types)
+pub lists_next : (left kind place : ℕ) (types : List ℕ) → 0 < left → (number_at place 2 types ≡ kind → ⊥) →
+    lists_type left kind (drop place types) ≡ lists_type (left - 1) kind (drop (place + 2) types)
 lists_next zero kind place types h n = absurd (omega arith)
 lists_next (suc k) kind place types h n =
     let e : suc k - 1 ≡ k = omega arith in
@@ -24,14 +25,16 @@ two_parts o o1 o2 a b e f = f ∙ ap (λ x. x ++ b) e ∙ append_assoc o a b
 pub three_parts : (o o1 o2 o3 a b c : List ℕ) → o1 ≡ o ++ a → o2 ≡ o1 ++ b → o3 ≡ o2 ++ c → o3 ≡ o ++ ((a ++ b) ++ c)
 three_parts o o1 o2 o3 a b c e f g = two_parts o o2 o3 (a ++ b) c (two_parts o o1 o2 a b e f) g
 
-pub four_parts : (o o1 o2 o3 o4 a b c d : List ℕ) → o1 ≡ o ++ a → o2 ≡ o1 ++ b → o3 ≡ o2 ++ c → o4 ≡ o3 ++ d → o4 ≡ o ++ (((a ++ b) ++ c) ++ d)
+pub four_parts : (o o1 o2 o3 o4 a b c d : List ℕ) → o1 ≡ o ++ a → o2 ≡ o1 ++ b → o3 ≡ o2 ++ c → o4 ≡ o3 ++ d →
+    o4 ≡ o ++ (((a ++ b) ++ c) ++ d)
 four_parts o o1 o2 o3 o4 a b c d e f g h = two_parts o o3 o4 ((a ++ b) ++ c) d (three_parts o o1 o2 o3 a b c e f g) h
 
 abbrev pub head_bytes : (number kind len : ℕ) → List ℕ
 head_bytes number kind len = big_bytes 8 option_reply_magic ++ big_bytes 4 number ++ big_bytes 4 kind ++ big_bytes 4 len
 
 -- the reply that names the export, and its end
-pub name_told : (offer : Offer) (number : ℕ) (out h s m e : List ℕ) → h ≡ head_bytes number 2 (length m + 4) → s ≡ big_bytes 4 (length m) → m ≡ offer.name → e ≡ head_bytes number 1 0
+pub name_told : (offer : Offer) (number : ℕ) (out h s m e : List ℕ) → h ≡ head_bytes number 2 (length m + 4) →
+    s ≡ big_bytes 4 (length m) → m ≡ offer.name → e ≡ head_bytes number 1 0
     → out ++ (((h ++ s) ++ m) ++ e) ≡ out ++ list_replies offer number []
 name_told offer number out h s m e hh hs hm he =
     let name = offer.name in

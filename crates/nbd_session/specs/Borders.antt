@@ -52,10 +52,18 @@ too_long_write = refl
 empty_write : (hear big Transmission (request 0 1 7 0)).answers ≡ (Says (simple_reply 1 cookie) ∷ [])
 empty_write = refl
 
-disc_with_all : (hear big Transmission (request 0xffff 2 7 100 ++ request 0 0 0 1)) ≡ record { answers = Says [] ∷ []; phase = Ended; unfinished = [] }
+disc_with_all : (hear big Transmission (request 0xffff 2 7 100 ++ request 0 0 0 1)) ≡ record {
+  answers = Says [] ∷ [];
+  phase = Ended;
+  unfinished = [];
+}
 disc_with_all = refl
 
-unknown_type : (hear big Transmission (request 0 0xffff 7 100)) ≡ record { answers = Says (simple_reply 22 cookie) ∷ []; phase = Transmission; unfinished = [] }
+unknown_type : (hear big Transmission (request 0 0xffff 7 100)) ≡ record {
+  answers = Says (simple_reply 22 cookie) ∷ [];
+  phase = Transmission;
+  unfinished = [];
+}
 unknown_type = refl
 
 flush_flags : (hear big Transmission (request 1 3 0 0)).answers ≡ (Says (simple_reply 22 cookie) ∷ [])
@@ -88,7 +96,8 @@ both_wrong : talk big (flags 3 ++ option 7 (big_bytes 4 1 ++ (120 ∷ []) ++ big
 both_wrong = refl
 
 twice : talk big (flags 3 ++ option 6 (big_bytes 4 0 ++ big_bytes 2 3 ++ big_bytes 2 3 ++ big_bytes 2 1 ++ big_bytes 2 3)) []
-    ≡ greeting ++ option_reply 6 3 (big_bytes 2 0 ++ big_bytes 8 0x100000000000000 ++ big_bytes 2 3) ++ option_reply 6 3 (big_bytes 2 3 ++ big_bytes 4 1 ++ big_bytes 4 512 ++ big_bytes 4 33554432) ++ ack 6
+    ≡ greeting ++ option_reply 6 3 (big_bytes 2 0 ++ big_bytes 8 0x100000000000000 ++ big_bytes 2 3) ++ option_reply 6 3
+    (big_bytes 2 3 ++ big_bytes 4 1 ++ big_bytes 4 512 ++ big_bytes 4 33554432) ++ ack 6
 twice = refl
 
 -- 0003 across the border of two types isn't type 3
@@ -105,7 +114,11 @@ go_unknown_stays = refl
 go_leaves : (hear big Flags (flags 3 ++ option 7 (big_bytes 6 0))).phase ≡ Transmission
 go_leaves = refl
 
-abort_data : (hear big Flags (flags 3 ++ option 2 (7 ∷ 8 ∷ []) ++ option 3 [])) ≡ record { answers = Says [] ∷ Says (ack 2) ∷ []; phase = Ended; unfinished = [] }
+abort_data : (hear big Flags (flags 3 ++ option 2 (7 ∷ 8 ∷ []) ++ option 3 [])) ≡ record {
+  answers = Says [] ∷ Says (ack 2) ∷ [];
+  phase = Ended;
+  unfinished = [];
+}
 abort_data = refl
 
 flags_none : talk big (flags 0 ++ option 1 []) [] ≡ greeting ++ big_bytes 8 0x100000000000000 ++ big_bytes 2 3 ++ replicate 124 0
@@ -152,7 +165,11 @@ flags_four : (hear big Flags (flags 4)).phase ≡ Ended
 flags_four = refl
 
 -- an option's header but for its last byte
-option_header_waits : hear big (Options true true) (big_bytes 15 0x49484156454f505400000002000000) ≡ record { answers = []; phase = Options true true; unfinished = big_bytes 15 0x49484156454f505400000002000000 }
+option_header_waits : hear big (Options true true) (big_bytes 15 0x49484156454f505400000002000000) ≡ record {
+  answers = [];
+  phase = Options true true;
+  unfinished = big_bytes 15 0x49484156454f505400000002000000;
+}
 option_header_waits = refl
 
 -- CACHE, BLOCK_STATUS and RESIZE

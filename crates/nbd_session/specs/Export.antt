@@ -83,7 +83,8 @@ Costs old new offset len = (n : ℕ) × (new.reads ≡ old.reads + n) × new.may
 abbrev pub Spends : (may_cost : ℕ → ℕ → ℕ → Type 0) → List Answer → ℕ → Type 0
 Spends may_cost [] n = n ≡ 0
 Spends may_cost (Says bytes ∷ answers) n = Spends may_cost answers n
-Spends may_cost (Asks offset len cookie ∷ answers) n = (one more : ℕ) × may_cost offset len one × Spends may_cost answers more × (n ≡ one + more)
+Spends may_cost (Asks offset len cookie ∷ answers) n = (one more : ℕ) × may_cost offset len one × Spends may_cost answers more ×
+    (n ≡ one + more)
 
 -- and nothing else is read between two moments
 pub record Spent (old new : Facts) (answers : List Answer) : Type 0 where

@@ -29,7 +29,8 @@ flags_body header = if nat_lt (number_at 0 4 header) 4 then Some 0 else None
 -- An option: IHAVEOPT, its number, and the length of its data. A client that isn't fixed newstyle may send EXPORT_NAME alone.
 abbrev pub option_body : Bool → List ℕ → Option ℕ
 option_body fixed_newstyle header =
-    if (number_at 0 8 header == ihaveopt) && nat_le (number_at 12 4 header) max_option_data && (fixed_newstyle || (number_at 8 4 header == nbd_opt_export_name))
+    if (number_at 0 8 header == ihaveopt) && nat_le (number_at 12 4 header) max_option_data &&
+    (fixed_newstyle || (number_at 8 4 header == nbd_opt_export_name))
     then Some (number_at 12 4 header) else None
 
 -- A request: its magic, flags, type, cookie, offset and length. A WRITE is a message together with its payload.

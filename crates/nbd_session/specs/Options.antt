@@ -1,16 +1,21 @@
 -- "Option haggling": what the server says to an option, and the phase after it.
-use Rattle.std.specs.Prelude.{ℕ, zero, suc, ◌+◌, ◌*◌, ◌==◌, nat_le, Bool, false, ◌&&◌, ◌||◌, not, if◌then◌else◌, List, [], ◌∷◌, ◌++◌, length, take, drop, replicate}
+use Rattle.std.specs.Prelude.{ℕ, zero, suc, ◌+◌, ◌*◌, ◌==◌, nat_le, Bool, false, ◌&&◌, ◌||◌, not, if◌then◌else◌, List, [], ◌∷◌}
+use Rattle.std.specs.Prelude.{◌++◌, length, take, drop, replicate}
 use Rattle.std.specs.Str.{bytes_eq}
 use Rattle.nbd_session.specs.declared.phase.Phase.{Phase}
 use Rattle.nbd_session.specs.declared.phase.Phase.TheVariants.{Options, Transmission, Ended}
 use Rattle.nbd_session.specs.declared.offer.Offer.{Offer}
-use Rattle.nbd_session.specs.Protocol.{nbd_flag_has_flags, nbd_flag_read_only, nbd_opt_export_name, nbd_opt_abort, nbd_opt_list, nbd_opt_info, nbd_opt_go, option_reply_magic, nbd_rep_ack, nbd_rep_server, nbd_rep_info, nbd_rep_err_unsup, nbd_rep_err_invalid, nbd_rep_err_unknown, nbd_info_export, nbd_info_block_size, max_length}
+use Rattle.nbd_session.specs.Protocol.{nbd_flag_has_flags, nbd_flag_read_only, nbd_opt_export_name, nbd_opt_abort, nbd_opt_list}
+use Rattle.nbd_session.specs.Protocol.{nbd_opt_info, nbd_opt_go, option_reply_magic, nbd_rep_ack, nbd_rep_server, nbd_rep_info}
+use Rattle.nbd_session.specs.Protocol.{nbd_rep_err_unsup, nbd_rep_err_invalid, nbd_rep_err_unknown, nbd_info_export}
+use Rattle.nbd_session.specs.Protocol.{nbd_info_block_size, max_length}
 use Rattle.nbd_session.specs.Messages.{number_at}
 use Rattle.byteorder.specs.Endian.{big_number, big_bytes}
 
 -- a reply to the option of this number, of a reply type, with data
 abbrev pub option_reply : (number kind : ℕ) → List ℕ → List ℕ
-option_reply number kind bytes = big_bytes 8 option_reply_magic ++ big_bytes 4 number ++ big_bytes 4 kind ++ big_bytes 4 (length bytes) ++ bytes
+option_reply number kind bytes = big_bytes 8 option_reply_magic ++ big_bytes 4 number ++ big_bytes 4 kind ++ big_bytes 4
+    (length bytes) ++ bytes
 
 abbrev pub ack : ℕ → List ℕ
 ack number = option_reply number nbd_rep_ack []
@@ -26,7 +31,8 @@ means_export offer name = bytes_eq name [] || bytes_eq name offer.name
 -- unknown name nothing
 abbrev pub export_name_reply : Offer → (no_zeroes : Bool) → List ℕ → List ℕ
 export_name_reply offer no_zeroes name =
-    if means_export offer name then big_bytes 8 offer.size ++ big_bytes 2 transmission_flags ++ (if no_zeroes then [] else replicate 124 0) else []
+    if means_export offer name then big_bytes 8 offer.size ++ big_bytes 2 transmission_flags ++
+    (if no_zeroes then [] else replicate 124 0) else []
 
 -- NBD_OPT_LIST: the one export's name, and the end of the list; with data it is invalid
 abbrev pub list_replies : Offer → ℕ → List ℕ → List ℕ
@@ -74,7 +80,8 @@ known_replies offer number bytes =
 abbrev pub info_replies : Offer → ℕ → List ℕ → List ℕ
 info_replies offer number bytes =
     if not (is_info_data bytes) then option_reply number nbd_rep_err_invalid []
-    else (if not (means_export offer (info_name bytes)) then option_reply number nbd_rep_err_unknown [] else known_replies offer number bytes)
+    else (if not (means_export offer (info_name bytes)) then option_reply number nbd_rep_err_unknown [] else known_replies offer
+    number bytes)
 
 -- what is said to the option of this number with this data
 abbrev pub option_answer : Offer → (no_zeroes : Bool) → ℕ → List ℕ → List ℕ

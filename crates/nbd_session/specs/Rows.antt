@@ -45,7 +45,8 @@ read_flags = refl
 read_wraps : talk offer (begin ++ request 0 0 0xffffffffffffffff 1) [] ≡ begun ++ big_bytes 16 0x67446698000000160102030405060708
 read_wraps = refl
 
-go : talk offer (flags 3 ++ option 7 (big_bytes 6 0)) [] ≡ greeting ++ big_bytes 32 0x0003e889045565a900000007000000030000000c000000000000000022000003 ++ big_bytes 20 0x0003e889045565a9000000070000000100000000
+go : talk offer (flags 3 ++ option 7 (big_bytes 6 0)) [] ≡ greeting ++ big_bytes 32
+    0x0003e889045565a900000007000000030000000c000000000000000022000003 ++ big_bytes 20 0x0003e889045565a9000000070000000100000000
 go = refl
 
 option_8 : talk offer (flags 3 ++ option 8 []) [] ≡ greeting ++ big_bytes 20 0x0003e889045565a9000000088000000100000000
@@ -54,16 +55,20 @@ option_8 = refl
 info_long : talk offer (flags 3 ++ option 6 (big_bytes 7 0)) [] ≡ greeting ++ big_bytes 20 0x0003e889045565a9000000068000000300000000
 info_long = refl
 
-writes : talk offer (begin ++ request 0 1 0 600 ++ replicate 600 0x25 ++ request 0 0 8703 1) (Bytes (0x5a ∷ []) ∷ []) ≡ begun ++ big_bytes 16 0x67446698000000010102030405060708 ++ big_bytes 17 0x674466980000000001020304050607085a
+writes : talk offer (begin ++ request 0 1 0 600 ++ replicate 600 0x25 ++ request 0 0 8703 1) (Bytes (0x5a ∷ []) ∷ []) ≡ begun ++
+    big_bytes 16 0x67446698000000010102030405060708 ++ big_bytes 17 0x674466980000000001020304050607085a
 writes = refl
 
 write_long : talk offer (begin ++ request 0 1 0 33554433 ++ request 0 0 0 1) [] ≡ begun
 write_long = refl
 
-trim_and_others : talk offer (begin ++ request 0 4 0 1 ++ request 0 6 0 1 ++ request 0 3 0 1 ++ request 0 9 0 1 ++ request 7 2 0 1 ++ request 0 0 0 1) [] ≡ begun ++ big_bytes 16 0x67446698000000010102030405060708 ++ big_bytes 16 0x67446698000000010102030405060708 ++ big_bytes 16 0x67446698000000160102030405060708 ++ big_bytes 16 0x67446698000000160102030405060708
+trim_and_others : talk offer (begin ++ request 0 4 0 1 ++ request 0 6 0 1 ++ request 0 3 0 1 ++ request 0 9 0 1 ++ request 7 2 0 1
+    ++ request 0 0 0 1) [] ≡ begun ++ big_bytes 16 0x67446698000000010102030405060708 ++ big_bytes 16
+    0x67446698000000010102030405060708 ++ big_bytes 16 0x67446698000000160102030405060708 ++ big_bytes 16 0x67446698000000160102030405060708
 trim_and_others = refl
 
-option_10_largest : talk offer (flags 3 ++ option 10 (replicate 65536 0)) [] ≡ greeting ++ big_bytes 20 0x0003e889045565a90000000a8000000100000000
+option_10_largest : talk offer (flags 3 ++ option 10 (replicate 65536 0)) [] ≡ greeting ++ big_bytes 20
+    0x0003e889045565a90000000a8000000100000000
 option_10_largest = refl
 
 -- the header alone ends the session; one byte fewer doesn't
@@ -82,12 +87,15 @@ write_too_long : (hear offer Flags (begin ++ request 0 1 0 33554433)).phase ≡ 
 write_too_long = refl
 
 -- option 8 and then GO
-option_8_go : talk offer (flags 3 ++ option 8 [] ++ option 7 (big_bytes 6 0)) [] ≡ greeting ++ big_bytes 20 0x0003e889045565a9000000088000000100000000
-    ++ big_bytes 32 0x0003e889045565a900000007000000030000000c000000000000000022000003 ++ big_bytes 20 0x0003e889045565a9000000070000000100000000
+option_8_go : talk offer (flags 3 ++ option 8 [] ++ option 7 (big_bytes 6 0)) [] ≡ greeting ++ big_bytes 20
+    0x0003e889045565a9000000088000000100000000
+    ++ big_bytes 32 0x0003e889045565a900000007000000030000000c000000000000000022000003 ++ big_bytes 20
+    0x0003e889045565a9000000070000000100000000
 option_8_go = refl
 
 -- a WRITE's payload that looks like requests, and then a READ
-write_of_requests : talk offer (begin ++ request 0 1 0 56 ++ request 0 0 0 1 ++ request 0 2 0 0 ++ request 0 0 8703 1) (Bytes (0x5a ∷ []) ∷ [])
+write_of_requests : talk offer (begin ++ request 0 1 0 56 ++ request 0 0 0 1 ++ request 0 2 0 0 ++ request 0 0 8703 1)
+    (Bytes (0x5a ∷ []) ∷ [])
     ≡ begun ++ big_bytes 16 0x67446698000000010102030405060708 ++ big_bytes 17 0x674466980000000001020304050607085a
 write_of_requests = refl
 

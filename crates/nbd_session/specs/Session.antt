@@ -51,7 +51,8 @@ pub record Feeds (old new : Facts) (before after : State) (piece out out' : List
   pub ended : result ≢ status.Starved → (result ≡ status.Ended) ↔ (after.phase ≡ Ended)
   pub awake : result ≢ status.Starved → after.starved ≡ false
   -- A piece as short as a request's header adds one reply at most, once the negotiation is over.
-  pub bound : (input : List ℕ) → IsAt before input → before.phase ≡ Transmission → length piece ≤ short → length out' ≤ length out + longest_reply
+  pub bound : (input : List ℕ) → IsAt before input → before.phase ≡ Transmission → length piece ≤ short →
+      length out' ≤ length out + longest_reply
   -- Want of memory: nothing was said.
   pub starved : result ≡ status.Starved → (out' ≡ out) × (after.starved ≡ true)
   pub stays : result ≡ status.Starved → (input : List ℕ) → IsAt before input → IsAt after input

@@ -3,7 +3,8 @@ use Rattle.std.specs.Prelude.{ℕ, ◌+◌, ◌==◌, nat_le, Bool, ◌&&◌, �
 use Rattle.nbd_session.specs.declared.phase.Phase.{Phase}
 use Rattle.nbd_session.specs.declared.phase.Phase.TheVariants.{Transmission, Ended}
 use Rattle.nbd_session.specs.declared.transmission.Request.{Request}
-use Rattle.nbd_session.specs.Protocol.{nbd_simple_reply_magic, nbd_cmd_read, nbd_cmd_write, nbd_cmd_disc, nbd_cmd_trim, nbd_cmd_write_zeroes, nbd_eperm, nbd_einval, max_length}
+use Rattle.nbd_session.specs.Protocol.{nbd_simple_reply_magic, nbd_cmd_read, nbd_cmd_write, nbd_cmd_disc, nbd_cmd_trim}
+use Rattle.nbd_session.specs.Protocol.{nbd_cmd_write_zeroes, nbd_eperm, nbd_einval, max_length}
 use Rattle.nbd_session.specs.Messages.{number_at}
 use Rattle.byteorder.specs.Endian.{big_bytes}
 

@@ -2,7 +2,8 @@
 //! nothing; its contract is the law, in the words of `specs/Laws.antt`. Proofs cite the lemmas of `proofs/TreeLaws.antt`.
 ghost use Rattle.std.specs.Prelude.{ℕ, ◌<◌, ◌≤◌, List};
 ghost use Rattle.verity_digest.specs.Tree.{Hashing, per_block, IsHashing};
-ghost use Rattle.verity_digest.specs.Laws.{UnfoldsRounds, HasNoLevel, CountsBlocks, PlacesBlocks, OrdersLevels, NamesDigests, FillsBlocks, GoesByRows, NamesByRows, HashesAll, GrowsWithCount, LiesAbove};
+ghost use Rattle.verity_digest.specs.Laws.{UnfoldsRounds, HasNoLevel, CountsBlocks, PlacesBlocks, OrdersLevels, NamesDigests};
+ghost use Rattle.verity_digest.specs.Laws.{FillsBlocks, GoesByRows, NamesByRows, HashesAll, GrowsWithCount, LiesAbove};
 
 /// One digest has no level above it. More have the level that holds them and the levels above its digests, and these
 /// end at one digest.

@@ -1,7 +1,8 @@
 -- The numbers of a shape are those of the tree of each image of this shape.
 -- For the layers above: `IsOfShape-hashing` (an image hashed with the shape's sizes), `length-shape_levels`,
 -- `length-shape_level`, `length-shape_row`, `length-shape_tree`, `tree-shape_place` (which block of the tree stands at a
--- place), `tree_by_shape_places` (what is the tree), `slot-shape_leaf`, `slot-shape_parent`, `root-shape_top`, `starts_rise`, `climbs_from`.
+-- place), `tree_by_shape_places` (what is the tree), `slot-shape_leaf`, `slot-shape_parent`, `root-shape_top`, `starts_rise`,
+-- `climbs_from`.
 use Rattle.std.proofs.Common.{◌≡◌, ℕ, suc, ◌+◌, ◌/◌, ◌%◌, ◌<◌, ◌≤◌, List, [], length, get_or, refl, sym, ap, ◌∙◌, subst, arith}
 use Rattle.verity_digest.specs.Tree.{Hashing, per_block, slot, root, tree}
 use Rattle.verity_digest.specs.Hash.{Salted, hashing, size_of}
@@ -12,7 +13,8 @@ use Rattle.verity_digest.proofs.Growth.{above_within, above-zero, above-suc}
 use Rattle.verity_digest.proofs.Rows.{length-levels, length-level_of, length-row, length-tree, tree-place, tree_by_places}
 use Rattle.verity_digest.proofs.TreeLaws.{names_digests, grows_with_count}
 use Rattle.verity_profile.proofs.Bounds.{block_size_low}
-use Rattle.verity_geometry.specs.Geometry.{Shape, IsShape, IsOfShape, digests_per_block, levels_of, len_of, start_of, place_of, total_of, above_of}
+use Rattle.verity_geometry.specs.Geometry.{Shape, IsShape, IsOfShape, digests_per_block, levels_of, len_of, start_of, place_of}
+use Rattle.verity_geometry.specs.Geometry.{total_of, above_of}
 use Rattle.verity_geometry.specs.Laws.{ShapesImages, CountsLevels, PlacesBlocks, NamesParents, Grows, StartsRise, ClimbsFrom}
 use Rattle.verity_geometry.proofs.Shapes.{branching}
 
@@ -32,13 +34,16 @@ pub same_per_block : (s : Shape) (h : Hashing) (image : List (List ℕ)) → IsO
 same_per_block s h image of = ap (λ b. b / h.digest_size) of.block_size ∙ ap (λ d. s.hash_size / d) of.digest_size
 
 -- what is a number of the image's tree is one of the shape
-same_number : (f : ℕ → ℕ → ℕ) (s : Shape) (h : Hashing) (image : List (List ℕ)) → IsOfShape s h image → f (per_block h) (length image) ≡ f (digests_per_block s) s.blocks
+same_number : (f : ℕ → ℕ → ℕ) (s : Shape) (h : Hashing) (image : List (List ℕ)) → IsOfShape s h image →
+    f (per_block h) (length image) ≡ f (digests_per_block s) s.blocks
 same_number f s h image of = ap (λ k. f k (length image)) (same_per_block s h image of) ∙ ap (f (digests_per_block s)) of.blocks
 
-pub length-shape_levels : (s : Shape) (h : Hashing) (image : List (List ℕ)) → IsOfShape s h image → length (tree_levels h image) ≡ levels_of s
+pub length-shape_levels : (s : Shape) (h : Hashing) (image : List (List ℕ)) → IsOfShape s h image →
+    length (tree_levels h image) ≡ levels_of s
 length-shape_levels s h image of = length-levels h image of.hashing.branching ∙ same_number level_count s h image of
 
-there : (s : Shape) (h : Hashing) (image : List (List ℕ)) (l : ℕ) → IsOfShape s h image → l < levels_of s → l < level_count (per_block h) (length image)
+there : (s : Shape) (h : Hashing) (image : List (List ℕ)) (l : ℕ) → IsOfShape s h image → l < levels_of s →
+    l < level_count (per_block h) (length image)
 there s h image l of below = let same = same_number level_count s h image of in omega arith
 
 pub length-shape_level : (s : Shape) (h : Hashing) (image : List (List ℕ)) (l : ℕ) → IsOfShape s h image → l < levels_of s
@@ -48,7 +53,8 @@ length-shape_level s h image l of below =
 
 pub length-shape_row : (s : Shape) (h : Hashing) (image : List (List ℕ)) (r : ℕ) → IsOfShape s h image
     → length (row h image r) ≡ row_len (digests_per_block s) s.blocks r
-length-shape_row s h image r of = length-row h image r (let two = of.hashing.branching in omega arith) ∙ same_number (λ k n. row_len k n r) s h image of
+length-shape_row s h image r of = length-row h image r (let two = of.hashing.branching in omega arith)
+    ∙ same_number (λ k n. row_len k n r) s h image of
 
 pub length-shape_tree : (s : Shape) (h : Hashing) (image : List (List ℕ)) → IsOfShape s h image → length (tree h image) ≡ total_of s
 length-shape_tree s h image of = length-tree h image of.hashing.branching ∙ same_number total s h image of
@@ -86,7 +92,8 @@ slot-shape_leaf s h image n of levels below =
     ap (λ k. slot h (level_block h image 0 (n / k)) (n % k)) (sym (same_per_block s h image of))
     ∙ (names_digests h image of.hashing).leaf n (there s h image 0 of levels) (omega (arith, of.blocks))
 
-pub slot-shape_parent : (s : Shape) (h : Hashing) (image : List (List ℕ)) (l i : ℕ) → IsOfShape s h image → l + 1 < levels_of s → i < len_of s l
+pub slot-shape_parent : (s : Shape) (h : Hashing) (image : List (List ℕ)) (l i : ℕ) → IsOfShape s h image → l + 1 < levels_of s →
+    i < len_of s l
     → slot h (level_block h image (l + 1) (i / digests_per_block s)) (i % digests_per_block s) ≡ h.digest (level_block h image l i)
 slot-shape_parent s h image l i of below inside =
     let at : l + 1 ≡ suc l = omega arith in
@@ -111,7 +118,8 @@ names_parents s h image of = record {
 pub starts_rise : (small large : Shape) → IsShape small → Grows small large → StartsRise small large
 starts_rise small large ok g =
     let k : ℕ = digests_per_block small in
-    let same : digests_per_block small ≡ digests_per_block large = sym (ap (λ b. b / large.digest_size) g.hash_size ∙ ap (λ d. small.hash_size / d) g.digest_size) in
+    let same : digests_per_block small ≡ digests_per_block large =
+    sym (ap (λ b. b / large.digest_size) g.hash_size ∙ ap (λ d. small.hash_size / d) g.digest_size) in
     let rises = grows_with_count k small.blocks large.blocks (branching small ok) g.blocks in
     record {
       levels = let P : ℕ → Type 0 = λ j. levels_of small ≤ level_count j large.blocks in subst P same rises.levels;

@@ -55,7 +55,8 @@ pub levels_few : (s : Shape) → IsShape s → levels_of s ≤ 14
 levels_few s ok = level_count_most 8 (digests_per_block s) s.blocks 14 (lit≤ tt) (wide s ok) (let most = few s ok in omega arith)
 
 pub levels_few_sha256 : (s : Shape) → IsShape s → s.digest_size ≡ 32 → levels_of s ≤ 10
-levels_few_sha256 s ok e = level_count_most 16 (digests_per_block s) s.blocks 10 (lit≤ tt) (wide_sha256 s ok e) (let most = few s ok in omega arith)
+levels_few_sha256 s ok e = level_count_most 16 (digests_per_block s) s.blocks 10 (lit≤ tt) (wide_sha256 s ok e)
+    (let most = few s ok in omega arith)
 
 pub total_few : (s : Shape) → IsShape s → total_of s ≤ s.blocks
 total_few s ok = total_most (digests_per_block s) s.blocks (wide s ok)

@@ -2,7 +2,8 @@
 ghost use Rattle.std.specs.Prelude.{◌≡◌, ◌+◌, ◌-◌, ◌/◌, ◌%◌, ◌^◌, ◌<◌, ◌≤◌, IsTrue, IfOk};
 ghost use Rattle.verity_digest.specs.Shape.{level_count, blocks_of_levels};
 ghost use Rattle.verity_profile.specs.Profile.{IsBlockSize, IsBlockCount};
-ghost use Rattle.verity_geometry.specs.Geometry.{IsShape, is_digest_size, digests_per_block, levels_of, len_of, start_of, place_of, total_of, above_of};
+ghost use Rattle.verity_geometry.specs.Geometry.{IsShape, is_digest_size, digests_per_block, levels_of, len_of, start_of, place_of};
+ghost use Rattle.verity_geometry.specs.Geometry.{total_of, above_of};
 
 use crate::GeometryFault;
 use std::marker::Model;

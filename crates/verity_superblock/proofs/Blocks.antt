@@ -1,5 +1,6 @@
 -- The hash device of an image is whole blocks.
-use Rattle.std.proofs.Common.{◌≡◌, ℕ, zero, suc, ◌+◌, ◌<◌, ◌≤◌, List, [], ◌∷◌, ◌++◌, length, take, drop, replicate, refl, sym, ap, ◌∙◌, arith}
+use Rattle.std.proofs.Common.{◌≡◌, ℕ, zero, suc, ◌+◌, ◌<◌, ◌≤◌, List, [], ◌∷◌, ◌++◌, length, take, drop, replicate, refl, sym, ap}
+use Rattle.std.proofs.Common.{◌∙◌, arith}
 use Rattle.std.specs.Prelude.{slice_index_or, All}
 use Rattle.std.specs.List.{concat}
 use Rattle.std.proofs.lemmas.List.{length-append, take_at, drop_at}
@@ -32,8 +33,10 @@ same_blocks size (x ∷ xs) (y ∷ ys) some hx hy e =
     let x_len : length x ≡ size = All-head (Sized size) x xs hx in
     let y_len : length y ≡ size = All-head (Sized size) y ys hy in
     let heads : x ≡ y = sym (take_at x (concat xs) size x_len) ∙ ap (λ t. take size t) e ∙ take_at y (concat ys) size y_len in
-    let tails : concat xs ≡ concat ys = sym (drop_at x (concat xs) size x_len) ∙ ap (λ t. drop size t) e ∙ drop_at y (concat ys) size y_len in
-    ap (λ b. b ∷ xs) heads ∙ ap (λ t. y ∷ t) (same_blocks size xs ys some (All-tail (Sized size) x xs hx) (All-tail (Sized size) y ys hy) tails)
+    let tails : concat xs ≡ concat ys = sym (drop_at x (concat xs) size x_len) ∙ ap (λ t. drop size t) e
+    ∙ drop_at y (concat ys) size y_len in
+    ap (λ b. b ∷ xs) heads ∙ ap (λ t. y ∷ t) (same_blocks size xs ys some (All-tail (Sized size) x xs hx)
+    (All-tail (Sized size) y ys hy) tails)
 
 at_front : (front rest : List (List ℕ)) (block : List ℕ) → slice_index_or (front ++ (block ∷ rest)) (length front) [] ≡ block
 at_front [] rest block = refl
@@ -42,12 +45,15 @@ at_front (f ∷ front) rest block = at_front front rest block
 behind_front : (front rest : List (List ℕ)) (block : List ℕ) → drop (length front + 1) (front ++ (block ∷ rest)) ≡ rest
 behind_front front rest block = drop-append-add front (block ∷ rest) 1
 
-pub in_blocks : (p : Params) (image front : List (List ℕ)) → IsProfile p (length image) → AllSized p.hash_block_size front → IsInBlocks p image front
+pub in_blocks : (p : Params) (image front : List (List ℕ)) → IsProfile p (length image) → AllSized p.hash_block_size front →
+    IsInBlocks p image front
 in_blocks p image front ok sized_front =
     let low : 512 ≤ p.hash_block_size = block_size_low p.hash_block_size ok.hash_size in
     let size : length (superblock p (length image)) ≡ 512 = length-superblock p (length image) ok in
-    let block_sized : length (superblock_block p (length image)) ≡ p.hash_block_size = length-zero_filled p.hash_block_size (superblock p (length image)) (omega arith) in
-    let tree_sized : AllSized p.hash_block_size (tree_of p image) = AllSized-tree (hashing (salted p) p.hash_block_size) image (IsHashing-hashing (salted p) p.hash_block_size low) in
+    let block_sized : length (superblock_block p (length image)) ≡ p.hash_block_size =
+    length-zero_filled p.hash_block_size (superblock p (length image)) (omega arith) in
+    let tree_sized : AllSized p.hash_block_size (tree_of p image) =
+    AllSized-tree (hashing (salted p) p.hash_block_size) image (IsHashing-hashing (salted p) p.hash_block_size low) in
     let joins = concat-append front (superblock_block p (length image) ∷ tree_of p image) in
     let sized : AllSized p.hash_block_size (hash_blocks p image front) =
     All-append (Sized p.hash_block_size) front (superblock_block p (length image) ∷ tree_of p image) sized_front

@@ -1,5 +1,7 @@
 -- The canonical spelling of a table line, and the laws of table lines.
-use Rattle.std.proofs.Common.{append_assoc, ◌≡◌, ◌≢◌, ℕ, ◌+◌, ◌*◌, ◌^◌, ◌<◌, ◌≤◌, ◌==◌, Bool, true, false, List, [], ◌∷◌, ◌++◌, length, nat_lt, Option, Some, None, Result, Ok, Err, refl, sym, ap, ◌∙◌, arith, lit<, subst, ◌⊎◌, inl, inr}
+use Rattle.std.proofs.Common.{append_assoc, ◌≡◌, ◌≢◌, ℕ, ◌+◌, ◌*◌, ◌^◌, ◌<◌, ◌≤◌, ◌==◌, Bool, true, false, List, [], ◌∷◌, ◌++◌}
+use Rattle.std.proofs.Common.{length, nat_lt, Option, Some, None, Result, Ok, Err, refl, sym, ap, ◌∙◌, arith, lit<, subst, ◌⊎◌, inl}
+use Rattle.std.proofs.Common.{inr}
 use Rattle.std.specs.Prelude.{not, ◌&&◌, ◌||◌, nat_le, codes, if◌then◌else◌, slice_index_or, ◌↔◌}
 use Rattle.std.specs.List.{All, AllPass, list_all, join_with_byte}
 use Rattle.std.specs.Char.{is_ascii_digit}
@@ -17,11 +19,14 @@ use Rattle.verity_digest.specs.declared.algorithm.Algorithm.TheVariants.{Sha256,
 use Rattle.verity_digest.specs.Hash.{name_of, size_of}
 use Rattle.verity_profile.proofs.Bounds.{block_size_high, block_count_high}
 use Rattle.verity_superblock.specs.Reading.{is_text}
-use Rattle.verity_superblock.specs.Line.{TableLine, IsTableLine, Line, IsNumber, IsSaltOf, fields_of, field, has_ten_fields, is_path, is_number, number, salt_text, canonical, line_refusal, is_salt, algorithm_of, values_refusal}
+use Rattle.verity_superblock.specs.Line.{TableLine, IsTableLine, Line, IsNumber, IsSaltOf, fields_of, field, has_ten_fields}
+use Rattle.verity_superblock.specs.Line.{is_path, is_number, number, salt_text, canonical, line_refusal, is_salt, algorithm_of}
+use Rattle.verity_superblock.specs.Line.{values_refusal}
 use Rattle.verity_superblock.specs.LineLaws.{SpellsBack, DeterminesLine, RefusesOtherLines}
 use Rattle.verity_superblock.proofs.Readings.{parts-is_number, own, all_ascii_digits-list_all, numbers-taken, root-taken, ok_from}
 use Rattle.verity_superblock.proofs.Splits.{HasNoSpace, fields_of-joined, list_all-no_space, field-is_path}
-use Rattle.verity_superblock.proofs.LineReads.{same_line, at_place, no_refusal, line-said, root-read, salt-read, salt-is, line_refusal-taken}
+use Rattle.verity_superblock.proofs.LineReads.{same_line, at_place, no_refusal, line-said, root-read, salt-read, salt-is}
+use Rattle.verity_superblock.proofs.LineReads.{line_refusal-taken}
 use Rattle.verity_superblock.proofs.InTurn.{one-taken, two-taken, three-none}
 use Rattle.verity_superblock.proofs.Refusals.{text_true}
 use Rattle.verity_superblock.specs.declared.faults.TableFault.TheVariants as fault
@@ -67,7 +72,8 @@ decimal-number n small =
 decimal-field : (n : ℕ) → n < 2 ^ 64 → IsField (decimal n)
 decimal-field n small = record {
   some = lt-ltb 0 (length (decimal n)) (decimal_nonempty n small);
-  spaceless = spaceless-pass is_ascii_digit (decimal n) refl (AllPass-from_list_all is_ascii_digit (decimal n) (sym (all_ascii_digits-list_all (decimal n)) ∙ digits_decimal own n small));
+  spaceless = spaceless-pass is_ascii_digit (decimal n) refl (AllPass-from_list_all is_ascii_digit (decimal n)
+      (sym (all_ascii_digits-list_all (decimal n)) ∙ digits_decimal own n small));
 }
 
 hex-field : (bytes : List ℕ) → 0 < length bytes → IsBytes bytes → IsField (encode_lower bytes)
@@ -75,7 +81,8 @@ hex-field bytes some all =
     let len = length-encode_with lower_digits bytes in
     record {
       some = lt-ltb 0 (length (encode_lower bytes)) (omega arith);
-      spaceless = spaceless-pass is_hex_digit (encode_lower bytes) refl (decode_of-ok (encode_lower bytes) bytes (decode_of-encode_lower bytes all)).1;
+      spaceless = spaceless-pass is_hex_digit (encode_lower bytes) refl
+          (decode_of-ok (encode_lower bytes) bytes (decode_of-encode_lower bytes all)).1;
     }
 
 name-field : (a : Algorithm) → IsField (name_of a)
@@ -94,13 +101,15 @@ no_dash digits long e = omega (arith, ap length e)
 
 -- a text of two digits or more isn't `-`
 long_is_no_dash : (digits : List ℕ) → 2 ≤ length digits → is_text digits (codes "-") ≡ false
-long_is_no_dash digits long = false_from_ne_true (is_text digits (codes "-")) (λ e. no_dash digits long (same_text digits (codes "-") (sym e)))
+long_is_no_dash digits long = false_from_ne_true (is_text digits (codes "-"))
+    (λ e. no_dash digits long (same_text digits (codes "-") (sym e)))
 
 salt-reads : (salt : List ℕ) → IsBytes salt → IsSaltOf (salt_text salt) salt
 salt-reads [] all = refl
 salt-reads (b ∷ salt) all =
     let len = length-encode_with lower_digits (b ∷ salt) in
-    ap (λ t. if t then Ok [] else decode_of (encode_lower (b ∷ salt))) (long_is_no_dash (encode_lower (b ∷ salt)) (omega arith)) ∙ decode_of-encode_lower (b ∷ salt) all
+    ap (λ t. if t then Ok [] else decode_of (encode_lower (b ∷ salt))) (long_is_no_dash (encode_lower (b ∷ salt)) (omega arith))
+    ∙ decode_of-encode_lower (b ∷ salt) all
 
 root-some : (a : Algorithm) (root : List ℕ) → length root ≡ size_of a → 0 < length root
 root-some Sha256 root len = omega arith
@@ -118,7 +127,8 @@ all-spaceless (f ∷ fs) h = let first : IsField f = h.0 in All-cons HasNoSpace 
 
 all-some : (fs : List (List ℕ)) → AllFields fs → list_all (λ f. nat_lt 0 (length f)) fs ≡ true
 all-some [] h = refl
-all-some (f ∷ fs) h = let first : IsField f = h.0 in and_from (nat_lt 0 (length f)) (list_all (λ f. nat_lt 0 (length f)) fs) first.some (all-some fs h.1)
+all-some (f ∷ fs) h = let first : IsField f = h.0 in and_from (nat_lt 0 (length f)) (list_all (λ f. nat_lt 0 (length f)) fs)
+    first.some (all-some fs h.1)
 
 abbrev after_version : TableLine → List (List ℕ)
 after_version t = t.dev ∷ t.hash_dev
@@ -144,7 +154,13 @@ are-fields t ok =
                 decimal-field t.data_blocks (omega arith),
                 (
                   decimal-field t.hash_start_block (omega arith),
-                  (name-field t.algorithm, (hex-field t.root (root-some t.algorithm t.root ok.digest) ok.digest_bytes, (salt-field t.salt ok.salt_bytes, tt))),
+                  (
+                    name-field t.algorithm,
+                    (
+                      hex-field t.root (root-some t.algorithm t.root ok.digest) ok.digest_bytes,
+                      (salt-field t.salt ok.salt_bytes, tt),
+                    ),
+                  ),
                 ),
               ),
             ),
@@ -158,7 +174,8 @@ spelt t ok = fields_of-joined (codes "1") (after_version t) (all-spaceless (code
 
 spelt-ten : (t : TableLine) → IsTableLine t → has_ten_fields (canonical t) ≡ true
 spelt-ten t ok =
-    ap (λ (fs : List (List ℕ)). (length fs == 10) && list_all (λ f. nat_lt 0 (length f)) fs) (spelt t ok) ∙ all-some (codes "1" ∷ after_version t) (are-fields t ok)
+    ap (λ (fs : List (List ℕ)). (length fs == 10) && list_all (λ f. nat_lt 0 (length f)) fs) (spelt t ok)
+    ∙ all-some (codes "1" ∷ after_version t) (are-fields t ok)
 
 pub spells_back : SpellsBack
 spells_back t ok =
@@ -172,10 +189,14 @@ spells_back t ok =
       version = at_place (canonical t) 0 _ are;
       dev = at_place (canonical t) 1 _ are;
       hash_dev = at_place (canonical t) 2 _ are;
-      data_size = subst (λ (f : List ℕ). IsNumber f t.data_block_size) (sym (at_place (canonical t) 3 _ are)) (decimal-number t.data_block_size (omega arith));
-      hash_size = subst (λ (f : List ℕ). IsNumber f t.hash_block_size) (sym (at_place (canonical t) 4 _ are)) (decimal-number t.hash_block_size (omega arith));
-      count = subst (λ (f : List ℕ). IsNumber f t.data_blocks) (sym (at_place (canonical t) 5 _ are)) (decimal-number t.data_blocks (omega arith));
-      start = subst (λ (f : List ℕ). IsNumber f t.hash_start_block) (sym (at_place (canonical t) 6 _ are)) (decimal-number t.hash_start_block (omega arith));
+      data_size = subst (λ (f : List ℕ). IsNumber f t.data_block_size) (sym (at_place (canonical t) 3 _ are))
+          (decimal-number t.data_block_size (omega arith));
+      hash_size = subst (λ (f : List ℕ). IsNumber f t.hash_block_size) (sym (at_place (canonical t) 4 _ are))
+          (decimal-number t.hash_block_size (omega arith));
+      count = subst (λ (f : List ℕ). IsNumber f t.data_blocks) (sym (at_place (canonical t) 5 _ are))
+          (decimal-number t.data_blocks (omega arith));
+      start = subst (λ (f : List ℕ). IsNumber f t.hash_start_block) (sym (at_place (canonical t) 6 _ are))
+          (decimal-number t.hash_start_block (omega arith));
       algorithm = at_place (canonical t) 7 _ are;
       digest = ap decode_of (at_place (canonical t) 8 _ are) ∙ decode_of-encode_lower t.root ok.digest_bytes;
       salt = subst (λ (f : List ℕ). IsSaltOf f t.salt) (sym (at_place (canonical t) 9 _ are)) (salt-reads t.salt ok.salt_bytes);
@@ -203,13 +224,26 @@ line_where_none text none =
       algorithm = algorithm_of root.0;
       root = root.0;
       salt = salt.0;
-    } in
-    (t, line-said text t none (record { dev = refl; hash_dev = refl; data_size = refl; hash_size = refl; count = refl; start = refl; algorithm = refl; digest = root.1; salt = salt.1 }))
+    } in (
+      t,
+      line-said text t none (record {
+        dev = refl;
+        hash_dev = refl;
+        data_size = refl;
+        hash_size = refl;
+        count = refl;
+        start = refl;
+        algorithm = refl;
+        digest = root.1;
+        salt = salt.1;
+      }),
+    )
 
 -- a field of a text of ten isn't empty
 field-some : (text : List ℕ) (i : ℕ) → has_ten_fields text ≡ true → i < 10 → 0 < length (field text i)
 field-some text i ten below =
-    let both = and_parts (nat_lt 0 (length (field text i))) (list_all (λ b. not (b == 32)) (field text i)) (field-is_path text i ten below) in
+    let both = and_parts (nat_lt 0 (length (field text i))) (list_all (λ b. not (b == 32)) (field text i))
+    (field-is_path text i ten below) in
     ltb-true 0 (length (field text i)) both.0
 
 none_where_line : (text : List ℕ) (t : TableLine) → Line text t → line_refusal text ≡ None
@@ -221,35 +255,42 @@ none_where_line text t line =
     let sized = v.digest in
     let twice : length (field text 8) ≡ 2 * size_of t.algorithm = omega arith in
     line_refusal-taken text
-    (two-taken (has_ten_fields text) (is_text (field text 0) (codes "1")) fault.Fields fault.Version line.ten (text_true (field text 0) (codes "1") line.version))
+    (two-taken (has_ten_fields text) (is_text (field text 0) (codes "1")) fault.Fields fault.Version line.ten
+    (text_true (field text 0) (codes "1") line.version))
     (numbers-taken (field text 3) (field text 4) (field text 5) (field text 6)
     (record { first = line.data_size.reads; second = line.hash_size.reads; third = line.count.reads; fourth = line.start.reads })
-    (ap is_block_size line.data_size.value ∙ v.data_size) (ap is_block_size line.hash_size.value ∙ v.hash_size) (ap is_block_count line.count.value ∙ v.count) (omega arith))
+    (ap is_block_size line.data_size.value ∙ v.data_size) (ap is_block_size line.hash_size.value ∙ v.hash_size)
+    (ap is_block_count line.count.value ∙ v.count) (omega arith))
     (root-taken t.algorithm (field text 7) (field text 8) line.algorithm (ok_from (decode_sized (field text 8) (size_of t.algorithm)) t.root
     (sym (decode_sized-twice (field text 8) (size_of t.algorithm) twice ∙ line.digest))))
-    (one-taken (is_salt (field text 9)) fault.Salt (salt-is (field text 9) t.salt (field-some text 9 line.ten (omega arith)) v.short_salt line.salt))
+    (one-taken (is_salt (field text 9)) fault.Salt (salt-is (field text 9) t.salt (field-some text 9 line.ten (omega arith))
+    v.short_salt line.salt))
 
 pub refuses_other_lines : RefusesOtherLines
 refuses_other_lines text = (line_where_none text, λ line. none_where_line text line.0 line.1)
 
 -- the fields joined by threes and fours are the fields joined
 by_threes : (a b c d e f g h i j : List ℕ)
-    → join_with_byte 32 (join_with_byte 32 (a ∷ b ∷ c ∷ []) ∷ join_with_byte 32 (d ∷ e ∷ f ∷ g ∷ []) ∷ join_with_byte 32 (h ∷ i ∷ j ∷ []) ∷ [])
+    → join_with_byte 32 (join_with_byte 32 (a ∷ b ∷ c ∷ []) ∷ join_with_byte 32 (d ∷ e ∷ f ∷ g ∷ []) ∷ join_with_byte 32
+    (h ∷ i ∷ j ∷ []) ∷ [])
     ≡ join_with_byte 32 (a ∷ b ∷ c ∷ d ∷ e ∷ f ∷ g ∷ h ∷ i ∷ j ∷ [])
 by_threes a b c d e f g h i j = simp append_assoc
 
 -- what spells these values
 pub spelt-from : (t : TableLine) (paths numbers digests : List ℕ)
     → paths ≡ join_with_byte 32 (codes "1" ∷ t.dev ∷ t.hash_dev ∷ [])
-    → numbers ≡ join_with_byte 32 (decimal t.data_block_size ∷ decimal t.hash_block_size ∷ decimal t.data_blocks ∷ decimal t.hash_start_block ∷ [])
+    → numbers ≡ join_with_byte 32 (decimal t.data_block_size ∷ decimal t.hash_block_size ∷ decimal t.data_blocks ∷ decimal
+    t.hash_start_block ∷ [])
     → digests ≡ join_with_byte 32 (name_of t.algorithm ∷ encode_lower t.root ∷ salt_text t.salt ∷ [])
     → join_with_byte 32 (paths ∷ numbers ∷ digests ∷ []) ≡ canonical t
 spelt-from t paths numbers digests e1 e2 e3 =
     ap (λ (x : List ℕ). join_with_byte 32 (x ∷ numbers ∷ digests ∷ [])) e1
     ∙ ap (λ (x : List ℕ). join_with_byte 32 (join_with_byte 32 (codes "1" ∷ t.dev ∷ t.hash_dev ∷ []) ∷ x ∷ digests ∷ [])) e2
     ∙ ap (λ (x : List ℕ). join_with_byte 32 (join_with_byte 32 (codes "1" ∷ t.dev ∷ t.hash_dev ∷ [])
-    ∷ join_with_byte 32 (decimal t.data_block_size ∷ decimal t.hash_block_size ∷ decimal t.data_blocks ∷ decimal t.hash_start_block ∷ []) ∷ x ∷ [])) e3
-    ∙ by_threes (codes "1") t.dev t.hash_dev (decimal t.data_block_size) (decimal t.hash_block_size) (decimal t.data_blocks) (decimal t.hash_start_block) (name_of t.algorithm) (encode_lower t.root) (salt_text t.salt)
+    ∷ join_with_byte 32 (decimal t.data_block_size ∷ decimal t.hash_block_size ∷ decimal t.data_blocks ∷ decimal t.hash_start_block
+    ∷ []) ∷ x ∷ [])) e3
+    ∙ by_threes (codes "1") t.dev t.hash_dev (decimal t.data_block_size) (decimal t.hash_block_size) (decimal t.data_blocks)
+    (decimal t.hash_start_block) (name_of t.algorithm) (encode_lower t.root) (salt_text t.salt)
 
 -- values of which none is refused
 pub record ValuesFit (dev hash_dev : List ℕ) (data_size hash_size blocks begin : ℕ) : Type 0 where
@@ -258,9 +299,11 @@ pub record ValuesFit (dev hash_dev : List ℕ) (data_size hash_size blocks begin
   pub count : is_block_count blocks ≡ true
   pub near : begin ≤ 2 ^ 40
 
-pub values_refusal-none : (dev hash_dev : List ℕ) (data_size hash_size blocks begin : ℕ) → None ≡ values_refusal dev hash_dev data_size hash_size blocks begin → ValuesFit dev hash_dev data_size hash_size blocks begin
+pub values_refusal-none : (dev hash_dev : List ℕ) (data_size hash_size blocks begin : ℕ) →
+    None ≡ values_refusal dev hash_dev data_size hash_size blocks begin → ValuesFit dev hash_dev data_size hash_size blocks begin
 values_refusal-none dev hash_dev data_size hash_size blocks begin h =
-    let all = three-none (is_path dev && is_path hash_dev) (is_block_size data_size && is_block_size hash_size) (is_block_count blocks && nat_le begin (2 ^ 40))
+    let all = three-none (is_path dev && is_path hash_dev) (is_block_size data_size && is_block_size hash_size)
+    (is_block_count blocks && nat_le begin (2 ^ 40))
     fault.Fields fault.Size fault.Count h in
     let counts = and_parts (is_block_count blocks) (nat_le begin (2 ^ 40)) all.third in
     record {

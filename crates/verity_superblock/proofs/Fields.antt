@@ -1,8 +1,10 @@
 -- The fields of a superblock, put and read back.
-use Rattle.std.proofs.Common.{◌≡◌, ℕ, zero, suc, ◌+◌, ◌-◌, ◌*◌, ◌^◌, ◌<◌, ◌≤◌, ◌==◌, List, [], ◌∷◌, ◌++◌, length, take, drop, replicate, refl, sym, ap, ◌∙◌, arith, subst}
+use Rattle.std.proofs.Common.{◌≡◌, ℕ, zero, suc, ◌+◌, ◌-◌, ◌*◌, ◌^◌, ◌<◌, ◌≤◌, ◌==◌, List, [], ◌∷◌, ◌++◌, length, take, drop}
+use Rattle.std.proofs.Common.{replicate, refl, sym, ap, ◌∙◌, arith, subst}
 use Rattle.std.specs.Prelude.{slice_range, codes}
 use Rattle.std.specs.List.{concat, before_first}
-use Rattle.std.proofs.lemmas.List.{length-append, length-replicate, append_assoc, append-nil, take_at, drop_at, drop-drop, drop-replicate, replicate-append-replicate, take-take, length-take-le, length-drop}
+use Rattle.std.proofs.lemmas.List.{length-append, length-replicate, append_assoc, append-nil, take_at, drop_at, drop-drop}
+use Rattle.std.proofs.lemmas.List.{drop-replicate, replicate-append-replicate, take-take, length-take-le, length-drop}
 use Rattle.byteorder.specs.Endian.{little_number, little_bytes}
 use Rattle.byteorder.specs.Numbers.{little_number-reads_back}
 use Rattle.verity_digest.specs.declared.algorithm.Algorithm.{Algorithm}
@@ -37,7 +39,8 @@ nth i [] = []
 nth zero (f ∷ fs) = f
 nth (suc i) (f ∷ fs) = nth i fs
 
-nth-within : (fs : List (List ℕ)) (i : ℕ) (rest : List ℕ) → i < length fs → take (length (nth i fs)) (drop (begin i fs) (concat fs ++ rest)) ≡ nth i fs
+nth-within : (fs : List (List ℕ)) (i : ℕ) (rest : List ℕ) → i < length fs →
+    take (length (nth i fs)) (drop (begin i fs) (concat fs ++ rest)) ≡ nth i fs
 nth-within [] i rest l = absurd (omega arith)
 nth-within (f ∷ fs) zero rest l =
     ap (λ bytes. take (length f) bytes) (append_assoc f (concat fs) rest) ∙ take_at f (concat fs ++ rest) (length f) refl
@@ -48,14 +51,19 @@ nth-within (f ∷ fs) (suc i) rest l =
     ∙ nth-within fs i rest (omega arith)
 
 -- field i stands from a to b
-nth-concat : (fs : List (List ℕ)) (i a b : ℕ) (rest : List ℕ) → i < length fs → begin i fs ≡ a → length (nth i fs) ≡ b - a → slice_range (concat fs ++ rest) a b ≡ nth i fs
+nth-concat : (fs : List (List ℕ)) (i a b : ℕ) (rest : List ℕ) → i < length fs → begin i fs ≡ a → length (nth i fs) ≡ b - a →
+    slice_range (concat fs ++ rest) a b ≡ nth i fs
 nth-concat fs i a b rest l s e =
     ap (λ n. take n (drop a (concat fs ++ rest))) (sym e)
     ∙ ap (λ n. take (length (nth i fs)) (drop n (concat fs ++ rest))) (sym s)
     ∙ nth-within fs i rest l
 
 pub length-zero_filled : (size : ℕ) (bytes : List ℕ) → length bytes ≤ size → length (zero_filled size bytes) ≡ size
-length-zero_filled size bytes fits = omega (arith, length-append bytes (replicate (size - length bytes) 0), length-replicate {A = ℕ} (size - length bytes) 0)
+length-zero_filled size bytes fits = omega (
+  arith,
+  length-append bytes (replicate (size - length bytes) 0),
+  length-replicate {A = ℕ} (size - length bytes) 0,
+)
 
 length-concat : (fs : List (List ℕ)) → length (concat fs) ≡ begin (length fs) fs
 length-concat [] = refl
@@ -96,16 +104,21 @@ reads-superblock p n rest ok =
       version = ap (λ bytes. little_number 4 bytes) (nth-concat (fields p n) 1 8 12 rest (omega arith) refl refl);
       hash_type = ap (λ bytes. little_number 4 bytes) (nth-concat (fields p n) 2 12 16 rest (omega arith) refl refl);
       uuid = nth-concat (fields p n) 3 16 32 rest (omega arith) refl ok.uuid;
-      algorithm = ap (λ bytes. before_first (λ b. b == 0) bytes) (nth-concat (fields p n) 4 32 64 rest (omega arith) (omega (arith, ok.uuid)) name) ∙ named p.algorithm;
-      data_size = ap (λ bytes. little_number 4 bytes) (nth-concat (fields p n) 5 64 68 rest (omega arith) (omega (arith, ok.uuid, name)) refl)
+      algorithm = ap (λ bytes. before_first (λ b. b == 0) bytes) (nth-concat (fields p n) 4 32 64 rest (omega arith)
+          (omega (arith, ok.uuid)) name) ∙ named p.algorithm;
+      data_size = ap (λ bytes. little_number 4 bytes) (nth-concat (fields p n) 5 64 68 rest (omega arith)
+          (omega (arith, ok.uuid, name)) refl)
           ∙ number_back 4 p.data_block_size (omega arith);
-      hash_size = ap (λ bytes. little_number 4 bytes) (nth-concat (fields p n) 6 68 72 rest (omega arith) (omega (arith, ok.uuid, name)) refl)
+      hash_size = ap (λ bytes. little_number 4 bytes) (nth-concat (fields p n) 6 68 72 rest (omega arith)
+          (omega (arith, ok.uuid, name)) refl)
           ∙ number_back 4 p.hash_block_size (omega arith);
       count = ap (λ bytes. little_number 8 bytes) (nth-concat (fields p n) 7 72 80 rest (omega arith) (omega (arith, ok.uuid, name)) refl)
           ∙ number_back 8 n (omega arith);
       salt_size = size;
-      salt = ap (λ k. slice_range (superblock p n ++ rest) 88 (88 + k)) size ∙ part-take (superblock p n ++ rest) 88 (length p.salt) 256 ok.salt
-          ∙ ap (λ bytes. take (length p.salt) bytes) (nth-concat (fields p n) 10 88 344 rest (omega arith) (omega (arith, ok.uuid, name)) salted)
+      salt = ap (λ k. slice_range (superblock p n ++ rest) 88 (88 + k)) size ∙ part-take (superblock p n ++ rest) 88 (length p.salt)
+          256 ok.salt
+          ∙ ap (λ bytes. take (length p.salt) bytes) (nth-concat (fields p n) 10 88 344 rest (omega arith)
+          (omega (arith, ok.uuid, name)) salted)
           ∙ take_at p.salt (replicate (256 - length p.salt) 0) (length p.salt) refl;
     }
 
@@ -116,15 +129,18 @@ pub record Begins (block : List ℕ) (n : ℕ) (done : List ℕ) : Type 0 where
   pub is : block ≡ done ++ replicate (512 - n) 0
   pub len : length done ≡ n
 
-put-next : (n k : ℕ) (old done field new : List ℕ) → Begins old n done → IsPut old n field new → length field ≡ k → n + k ≤ 512 → Begins new (n + k) (done ++ field)
+put-next : (n k : ℕ) (old done field new : List ℕ) → Begins old n done → IsPut old n field new → length field ≡ k → n + k ≤ 512 →
+    Begins new (n + k) (done ++ field)
 put-next n k old done field new begins put size fits =
     let front : take n old ≡ done = ap (λ bytes. take n bytes) begins.is ∙ take_at done (replicate (512 - n) 0) n begins.len in
     let left : 512 - n - k ≡ 512 - (n + k) = omega arith in
     let back : drop (n + length field) old ≡ replicate (512 - (n + k)) 0 =
     ap (λ m. drop (n + m) old) size ∙ ap (λ bytes. drop (n + k) bytes) begins.is ∙ sym (drop-drop k n (done ++ replicate (512 - n) 0))
-    ∙ ap (λ bytes. drop k bytes) (drop_at done (replicate (512 - n) 0) n begins.len) ∙ drop-replicate k (512 - n) 0 ∙ ap (λ m. replicate m 0) left in
+    ∙ ap (λ bytes. drop k bytes) (drop_at done (replicate (512 - n) 0) n begins.len) ∙ drop-replicate k (512 - n) 0
+    ∙ ap (λ m. replicate m 0) left in
     record {
-      is = put ∙ ap (λ x. x ++ (field ++ drop (n + length field) old)) front ∙ ap (λ x. done ++ (field ++ x)) back ∙ sym (append_assoc done field (replicate (512 - (n + k)) 0));
+      is = put ∙ ap (λ x. x ++ (field ++ drop (n + length field) old)) front ∙ ap (λ x. done ++ (field ++ x)) back
+          ∙ sym (append_assoc done field (replicate (512 - (n + k)) 0));
       len = omega (arith, length-append done field, begins.len, size);
     }
 
@@ -132,13 +148,15 @@ skip-zeros : (n k m : ℕ) (block done : List ℕ) → Begins block n done → n
 skip-zeros n k m block done begins e fits =
     let left : 512 - n ≡ k + (512 - m) = omega arith in
     record {
-      is = begins.is ∙ ap (λ i. done ++ replicate i 0) left ∙ ap (λ x. done ++ x) (sym (replicate-append-replicate k (512 - m) 0)) ∙ sym (append_assoc done (replicate k 0) (replicate (512 - m) 0));
+      is = begins.is ∙ ap (λ i. done ++ replicate i 0) left ∙ ap (λ x. done ++ x) (sym (replicate-append-replicate k (512 - m) 0))
+          ∙ sym (append_assoc done (replicate k 0) (replicate (512 - m) 0));
       len = omega (arith, length-append done (replicate k 0), length-replicate {A = ℕ} k 0, begins.len);
     }
 
 -- the fields that are put, and what is left free behind the name and the salt size
 joined : (a b c d e f g h i j k l m : List ℕ)
-    → (((((((((((a ++ b) ++ c) ++ d) ++ e) ++ f) ++ g) ++ h) ++ i) ++ j) ++ k) ++ l) ++ m ≡ a ++ (b ++ (c ++ (d ++ ((e ++ f) ++ (g ++ (h ++ (i ++ (j ++ (k ++ (l ++ m))))))))))
+    → (((((((((((a ++ b) ++ c) ++ d) ++ e) ++ f) ++ g) ++ h) ++ i) ++ j) ++ k) ++ l) ++ m ≡ a ++
+    (b ++ (c ++ (d ++ ((e ++ f) ++ (g ++ (h ++ (i ++ (j ++ (k ++ (l ++ m))))))))))
 joined a b c d e f g h i j k l m = simp append_assoc
 
 length-name : (a : Algorithm) → length (name_of a) ≡ 6
@@ -158,7 +176,8 @@ pub record ArePut (p : Params) (n : ℕ) (b1 b2 b3 b4 b5 b6 b7 b8 b9 b10 : List 
   pub salt : IsPut b9 88 p.salt b10
 
 -- what the fields that are put make, where all else is zeros
-pub puts-superblock : (p : Params) (n : ℕ) (b1 b2 b3 b4 b5 b6 b7 b8 b9 b10 : List ℕ) → IsProfile p n → ArePut p n b1 b2 b3 b4 b5 b6 b7 b8 b9 b10 → b10 ≡ superblock p n
+pub puts-superblock : (p : Params) (n : ℕ) (b1 b2 b3 b4 b5 b6 b7 b8 b9 b10 : List ℕ) → IsProfile p n →
+    ArePut p n b1 b2 b3 b4 b5 b6 b7 b8 b9 b10 → b10 ≡ superblock p n
 unfolding fields
 puts-superblock p n b1 b2 b3 b4 b5 b6 b7 b8 b9 b10 ok puts =
     let sig = zero_filled 8 (codes "verity") in
@@ -187,10 +206,14 @@ puts-superblock p n b1 b2 b3 b4 b5 b6 b7 b8 b9 b10 ok puts =
     let end = put-next 88 (length p.salt) b9 to88 p.salt b10 at88 puts.salt refl (omega arith) in
     let left : 512 - (88 + length p.salt) ≡ (256 - length p.salt) + 168 = omega arith in
     let free : replicate (512 - (88 + length p.salt)) 0 ≡ replicate (256 - length p.salt) 0 ++ (replicate 168 0 ++ []) =
-    ap (λ i. replicate i 0) left ∙ sym (replicate-append-replicate (256 - length p.salt) 168 0) ∙ ap (λ x. replicate (256 - length p.salt) 0 ++ x) (sym (append-nil (replicate 168 0))) in
+    ap (λ i. replicate i 0) left ∙ sym (replicate-append-replicate (256 - length p.salt) 168 0)
+    ∙ ap (λ x. replicate (256 - length p.salt) 0 ++ x) (sym (append-nil (replicate 168 0))) in
     let pad : 26 ≡ 32 - length name = omega arith in
     end.is ∙ ap (λ x. (to88 ++ p.salt) ++ x) free
-    ∙ joined sig one one p.uuid name (replicate 26 0) ds hs ns ss (replicate 6 0) p.salt (replicate (256 - length p.salt) 0 ++ (replicate 168 0 ++ []))
-    ∙ ap (λ i. sig ++ (one ++ (one ++ (p.uuid ++ ((name ++ replicate i 0) ++ (ds ++ (hs ++ (ns ++ (ss ++ (replicate 6 0 ++ (p.salt ++ (replicate (256 - length p.salt) 0 ++ (replicate 168 0 ++ []))))))))))))) pad
+    ∙ joined sig one one p.uuid name (replicate 26 0) ds hs ns ss (replicate 6 0) p.salt
+    (replicate (256 - length p.salt) 0 ++ (replicate 168 0 ++ []))
+    ∙ ap (λ i. sig ++ (one ++ (one ++ (p.uuid ++
+    ((name ++ replicate i 0) ++ (ds ++ (hs ++
+    (ns ++ (ss ++ (replicate 6 0 ++ (p.salt ++ (replicate (256 - length p.salt) 0 ++ (replicate 168 0 ++ []))))))))))))) pad
     ∙ ap (λ x. sig ++ (one ++ (one ++ (p.uuid ++ (zero_filled 32 name ++ (ds ++ (hs ++ (ns ++ (ss ++ (replicate 6 0 ++ x))))))))))
     (sym (append_assoc p.salt (replicate (256 - length p.salt) 0) (replicate 168 0 ++ [])))

@@ -48,12 +48,14 @@ three-none true false c x y z h = cc
 three-none false b c x y z h = cc
 
 -- two tests
-pub two-none : {F : Type 0} (a b : Bool) (x y : F) → None ≡ (if not a then Some x else if not b then Some y else None) → (a ≡ true) × (b ≡ true)
+pub two-none : {F : Type 0} (a b : Bool) (x y : F) → None ≡ (if not a then Some x else if not b then Some y else None) →
+    (a ≡ true) × (b ≡ true)
 two-none true true x y h = (refl, refl)
 two-none true false x y h = cc
 two-none false b x y h = cc
 
-pub two-taken : {F : Type 0} (a b : Bool) (x y : F) → a ≡ true → b ≡ true → None ≡ (if not a then Some x else if not b then Some y else None)
+pub two-taken : {F : Type 0} (a b : Bool) (x y : F) → a ≡ true → b ≡ true →
+    None ≡ (if not a then Some x else if not b then Some y else None)
 two-taken true true x y ha hb = refl
 two-taken true false x y ha hb = cc
 two-taken false b x y ha hb = cc

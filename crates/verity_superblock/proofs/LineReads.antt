@@ -1,11 +1,13 @@
 -- What a table line without a refusal says.
-use Rattle.std.proofs.Common.{◌≡◌, ℕ, ◌+◌, ◌*◌, ◌/◌, ◌%◌, ◌^◌, ◌<◌, ◌≤◌, ◌==◌, Bool, true, false, List, [], ◌∷◌, ◌++◌, length, Option, Some, None, Result, Ok, Err, refl, sym, ap, ◌∙◌, arith, lit<, ◌⊎◌, inl, inr, subst}
+use Rattle.std.proofs.Common.{◌≡◌, ℕ, ◌+◌, ◌*◌, ◌/◌, ◌%◌, ◌^◌, ◌<◌, ◌≤◌, ◌==◌, Bool, true, false, List, [], ◌∷◌, ◌++◌, length}
+use Rattle.std.proofs.Common.{Option, Some, None, Result, Ok, Err, refl, sym, ap, ◌∙◌, arith, lit<, ◌⊎◌, inl, inr, subst}
 use Rattle.std.specs.Prelude.{not, ◌&&◌, ◌||◌, nat_le, codes, if◌then◌else◌, slice_index_or}
 use Rattle.std.specs.List.{list_all}
 use Rattle.std.specs.Option.{option_or, MatchOption}
 use Rattle.std.specs.Result.{result_unwrap_or, IsOkUnless}
 use Rattle.std.specs.Cmp.Lexicographic.{same_text}
-use Rattle.std.proofs.lemmas.Bool.{true_from_ne_false, and_from, and_parts, cases_Bool, or_cases, or_left, or_right, eqb-true, leb-true, le-leb}
+use Rattle.std.proofs.lemmas.Bool.{true_from_ne_false, and_from, and_parts, cases_Bool, or_cases, or_left, or_right, eqb-true}
+use Rattle.std.proofs.lemmas.Bool.{leb-true, le-leb}
 use Rattle.hex.specs.Hex.{decode_of, is_hex_digit, IsBytes}
 use Rattle.hex.specs.declared.error.FromHexError.{FromHexError}
 use Rattle.hex.proofs.HexLemmas.{decode_of-ok, decode_of-same, decode_of-digits}
@@ -17,7 +19,9 @@ use Rattle.verity_profile.specs.Profile.{is_block_size, is_block_count}
 use Rattle.verity_superblock.specs.declared.faults.TableFault.{TableFault}
 use Rattle.verity_superblock.specs.declared.faults.TableFault.TheVariants as fault
 use Rattle.verity_superblock.specs.Reading.{is_text}
-use Rattle.verity_superblock.specs.Line.{TableLine, IsTableLine, Line, IsNumber, IsSaltOf, fields_of, field, has_ten_fields, is_number, number, is_path, is_name, is_hex, digest_digits, is_salt, is_hex_salt, shape_refusal, numbers_refusal, digest_refusal, salt_refusal, line_refusal, algorithm_of}
+use Rattle.verity_superblock.specs.Line.{TableLine, IsTableLine, Line, IsNumber, IsSaltOf, fields_of, field, has_ten_fields}
+use Rattle.verity_superblock.specs.Line.{is_number, number, is_path, is_name, is_hex, digest_digits, is_salt, is_hex_salt}
+use Rattle.verity_superblock.specs.Line.{shape_refusal, numbers_refusal, digest_refusal, salt_refusal, line_refusal, algorithm_of}
 use Rattle.verity_superblock.proofs.InTurn.{one-taken, one-refused, or-first, two-none, one-none, three-none, or-none_first, or-next}
 use Rattle.verity_superblock.proofs.Readings.{FourNumbers, IsHexSalt, all_numbers-parts, is_hex_salt-parts, parts-is_hex_salt}
 use Rattle.verity_superblock.proofs.SuperblockLaws.{algorithm_named, same_algorithm}
@@ -51,14 +55,18 @@ no_refusal text h =
     let numbers_none = or-none_first (numbers_of text) (later_of text) after_shape in
     let after_numbers = sym (or-next (numbers_of text) (later_of text) numbers_none) ∙ after_shape in
     let digest_none = or-none_first (digest_refusal (field text 7) (field text 8)) (salt_refusal (field text 9)) after_numbers in
-    let salt_none = sym (sym (or-next (digest_refusal (field text 7) (field text 8)) (salt_refusal (field text 9)) digest_none) ∙ after_numbers) in
+    let salt_none = sym (sym (or-next (digest_refusal (field text 7) (field text 8)) (salt_refusal (field text 9)) digest_none)
+    ∙ after_numbers) in
     let shape = two-none (has_ten_fields text) (is_text (field text 0) (codes "1")) fault.Fields fault.Version shape_none in
-    let numbers = three-none (is_number (field text 3) && (is_number (field text 4) && (is_number (field text 5) && is_number (field text 6))))
-    (is_block_size (number (field text 3)) && is_block_size (number (field text 4))) (is_block_count (number (field text 5)) && nat_le (number (field text 6)) (2 ^ 40))
+    let numbers = three-none (is_number (field text 3) &&
+    (is_number (field text 4) && (is_number (field text 5) && is_number (field text 6))))
+    (is_block_size (number (field text 3)) && is_block_size (number (field text 4)))
+    (is_block_count (number (field text 5)) && nat_le (number (field text 6)) (2 ^ 40))
     fault.Number fault.Size fault.Count numbers_none in
     let sizes = and_parts (is_block_size (number (field text 3))) (is_block_size (number (field text 4))) numbers.second in
     let counts = and_parts (is_block_count (number (field text 5))) (nat_le (number (field text 6)) (2 ^ 40)) numbers.third in
-    let digest = two-none (is_name (field text 7)) (is_hex (digest_digits (field text 7)) (field text 8)) fault.Algorithm fault.Digest digest_none in
+    let digest = two-none (is_name (field text 7)) (is_hex (digest_digits (field text 7)) (field text 8)) fault.Algorithm
+    fault.Digest digest_none in
     record {
       ten = shape.0;
       version = same_text (field text 0) (codes "1") (sym shape.1);
@@ -75,14 +83,17 @@ no_refusal text h =
 -- ---- the root hash and the salt
 
 -- a digest of an algorithm's name has its size
-root-sized : (a : Algorithm) (name digits root : List ℕ) → name ≡ name_of a → is_hex (digest_digits name) digits ≡ true → decode_of digits ≡ Ok root → length root ≡ size_of a
+root-sized : (a : Algorithm) (name digits root : List ℕ) → name ≡ name_of a → is_hex (digest_digits name) digits ≡ true →
+    decode_of digits ≡ Ok root → length root ≡ size_of a
 root-sized Sha256 name digits root e hex read =
     let read_len = (decode_of-ok digits root read).2 in
-    let len = eqb-true (length digits) 64 (and_parts (length digits == 64) (list_all is_hex_digit digits) (subst (λ (n : List ℕ). is_hex (digest_digits n) digits ≡ true) e hex)).0 in
+    let len = eqb-true (length digits) 64 (and_parts (length digits == 64) (list_all is_hex_digit digits)
+    (subst (λ (n : List ℕ). is_hex (digest_digits n) digits ≡ true) e hex)).0 in
     omega arith
 root-sized Sha512 name digits root e hex read =
     let read_len = (decode_of-ok digits root read).2 in
-    let len = eqb-true (length digits) 128 (and_parts (length digits == 128) (list_all is_hex_digit digits) (subst (λ (n : List ℕ). is_hex (digest_digits n) digits ≡ true) e hex)).0 in
+    let len = eqb-true (length digits) 128 (and_parts (length digits == 128) (list_all is_hex_digit digits)
+    (subst (λ (n : List ℕ). is_hex (digest_digits n) digits ≡ true) e hex)).0 in
     omega arith
 
 pub algorithm_of-sized : (a : Algorithm) (root : List ℕ) → length root ≡ size_of a → algorithm_of root ≡ a
@@ -126,7 +137,8 @@ salt-values digits salt ok read = elim (cases_Bool (is_text digits (codes "-")))
 ]
 
 -- the digits of a named digest decode
-pub root-read : (name digits : List ℕ) → is_name name ≡ true → is_hex (digest_digits name) digits ≡ true → (root : List ℕ) × (decode_of digits ≡ Ok root)
+pub root-read : (name digits : List ℕ) → is_name name ≡ true → is_hex (digest_digits name) digits ≡ true → (root : List ℕ) ×
+    (decode_of digits ≡ Ok root)
 root-read name digits named hex =
     let a = algorithm_named name named in
     let both = and_parts (length digits == digest_digits name) (list_all is_hex_digit digits) hex in
@@ -151,7 +163,8 @@ salt-is digits salt some short read = elim (cases_Bool (is_text digits (codes "-
       let decoded = decode_of-ok digits salt (salt-decoded digits salt other read) in
       let even = decoded.0 in
       let len = decoded.2 in
-      or_right (is_text digits (codes "-")) (is_hex_salt digits) (parts-is_hex_salt digits (record { some = omega arith; few = omega arith; even = even; hex = decoded.1 }))
+      or_right (is_text digits (codes "-")) (is_hex_salt digits)
+      (parts-is_hex_salt digits (record { some = omega arith; few = omega arith; even = even; hex = decoded.1 }))
 ]
 
 -- ---- the line
@@ -220,7 +233,13 @@ same_line text t u r s =
     ∙ ap (λ x. record t { dev = u.dev; hash_dev = x }) hash_dev
     ∙ ap (λ x. record t { dev = u.dev; hash_dev = u.hash_dev; data_block_size = x }) data_size
     ∙ ap (λ x. record t { dev = u.dev; hash_dev = u.hash_dev; data_block_size = u.data_block_size; hash_block_size = x }) hash_size
-    ∙ ap (λ x. record u { data_blocks = x; hash_start_block = t.hash_start_block; algorithm = t.algorithm; root = t.root; salt = t.salt }) count
+    ∙ ap (λ x. record u {
+      data_blocks = x;
+      hash_start_block = t.hash_start_block;
+      algorithm = t.algorithm;
+      root = t.root;
+      salt = t.salt;
+    }) count
     ∙ ap (λ x. record u { hash_start_block = x; algorithm = t.algorithm; root = t.root; salt = t.salt }) start
     ∙ ap (λ x. record u { algorithm = x; root = t.root; salt = t.salt }) algorithm
     ∙ ap (λ x. record u { root = x; salt = t.salt }) root
@@ -236,16 +255,20 @@ unfolding line_refusal
 line_refusal-shape text f e = or-first (shape_refusal text) (option_or (numbers_of text) (later_of text)) f e
 
 pub line_refusal-cut : (text dev hash_dev data_size hash_size blocks begin name digest salt : List ℕ)
-    → fields_of text ≡ codes "1" ∷ dev ∷ hash_dev ∷ data_size ∷ hash_size ∷ blocks ∷ begin ∷ name ∷ digest ∷ salt ∷ [] → None ≡ shape_refusal text
-    → line_refusal text ≡ option_or (numbers_refusal data_size hash_size blocks begin) (option_or (digest_refusal name digest) (salt_refusal salt))
+    → fields_of text ≡ codes "1" ∷ dev ∷ hash_dev ∷ data_size ∷ hash_size ∷ blocks ∷ begin ∷ name ∷ digest ∷ salt ∷ [] →
+    None ≡ shape_refusal text
+    → line_refusal text ≡ option_or (numbers_refusal data_size hash_size blocks begin)
+    (option_or (digest_refusal name digest) (salt_refusal salt))
 unfolding line_refusal
 line_refusal-cut text dev hash_dev data_size hash_size blocks begin name digest salt e taken =
     or-next (shape_refusal text) (option_or (numbers_of text) (later_of text)) taken
-    ∙ ap (λ (fs : List (List ℕ)). option_or (numbers_refusal (slice_index_or fs 3 []) (slice_index_or fs 4 []) (slice_index_or fs 5 []) (slice_index_or fs 6 []))
+    ∙ ap (λ (fs : List (List ℕ)). option_or (numbers_refusal (slice_index_or fs 3 []) (slice_index_or fs 4 [])
+    (slice_index_or fs 5 []) (slice_index_or fs 6 []))
     (option_or (digest_refusal (slice_index_or fs 7 []) (slice_index_or fs 8 [])) (salt_refusal (slice_index_or fs 9 [])))) e
 
 -- what stands after the salt was refused
-pub salt-exit : {T U : Type 0} (salt : List ℕ) (r : Result T TableFault) (f : TableFault) → r ≡ Err f → (is_salt salt ≡ false → Path (Result U TableFault) (Err f) (Err fault.Salt)) → (is_salt salt ≡ true → f ≡ fault.NoMemory)
+pub salt-exit : {T U : Type 0} (salt : List ℕ) (r : Result T TableFault) (f : TableFault) → r ≡ Err f →
+    (is_salt salt ≡ false → Path (Result U TableFault) (Err f) (Err fault.Salt)) → (is_salt salt ≡ true → f ≡ fault.NoMemory)
     → MatchOption (salt_refusal salt) (IsOkUnless r fault.NoMemory) (λ x. r ≡ Err x)
 salt-exit {T = T} {U = U} salt r f e refused taken = elim (cases_Bool (is_salt salt)) [
   | inl ok ↦ rw (sym (one-taken (is_salt salt) fault.Salt ok)) (rw e (taken ok))
@@ -257,15 +280,18 @@ salt-exit {T = T} {U = U} salt r f e refused taken = elim (cases_Bool (is_salt s
 
 -- nothing of the text is refused
 pub line_refusal-none : (text dev hash_dev data_size hash_size blocks begin name digest salt : List ℕ)
-    → fields_of text ≡ codes "1" ∷ dev ∷ hash_dev ∷ data_size ∷ hash_size ∷ blocks ∷ begin ∷ name ∷ digest ∷ salt ∷ [] → None ≡ shape_refusal text
-    → None ≡ numbers_refusal data_size hash_size blocks begin → None ≡ digest_refusal name digest → (is_salt salt ≡ false → ⊥) → line_refusal text ≡ None
+    → fields_of text ≡ codes "1" ∷ dev ∷ hash_dev ∷ data_size ∷ hash_size ∷ blocks ∷ begin ∷ name ∷ digest ∷ salt ∷ [] →
+    None ≡ shape_refusal text
+    → None ≡ numbers_refusal data_size hash_size blocks begin → None ≡ digest_refusal name digest → (is_salt salt ≡ false → ⊥) →
+    line_refusal text ≡ None
 line_refusal-none text dev hash_dev data_size hash_size blocks begin name digest salt e shape numbers root salted =
     line_refusal-cut text dev hash_dev data_size hash_size blocks begin name digest salt e shape
     ∙ or-next (numbers_refusal data_size hash_size blocks begin) (option_or (digest_refusal name digest) (salt_refusal salt)) numbers
     ∙ or-next (digest_refusal name digest) (salt_refusal salt) root
     ∙ sym (one-taken (is_salt salt) fault.Salt (true_from_ne_false (is_salt salt) salted))
 
-pub line_refusal-taken : (text : List ℕ) → None ≡ shape_refusal text → None ≡ numbers_of text → None ≡ digest_refusal (field text 7) (field text 8) → None ≡ salt_refusal (field text 9) → line_refusal text ≡ None
+pub line_refusal-taken : (text : List ℕ) → None ≡ shape_refusal text → None ≡ numbers_of text →
+    None ≡ digest_refusal (field text 7) (field text 8) → None ≡ salt_refusal (field text 9) → line_refusal text ≡ None
 unfolding line_refusal
 line_refusal-taken text shape numbers root salt =
     or-next (shape_refusal text) (option_or (numbers_of text) (later_of text)) shape ∙ or-next (numbers_of text) (later_of text) numbers

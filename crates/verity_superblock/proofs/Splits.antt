@@ -1,11 +1,13 @@
 -- A text cut at its spaces.
-use Rattle.std.proofs.Common.{◌≡◌, ◌≢◌, ℕ, ◌+◌, ◌<◌, ◌≤◌, ◌==◌, Bool, true, false, List, [], ◌∷◌, ◌++◌, length, slice_index_or, Option, Some, None, refl, sym, ap, ◌∙◌, arith, lit<, Bor, ◌⊎◌, inl, inr, nat_lt}
+use Rattle.std.proofs.Common.{◌≡◌, ◌≢◌, ℕ, ◌+◌, ◌<◌, ◌≤◌, ◌==◌, Bool, true, false, List, [], ◌∷◌, ◌++◌, length, slice_index_or}
+use Rattle.std.proofs.Common.{Option, Some, None, refl, sym, ap, ◌∙◌, arith, lit<, Bor, ◌⊎◌, inl, inr, nat_lt}
 use Rattle.std.specs.Prelude.{IsSome, not}
 use Rattle.std.specs.List.{All, slice_split, onto_first, list_all, join_with_byte}
 use Rattle.std.proofs.lemmas.Bool.{ne_eqb, cases_Bool, and_from, and_parts, not_from_false, not-true, eqb-true}
 use Rattle.std.proofs.lemmas.List.Elements.{All-nil, All-cons, All-head, All-tail, All-get_or, All-from_get_or}
 use Rattle.std.proofs.lemmas.List.Sums.{AllPass-from_list_all}
-use Rattle.std.proofs.lemmas.List.Splits.{slice_split_none, slice_split_at, slice_split-cons_yes, slice_split-cons_no, join_with_byte-slice_split}
+use Rattle.std.proofs.lemmas.List.Splits.{slice_split_none, slice_split_at, slice_split-cons_yes, slice_split-cons_no}
+use Rattle.std.proofs.lemmas.List.Splits.{join_with_byte-slice_split}
 use Rattle.std.proofs.lemmas.Str.Pattern.{IsSplitOnceResult, split_parts}
 use Rattle.verity_superblock.specs.Line.{fields_of, field, has_ten_fields, is_path}
 
@@ -19,7 +21,8 @@ no_space-by_index text h = All-from_get_or (λ b. (b == 32) ≡ false) text 0 (�
 pub fields_of-one : (text : List ℕ) → ((i : ℕ) → i < length text → slice_index_or text i 0 ≢ 32) → fields_of text ≡ text ∷ []
 fields_of-one text h = slice_split_none (λ b. b == 32) text (no_space-by_index text h)
 
-pub fields_of-next : (text first rest : List ℕ) → text ≡ first ++ (32 ∷ rest) → ((i : ℕ) → i < length first → slice_index_or first i 0 ≢ 32) → fields_of text ≡ first ∷ fields_of rest
+pub fields_of-next : (text first rest : List ℕ) → text ≡ first ++ (32 ∷ rest) →
+    ((i : ℕ) → i < length first → slice_index_or first i 0 ≢ 32) → fields_of text ≡ first ∷ fields_of rest
 fields_of-next text first rest e h = ap fields_of e ∙ slice_split_at (λ b. b == 32) first 32 rest (no_space-by_index first h) refl
 
 pub cuts : (text : List ℕ) (r : Option (Bor (List ℕ) × Bor (List ℕ))) → IsSplitOnceResult 32 text r → 1 < length (fields_of text) → IsSome r
@@ -28,7 +31,8 @@ cuts text None h more =
     let one = fields_of-one text (split_parts 32 text None h (lit< tt)) in
     absurd (omega (arith, ap length one))
 
-pub cut-fields : (text : List ℕ) (r : Option (Bor (List ℕ) × Bor (List ℕ))) (x : Bor (List ℕ) × Bor (List ℕ)) → IsSplitOnceResult 32 text r → r ≡ Some x → fields_of text ≡ x.0.now ∷ fields_of x.1.now
+pub cut-fields : (text : List ℕ) (r : Option (Bor (List ℕ) × Bor (List ℕ))) (x : Bor (List ℕ) × Bor (List ℕ)) →
+    IsSplitOnceResult 32 text r → r ≡ Some x → fields_of text ≡ x.0.now ∷ fields_of x.1.now
 cut-fields text r x h e =
     let parts = split_parts 32 text (Some x) (rw e at h) (lit< tt) in
     fields_of-next text x.0.now x.1.now parts.0 parts.1
@@ -51,14 +55,16 @@ fields_of-last text h =
 -- ---- fields have no space, and are cut where they were joined
 
 parts_onto : (x : ℕ) (fs : List (List ℕ)) → (x == 32) ≡ false → All HasNoSpace fs → All HasNoSpace (onto_first x fs)
-parts_onto x [] h all = All-cons HasNoSpace (x ∷ []) [] (All-cons (λ b. (b == 32) ≡ false) x [] h (All-nil (λ b. (b == 32) ≡ false))) (All-nil HasNoSpace)
+parts_onto x [] h all = All-cons HasNoSpace (x ∷ []) []
+    (All-cons (λ b. (b == 32) ≡ false) x [] h (All-nil (λ b. (b == 32) ≡ false))) (All-nil HasNoSpace)
 parts_onto x (f ∷ fs) h all =
     All-cons HasNoSpace (x ∷ f) fs (All-cons (λ b. (b == 32) ≡ false) x f h (All-head HasNoSpace f fs all)) (All-tail HasNoSpace f fs all)
 
 pub fields_of-no_space : (text : List ℕ) → All HasNoSpace (fields_of text)
 fields_of-no_space [] = All-cons HasNoSpace [] [] (All-nil (λ b. (b == 32) ≡ false)) (All-nil HasNoSpace)
 fields_of-no_space (x ∷ text) = elim (cases_Bool (x == 32)) [
-  | inl space ↦ rw (slice_split-cons_yes (λ b. b == 32) x text space) (All-cons HasNoSpace [] (fields_of text) (All-nil (λ b. (b == 32) ≡ false)) (fields_of-no_space text))
+  | inl space ↦ rw (slice_split-cons_yes (λ b. b == 32) x text space)
+      (All-cons HasNoSpace [] (fields_of text) (All-nil (λ b. (b == 32) ≡ false)) (fields_of-no_space text))
   | inr other ↦ rw (slice_split-cons_no (λ b. b == 32) x text other) (parts_onto x (fields_of text) other (fields_of-no_space text))
 ]
 

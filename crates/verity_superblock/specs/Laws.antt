@@ -24,6 +24,7 @@ RefusesTheRest = (bytes : List ℕ) → (refusal bytes ≡ None) ↔ ((p : Param
 pub record IsInBlocks (p : Params) (image front : List (List ℕ)) : Type 0 where
   pub joins : concat (hash_blocks p image front) ≡ hash_image p image front
   pub sized : AllSized p.hash_block_size (hash_blocks p image front)
-  pub only : (content : List (List ℕ)) → AllSized p.hash_block_size content → concat content ≡ hash_image p image front → content ≡ hash_blocks p image front
+  pub only : (content : List (List ℕ)) → AllSized p.hash_block_size content → concat content ≡ hash_image p image front →
+      content ≡ hash_blocks p image front
   pub superblock : slice_index_or (hash_blocks p image front) (length front) [] ≡ superblock_block p (length image)
   pub tree : drop (length front + 1) (hash_blocks p image front) ≡ tree_of p image

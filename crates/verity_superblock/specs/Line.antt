@@ -1,6 +1,7 @@
 -- The table line of a volume: the parameters of the verity target in a device mapper table, ten fields
 -- apart by one space each.
-use Rattle.std.specs.Prelude.{◌≡◌, ℕ, ◌*◌, ◌^◌, ◌<◌, ◌≤◌, ◌%◌, ◌==◌, Bool, not, ◌&&◌, ◌||◌, nat_lt, nat_le, IsTrue, List, [], ◌∷◌, length, slice_index, slice_index_or, codes, if◌then◌else◌, Option, Some, None, Result, Ok}
+use Rattle.std.specs.Prelude.{◌≡◌, ℕ, ◌*◌, ◌^◌, ◌<◌, ◌≤◌, ◌%◌, ◌==◌, Bool, not, ◌&&◌, ◌||◌, nat_lt, nat_le, IsTrue, List, [], ◌∷◌}
+use Rattle.std.specs.Prelude.{length, slice_index, slice_index_or, codes, if◌then◌else◌, Option, Some, None, Result, Ok}
 use Rattle.std.specs.List.{slice_split, list_all, join_with_byte}
 use Rattle.std.specs.Option.{option_or}
 use Rattle.std.specs.Char.{is_ascii_digit}
@@ -64,7 +65,8 @@ abbrev pub number : List ℕ → ℕ
 number digits = digits_value 10 digits
 
 abbrev pub is_number : List ℕ → Bool
-is_number digits = nat_le 1 (length digits) && (nat_le (length digits) 20 && (list_all is_ascii_digit digits && nat_lt (number digits) (2 ^ 64)))
+is_number digits = nat_le 1 (length digits) &&
+    (nat_le (length digits) 20 && (list_all is_ascii_digit digits && nat_lt (number digits) (2 ^ 64)))
 
 -- the name of an algorithm
 abbrev pub is_name : List ℕ → Bool

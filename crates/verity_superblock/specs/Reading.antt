@@ -1,5 +1,6 @@
 -- What bytes read as a superblock, and which are refused.
-use Rattle.std.specs.Prelude.{◌≡◌, ℕ, ◌+◌, ◌≤◌, Bool, not, ◌&&◌, ◌||◌, ◌==◌, nat_eq, nat_lt, nat_le, List, length, codes, slice_range, if◌then◌else◌, Option, Some, None}
+use Rattle.std.specs.Prelude.{◌≡◌, ℕ, ◌+◌, ◌≤◌, Bool, not, ◌&&◌, ◌||◌, ◌==◌, nat_eq, nat_lt, nat_le, List, length, codes}
+use Rattle.std.specs.Prelude.{slice_range, if◌then◌else◌, Option, Some, None}
 use Rattle.std.specs.Option.{option_or}
 use Rattle.std.specs.Cmp.Lexicographic.{pointwise}
 use Rattle.std.specs.List.{before_first}
@@ -9,7 +10,8 @@ use Rattle.verity_digest.specs.declared.algorithm.Algorithm.TheVariants.{Sha256,
 use Rattle.verity_profile.specs.Profile.{is_block_size, is_block_count}
 use Rattle.verity_superblock.specs.Superblock.{Params, zero_filled}
 use Rattle.verity_superblock.specs.declared.faults.SuperFault.{SuperFault}
-use Rattle.verity_superblock.specs.declared.faults.SuperFault.TheVariants.{Short, Signature, Version, HashType, Algorithm, BadSize, BadCount, SaltSize}
+use Rattle.verity_superblock.specs.declared.faults.SuperFault.TheVariants.{Short, Signature, Version, HashType, Algorithm, BadSize}
+use Rattle.verity_superblock.specs.declared.faults.SuperFault.TheVariants.{BadCount, SaltSize}
 
 -- the named fields, by their offsets
 abbrev pub signature : List ℕ → List ℕ

@@ -23,7 +23,8 @@ pub fn refuses_the_rest()
 /// A hash device is whole blocks: those in front, the superblock's, and the tree's. A store whose bytes
 /// are the device's holds these blocks and no other.
 pub fn is_in_blocks()
-    ensures { (p : Params) (image front : List (List ℕ)) → IsProfile p (length image) → AllSized p.hash_block_size front → IsInBlocks p image front }
+    ensures { (p : Params) (image front : List (List ℕ)) → IsProfile p (length image) → AllSized p.hash_block_size front
+        → IsInBlocks p image front }
 {}
 
 /// The canonical spelling of a table line is one with these values: `parse` gives back what `text` spelt.

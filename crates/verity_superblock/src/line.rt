@@ -1,11 +1,13 @@
 //! The fields of a table line, read one by one.
-ghost use Rattle.std.specs.Prelude.{◌≡◌, ◌+◌, ◌^◌, ◌<◌, ◌≤◌, ◌==◌, ◌∷◌, [], ◌↔◌, IsTrue, IsSome, IfSome, IfNone, IfOk, IfErr, OnOk, codes, IsOkUnless, length, take, not, nat_lt, true, false, Some, None};
+ghost use Rattle.std.specs.Prelude.{◌≡◌, ◌+◌, ◌^◌, ◌<◌, ◌≤◌, ◌==◌, ◌∷◌, [], ◌↔◌, IsTrue, IsSome, IfSome, IfNone, IfOk, IfErr, OnOk};
+ghost use Rattle.std.specs.Prelude.{codes, IsOkUnless, length, take, not, nat_lt, true, false, Some, None};
 ghost use Rattle.std.specs.List.{list_all};
 ghost use Rattle.std.specs.Char.{is_ascii_digit};
 ghost use Rattle.std.specs.Result.{result_err};
 ghost use Rattle.hex.specs.Hex.{decode_of};
 ghost use Rattle.verity_profile.specs.Profile.{IsBlockSize, IsBlockCount};
-ghost use Rattle.verity_superblock.specs.Line.{fields_of, is_number, number, is_path, is_hex, is_salt, is_hex_salt, IsNumber, IsSaltOf, shape_refusal, numbers_refusal, digest_refusal, has_ten_fields};
+ghost use Rattle.verity_superblock.specs.Line.{fields_of, is_number, number, is_path, is_hex, is_salt, is_hex_salt, IsNumber};
+ghost use Rattle.verity_superblock.specs.Line.{IsSaltOf, shape_refusal, numbers_refusal, digest_refusal, has_ten_fields};
 
 use crate::TableFault;
 use hex::FromHex;
@@ -154,7 +156,8 @@ pub(crate) fn read_numbers(fields: &Fields<'_>) -> Result<Numbers, TableFault>
     ensures hash_sized { IfOk result (λ n. IsBlockSize n.hash_block_size) }
     ensures counted { IfOk result (λ n. IsBlockCount n.data_blocks) }
     ensures near { IfOk result (λ n. n.hash_start_block ≤ 2 ^ 40) }
-    ensures refused { result_err result ≡ numbers_refusal fields.now.data_block_size.now fields.now.hash_block_size.now fields.now.data_blocks.now fields.now.hash_start_block.now }
+    ensures refused { result_err result ≡ numbers_refusal fields.now.data_block_size.now fields.now.hash_block_size.now
+        fields.now.data_blocks.now fields.now.hash_start_block.now }
 {
     let data_block_size = number_of(fields.data_block_size)? as usize;
     let hash_block_size = number_of(fields.hash_block_size)? as usize;

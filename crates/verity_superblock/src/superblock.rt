@@ -4,7 +4,8 @@ ghost use Rattle.std.specs.Result.{result_err};
 ghost use Rattle.verity_profile.specs.Profile.{IsBlockSize, IsBlockCount};
 ghost use Rattle.byteorder.specs.Endian.{little_bytes};
 ghost use Rattle.verity_superblock.specs.Superblock.{superblock, IsProfile, IsPut};
-ghost use Rattle.verity_superblock.specs.Reading.{Reads, refusal, kind_refusal, size_refusal, algorithm_name, data_block_size, hash_block_size, data_blocks, salt_size, salt, uuid};
+ghost use Rattle.verity_superblock.specs.Reading.{Reads, refusal, kind_refusal, size_refusal, algorithm_name, data_block_size};
+ghost use Rattle.verity_superblock.specs.Reading.{hash_block_size, data_blocks, salt_size, salt, uuid};
 ghost use Rattle.verity_digest.specs.Hash.{name_of};
 
 use crate::SuperFault;
@@ -35,9 +36,24 @@ impl<A: Allocator> Model for Superblock<A> {
 
     ghost Value = { Volume };
 
-    ghost view = { λ s. record { params = record { algorithm = s.algorithm; data_block_size = s.data_block_size; hash_block_size = s.hash_block_size; salt = s.salt; uuid = s.uuid }; data_blocks = s.data_blocks } };
+    ghost view = { λ s. record {
+      params = record {
+        algorithm = s.algorithm;
+        data_block_size = s.data_block_size;
+        hash_block_size = s.hash_block_size;
+        salt = s.salt;
+        uuid = s.uuid;
+      };
+      data_blocks = s.data_blocks;
+    } };
 
-    ghost invariant = { λ s. IsProfile (record { algorithm = s.algorithm; data_block_size = s.data_block_size; hash_block_size = s.hash_block_size; salt = s.salt; uuid = s.uuid }) s.data_blocks };
+    ghost invariant = { λ s. IsProfile (record {
+      algorithm = s.algorithm;
+      data_block_size = s.data_block_size;
+      hash_block_size = s.hash_block_size;
+      salt = s.salt;
+      uuid = s.uuid;
+    }) s.data_blocks };
 }
 
 impl<A: Allocator> Superblock<A> {
@@ -57,7 +73,8 @@ impl<A: Allocator> Superblock<A> {
         }) }
         ensures ok { IsOk result ↔ ((IsBlockSize data_size × IsBlockSize hash_size) × IsBlockCount blocks) }
         ensures bad_size { IsErrOf result SuperFault.BadSize ↔ ¬ (IsBlockSize data_size × IsBlockSize hash_size) }
-        ensures bad_count { IsErrOf result SuperFault.BadCount ↔ ((IsBlockSize data_size × IsBlockSize hash_size) × ¬ (IsBlockCount blocks)) }
+        ensures bad_count { IsErrOf result SuperFault.BadCount ↔ ((IsBlockSize data_size × IsBlockSize hash_size)
+            × ¬ (IsBlockCount blocks)) }
     {
         if !is_block_size(data_size) || !is_block_size(hash_size) {
             return Err(SuperFault::BadSize);

@@ -118,7 +118,8 @@ impl<A: Allocator + Copy> Table<A> {
           salt = salt;
         }) }
         ensures profile { IfOk result (λ t. IsTableLine t) }
-        ensures refused { MatchOption (values_refusal dev.now hash_dev.now data_size hash_size blocks start) (IsOkUnless result TableFault.NoMemory) (λ fault. result ≡ Err fault) }
+        ensures refused { MatchOption (values_refusal dev.now hash_dev.now data_size hash_size blocks start)
+            (IsOkUnless result TableFault.NoMemory) (λ fault. result ≡ Err fault) }
     {
         check_values(dev, hash_dev, data_size, hash_size, blocks, start)?;
         are_bytes(root.bytes());
@@ -300,7 +301,8 @@ fn join_three<A: Allocator>(
 /// The four numbers of a table line, apart by one space each.
 fn join_numbers<A: Allocator>(alloc: A, numbers: Numbers) -> Result<String<A>, AllocError>
     ensures { IfOk result (λ s. string_bytes s ≡ join_with_byte 32 (
-        decimal numbers.data_block_size ∷ decimal numbers.hash_block_size ∷ decimal numbers.data_blocks ∷ decimal numbers.hash_start_block ∷ [])) }
+        decimal numbers.data_block_size ∷ decimal numbers.hash_block_size ∷ decimal numbers.data_blocks
+        ∷ decimal numbers.hash_start_block ∷ [])) }
 {
     let data_size = numbers.data_block_size;
     let hash_size = numbers.hash_block_size;

@@ -13,19 +13,24 @@ use Rattle.verity_tool.specs.declared.failure.Failure.{Failure}
 use Rattle.verity_tool.specs.declared.failure.Failure.TheVariants as failure
 use Rattle.verity_tool.specs.Words.{is_decimal, number_in}
 
-chosen : (w : Word) (digits : List ℕ) (b : Bool) → is_decimal digits ≡ b → number_in w digits ≡ (if b then Ok (digits_value 10 digits) else Err (failure.Word w))
+chosen : (w : Word) (digits : List ℕ) (b : Bool) → is_decimal digits ≡ b →
+    number_in w digits ≡ (if b then Ok (digits_value 10 digits) else Err (failure.Word w))
 chosen w digits b e = let pick : Bool → Result ℕ Failure = λ c. if c then Ok (digits_value 10 digits) else Err (failure.Word w) in ap pick e
 
 parsed : {E : Type 0} (digits : List ℕ) (r : Result ℕ E) → ParsesUnsigned 64 10 digits r → list_all is_ascii_digit digits ≡ true
     → OkIff r ((0 < length digits) × (digits_value 10 digits < 2 ^ 64)) (digits_value 10 digits)
 parsed digits r h all = parse_digits own 64 digits r h (all_ascii_digits-list_all digits ∙ all)
 
-decimal : (digits : List ℕ) → list_all is_ascii_digit digits ≡ true → (0 < length digits) × (digits_value 10 digits < 2 ^ 64) → is_decimal digits ≡ true
+decimal : (digits : List ℕ) → list_all is_ascii_digit digits ≡ true → (0 < length digits) × (digits_value 10 digits < 2 ^ 64) →
+    is_decimal digits ≡ true
 decimal digits all h =
-    and_from (nat_lt 0 (length digits)) (list_all is_ascii_digit digits && nat_lt (digits_value 10 digits) (2 ^ 64)) (lt-ltb 0 (length digits) h.0)
-    (and_from (list_all is_ascii_digit digits) (nat_lt (digits_value 10 digits) (2 ^ 64)) all (lt-ltb (digits_value 10 digits) (2 ^ 64) h.1))
+    and_from (nat_lt 0 (length digits)) (list_all is_ascii_digit digits && nat_lt (digits_value 10 digits) (2 ^ 64))
+    (lt-ltb 0 (length digits) h.0)
+    (and_from (list_all is_ascii_digit digits) (nat_lt (digits_value 10 digits) (2 ^ 64)) all
+    (lt-ltb (digits_value 10 digits) (2 ^ 64) h.1))
 
-decimal-parts : (digits : List ℕ) → is_decimal digits ≡ true → (list_all is_ascii_digit digits ≡ true) × (0 < length digits) × (digits_value 10 digits < 2 ^ 64)
+decimal-parts : (digits : List ℕ) → is_decimal digits ≡ true → (list_all is_ascii_digit digits ≡ true) × (0 < length digits) ×
+    (digits_value 10 digits < 2 ^ 64)
 decimal-parts digits h =
     let a = and_parts (nat_lt 0 (length digits)) (list_all is_ascii_digit digits && nat_lt (digits_value 10 digits) (2 ^ 64)) h in
     let b = and_parts (list_all is_ascii_digit digits) (nat_lt (digits_value 10 digits) (2 ^ 64)) a.1 in
@@ -37,18 +42,22 @@ not_digits w digits none =
     sym (chosen w digits false (false_from_ne_true (is_decimal digits) (λ h. let parts = decimal-parts digits h in cc)))
 
 -- digits of which `parse` gave a number
-pub read : {E : Type 0} (w : Word) (digits : List ℕ) (r : Result ℕ E) (n : ℕ) → ParsesUnsigned 64 10 digits r → list_all is_ascii_digit digits ≡ true
+pub read : {E : Type 0} (w : Word) (digits : List ℕ) (r : Result ℕ E) (n : ℕ) → ParsesUnsigned 64 10 digits r →
+    list_all is_ascii_digit digits ≡ true
     → r ≡ Ok n → Ok n ≡ number_in w digits
 read {E = E} w digits (Ok m) n h all e =
-    let given : ((0 < length digits) × (digits_value 10 digits < 2 ^ 64)) × (m ≡ digits_value 10 digits) = parsed {E = E} digits (Ok m) h all in
+    let given : ((0 < length digits) × (digits_value 10 digits < 2 ^ 64)) × (m ≡ digits_value 10 digits) =
+    parsed {E = E} digits (Ok m) h all in
     let same : n ≡ digits_value 10 digits = cc in
     ap Ok same ∙ sym (chosen w digits true (decimal digits all given.0))
 read {E = E} w digits (Err x) n h all e = absurd (cc e)
 
 -- digits of which it gave none
-pub unread : {E : Type 0} (w : Word) (digits : List ℕ) (r : Result ℕ E) (x : E) → ParsesUnsigned 64 10 digits r → list_all is_ascii_digit digits ≡ true
+pub unread : {E : Type 0} (w : Word) (digits : List ℕ) (r : Result ℕ E) (x : E) → ParsesUnsigned 64 10 digits r →
+    list_all is_ascii_digit digits ≡ true
     → r ≡ Err x → Err (failure.Word w) ≡ number_in w digits
 unread w digits (Ok m) x h all e = absurd (cc e)
 unread w digits (Err y) x h all e =
     let given = parsed digits (Err y) h all in
-    sym (chosen w digits false (false_from_ne_true (is_decimal digits) (λ is. let parts = decimal-parts digits is in absurd (given (parts.1, parts.2)))))
+    sym (chosen w digits false (false_from_ne_true (is_decimal digits) (λ is. let parts = decimal-parts digits is in
+    absurd (given (parts.1, parts.2)))))

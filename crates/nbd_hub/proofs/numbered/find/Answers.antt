@@ -6,7 +6,8 @@ use Rattle.nbd_hub.proofs.numbered.find.Goals as goal
 
 pub returns-then-number-id : goal.returns-then-number-id
 returns-then-number-id g c =
-    Place-of c.args.id c.args.sessions.now c.loop-i.i c.index-sessions-i.result c.loop-i.invariant (omega arith) (ap (λ (n : Entry). n.number) (sym c.index-sessions-i.is) ∙ sym c.number.ensures ∙ c.if-number-id.true)
+    Place-of c.args.id c.args.sessions.now c.loop-i.i c.index-sessions-i.result c.loop-i.invariant (omega arith)
+    (ap (λ (n : Entry). n.number) (sym c.index-sessions-i.is) ∙ sym c.number.ensures ∙ c.if-number-id.true)
 
 pub loop-i-preserved : goal.loop-i-preserved
 loop-i-preserved g c =

@@ -10,7 +10,8 @@ returns-in-Ok-write_out g c =
     let b = f c.feed.new.self.1 in
     let o = c.in-Ok.ensures.feeds in
     let out = c.feed.new.out.items in
-    let d = feeds_from a b o.before o.after c.args.piece.now c.clear.new.self.items out out c.in-Ok.status c.clear.ensures.items refl o.feeds in
+    let d = feeds_from a b o.before o.after c.args.piece.now c.clear.new.self.items out out c.in-Ok.status c.clear.ensures.items
+    refl o.feeds in
     let P : List ℕ → Type 0 = λ x. Appends (g.W.Write.contents c.args.writer.now) (g.W.Write.contents c.write_out.new.writer) x in
     let n = c.in_default.not-Starved in
     let i = d.ended n in
@@ -36,7 +37,8 @@ returns-in-Ok-write_out g c =
           d.awake n,
         ),
       );
-      after = λ history x. turned_fed b c.feed.new.self.0 history c.args.id c.args.piece.now c.clear.new.self.items out c.in-Ok.status (c.in-Ok.ensures.after history x);
+      after = λ history x. turned_fed b c.feed.new.self.0 history c.args.id c.args.piece.now c.clear.new.self.items out
+          c.in-Ok.status (c.in-Ok.ensures.after history x);
     }
 
 pub returns-in-Err-write_out : goal.returns-in-Err-write_out
@@ -47,7 +49,8 @@ returns-in-Err-write_out g c =
     let o = c.in-Ok.ensures.feeds in
     let out = c.feed.new.out.items in
     let q = c.in-Err-write_out.ensures.err in
-    let d = feeds_from a b o.before o.after c.args.piece.now c.clear.new.self.items out (q.0 ++ q.1) c.in-Ok.status c.clear.ensures.items (sym c.deref.ensures.value ∙ q.2) o.feeds in
+    let d = feeds_from a b o.before o.after c.args.piece.now c.clear.new.self.items out (q.0 ++ q.1) c.in-Ok.status
+    c.clear.ensures.items (sym c.deref.ensures.value ∙ q.2) o.feeds in
     let n = c.in_default.not-Starved in
     record {
       offer = o.offer;
@@ -55,6 +58,15 @@ returns-in-Err-write_out g c =
       later = c.in-Ok.ensures.later;
       next = o.next;
       count = o.count;
-      exchanged = (o.before, o.after, o.found, o.offers, d.offer ∙ o.offers, o.sets, (q.0, q.1, q.3, (λ input at. (d.at n input at, d.talks n input at))));
-      after = λ history x. turned_fed b c.feed.new.self.0 history c.args.id c.args.piece.now c.clear.new.self.items out c.in-Ok.status (c.in-Ok.ensures.after history x);
+      exchanged = (
+        o.before,
+        o.after,
+        o.found,
+        o.offers,
+        d.offer ∙ o.offers,
+        o.sets,
+        (q.0, q.1, q.3, (λ input at. (d.at n input at, d.talks n input at))),
+      );
+      after = λ history x. turned_fed b c.feed.new.self.0 history c.args.id c.args.piece.now c.clear.new.self.items out
+          c.in-Ok.status (c.in-Ok.ensures.after history x);
     }

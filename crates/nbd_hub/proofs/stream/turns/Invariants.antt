@@ -18,7 +18,12 @@ invariant-loop-turn g l =
       count : length l.hub.0.sessions ≡ length l.fn.hub.0.sessions;
       after : (history : List Step) → IsAfter (facts l.fn.hub.1) l.fn.hub.0 history → TurnedAfter (facts l.hub.1) l.hub.0 history l.id;
       ran : (input : List ℕ) × (said : List ℕ) × (session : State)
-          × Moved (record { reader = g.R.Read.remaining l.fn.reader; reader' = g.R.Read.remaining l.reader; writer = g.W.Write.contents l.fn.writer; writer' = g.W.Write.contents l.writer }) input said
+          × Moved (record {
+            reader = g.R.Read.remaining l.fn.reader;
+            reader' = g.R.Read.remaining l.reader;
+            writer = g.W.Write.contents l.fn.writer;
+            writer' = g.W.Write.contents l.writer;
+          }) input said
           × Talked (facts l.fn.hub.1) (facts l.hub.1) l.fn.hub.0.offer input said
           × IsAt session input × (session.starved ≡ false) × (session.offer ≡ l.fn.hub.0.offer)
           × SetsOnly l.fn.hub.0.sessions l.hub.0.sessions l.id (Some session)

@@ -20,13 +20,19 @@ returns-in-Ok-push-clause-serves g c = λ h logs x v.
     let A : ℕ → Type 0 = λ k. IsAfter (f hub'.1) hub'.0 (h ++ Opening k greeting ∷ []) in
     let B : ℕ → Type 0 = λ k. IsServed hub'.0.offer (h ++ Opening k greeting ∷ []) client.0 [] [] in
     let V : Offer → Type 0 = λ z. AllServed z h items logs in
-    let R : List (ClientState × g.row.S.Denot) → Type 0 = λ z. AllServed hub'.0.offer (h ++ Opening hub.0.next greeting ∷ []) z (logs ++ record { read = []; wrote = [] } ∷ []) in (
+    let R : List (ClientState × g.row.S.Denot) → Type 0 =
+    λ z. AllServed hub'.0.offer (h ++ Opening hub.0.next greeting ∷ []) z (logs ++ record { read = []; wrote = [] } ∷ []) in (
       subst A o.number s.0,
       subst R (sym (c.in-Ok-push.ensures.items ∙ ap (λ z. z ++ client ∷ []) c.reserve.ensures.items))
-          (all_open g.S.Stream.remaining g.S.Stream.contents hub'.0.offer h hub.0.next greeting items logs client x.next o.number (subst B o.number s.1) (subst V (sym o.offer) v)),
+          (all_open g.S.Stream.remaining g.S.Stream.contents hub'.0.offer h hub.0.next greeting items logs client x.next o.number
+          (subst B o.number s.1) (subst V (sym o.offer) v)),
     )
 
 pub returns-in-Ok-push-clause-added : goal.returns-in-Ok-push-clause-added
 returns-in-Ok-push-clause-added g c =
-    let client = c.in-Ok.client in
-    (client, c.in-Ok-push.ensures.items ∙ ap (λ z. z ++ client ∷ []) c.reserve.ensures.items, c.in-Ok.ensures.opens.number, c.in-Ok.ensures.stream)
+    let client = c.in-Ok.client in (
+      client,
+      c.in-Ok-push.ensures.items ∙ ap (λ z. z ++ client ∷ []) c.reserve.ensures.items,
+      c.in-Ok.ensures.opens.number,
+      c.in-Ok.ensures.stream,
+    )

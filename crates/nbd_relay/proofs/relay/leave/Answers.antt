@@ -23,7 +23,8 @@ returns-in-Ok-clause-serves g c = λ h logs x v.
     let O : Offer → Type 0 = λ z. AllServed z (h ++ Ending d.0.id ∷ []) c.remove-client.new.self.items (remove logs at) in
     let left = all_left g.S.Stream.remaining g.S.Stream.contents hub.0.offer h cs logs at d c.requires v in (
       subst A c.id.ensures (c.in-Ok.ensures.after h x).after,
-      subst O (sym c.in-Ok.ensures.ends.offer) (subst R (sym c.remove-client.ensures.items) (subst B (sym c.remove-client.ensures.value) left)),
+      subst O (sym c.in-Ok.ensures.ends.offer)
+          (subst R (sym c.remove-client.ensures.items) (subst B (sym c.remove-client.ensures.value) left)),
     )
 
 pub returns-in-Err-clause-serves : goal.returns-in-Err-clause-serves
@@ -31,7 +32,8 @@ returns-in-Err-clause-serves g c = λ h logs x v.
     let hub = c.args.hub.now in
     let d = c.remove-client.result in
     let P : ClientState × g.row.S.Denot → Type 0 = λ z. IsOpen h z.0.id in
-    let was : IsOpen h d.0.id = subst P (sym c.remove-client.ensures.value) (open_at g.S.Stream.remaining g.S.Stream.contents hub.0.offer h c.args.clients.now.items logs c.args.at d c.requires v) in
+    let was : IsOpen h d.0.id = subst P (sym c.remove-client.ensures.value) (open_at g.S.Stream.remaining g.S.Stream.contents
+    hub.0.offer h c.args.clients.now.items logs c.args.at d c.requires v) in
     let Q : ℕ → Type 0 = λ z. IsOpen h z in
     let S : Option State → Type 0 = λ z. Stands h c.id.result z in
     absurd ((subst S c.in-Err.ensures.unknown (x.sessions c.id.result)) (subst Q (sym c.id.ensures) was))

@@ -14,7 +14,8 @@ returns-clause-serves g c = λ h logs x v.
     let hub = c.args.hub.now in
     let hub' = c.turn.new.hub in
     runs_of r w (f hub'.1) hub'.0 hub.0.offer h new.0.id cs _ logs c.turn.ensures.offer
-    (put r w (f hub'.1) hub'.0 hub.0.offer h cs logs c.args.at d new c.turn.ensures.offer c.requires c.turn.ensures.same (λ read wrote s. c.turn.ensures.serves h read wrote x s) v)
+    (put r w (f hub'.1) hub'.0 hub.0.offer h cs logs c.args.at d new c.turn.ensures.offer c.requires c.turn.ensures.same
+    (λ read wrote s. c.turn.ensures.serves h read wrote x s) v)
 
 pub returns-clause-turns : goal.returns-clause-turns
 returns-clause-turns g c =

@@ -18,11 +18,17 @@ returns-in-Ended-clause-moves g c =
     let i = c.loop-done.invariant in
     let now = g.E.Export.facts c.loop-done.export in
     let offer = c.args.offer.now in
-    let P : List ℕ → Type 0 = λ x. AppendsMove (g.E.Export.facts c.args.export.now) now offer c.args.inbox.now c.loop-done.inbox x c.args.out.now.items c.loop-done.out.items in
+    let P : List ℕ → Type 0 = λ x. AppendsMove (g.E.Export.facts c.args.export.now) now offer c.args.inbox.now c.loop-done.inbox x
+    c.args.out.now.items c.loop-done.out.items in
     subst P (take-append-drop c.loop-done.done c.args.piece.now)
-    (appends_on (g.E.Export.facts c.args.export.now) now now offer c.args.inbox.now c.loop-done.inbox c.loop-done.inbox (take c.loop-done.done c.args.piece.now) (drop c.loop-done.done c.args.piece.now)
-    c.args.out.now.items c.loop-done.out.items c.loop-done.out.items i.keeps (Keeps-refl now) i.moves
-    ([], sym (append-nil c.loop-done.out.items), moves_ended now offer c.loop-done.inbox (drop c.loop-done.done c.args.piece.now) c.in-Ended.is))
+    (appends_on (g.E.Export.facts c.args.export.now) now now offer c.args.inbox.now c.loop-done.inbox c.loop-done.inbox
+    (take c.loop-done.done c.args.piece.now) (drop c.loop-done.done c.args.piece.now)
+    c.args.out.now.items c.loop-done.out.items c.loop-done.out.items i.keeps (Keeps-refl now) i.moves (
+      [],
+      sym (append-nil c.loop-done.out.items),
+      moves_ended now offer c.loop-done.inbox (drop c.loop-done.done c.args.piece.now)
+          c.in-Ended.is,
+    ))
 
 pub loop-done-preserved : goal.loop-done-preserved
 loop-done-preserved g c =
@@ -32,12 +38,14 @@ loop-done-preserved g c =
     let mid = g.E.Export.facts c.loop-done.export in
     let now = g.E.Export.facts c.turn.new.export in
     let offer = c.args.offer.now in
-    let P : List ℕ → Type 0 = λ x. AppendsMove first now offer c.args.inbox.now c.turn.new.inbox x c.args.out.now.items c.turn.new.out.items in
+    let P : List ℕ → Type 0 = λ x. AppendsMove first now offer c.args.inbox.now c.turn.new.inbox x c.args.out.now.items
+    c.turn.new.out.items in
     record {
       within = grind (arith, common_steps);
       keeps = Keeps-trans first mid now i.keeps e.keeps;
       later = g.met.E.Export.later_on c.args.export.now c.loop-done.export c.turn.new.export i.later e.later;
       form = e.form;
       moves = subst P (next_bytes c.args.piece.now c.loop-done.done c.in_ok-done.field-0)
-          (appends_on first mid now offer c.args.inbox.now c.loop-done.inbox c.turn.new.inbox _ _ c.args.out.now.items c.loop-done.out.items c.turn.new.out.items i.keeps e.keeps i.moves e.moves);
+          (appends_on first mid now offer c.args.inbox.now c.loop-done.inbox c.turn.new.inbox _ _ c.args.out.now.items
+          c.loop-done.out.items c.turn.new.out.items i.keeps e.keeps i.moves e.moves);
     }

@@ -4,5 +4,9 @@ use Rattle.nbd_session.proofs.Reading.{disc_says}
 use Rattle.nbd_session.proofs.transmission.answer_request.Goals as goal
 
 pub returns-in-2-clause-ok : goal.returns-in-2-clause-ok
-returns-in-2-clause-ok g c =
-    ([], sym (append-nil c.args.out.now.items), disc_says _ _ c.args.size c.of-request.result (request_of c.args.header.now) c.of-request.ensures c.in-2.is refl)
+returns-in-2-clause-ok g c = (
+  [],
+  sym (append-nil c.args.out.now.items),
+  disc_says _ _ c.args.size c.of-request.result (request_of c.args.header.now)
+      c.of-request.ensures c.in-2.is refl,
+)

@@ -15,7 +15,8 @@ overflow_add-level c = let few = low_level c.args.per_block c.args.level c.requi
 
 pub pow-requires : goal.pow-requires
 pow-requires c =
-    let wide : c.args.per_block ^ c.args.level * c.args.per_block ≤ c.args.per_block ^ c.args.level * 2 ^ 14 = mul-le-mul_left (c.args.per_block ^ c.args.level) c.requires.narrow in
+    let wide : c.args.per_block ^ c.args.level * c.args.per_block ≤ c.args.per_block ^ c.args.level * 2 ^ 14 =
+    mul-le-mul_left (c.args.per_block ^ c.args.level) c.requires.narrow in
     rw pow_more (omega arith)
 
 pub returns-clause-some : goal.returns-clause-some

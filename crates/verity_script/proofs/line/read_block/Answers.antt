@@ -9,7 +9,8 @@ pub returns-in-Some : goal.returns-in-Some
 returns-in-Some c =
     let pair = c.in-Some.field-0 in
     let cut = cut-fields c.args.rest.now c.split_once.result pair c.split_once.ensures.cases c.in-Some.is in
-    sym (ap (λ ws. asked_of (c.args.word.now ∷ c.args.place.now ∷ ws)) cut ∙ too_many c.args.word.now c.args.place.now pair.0.now pair.1.now)
+    sym (ap (λ ws. asked_of (c.args.word.now ∷ c.args.place.now ∷ ws)) cut ∙ too_many c.args.word.now c.args.place.now pair.0.now
+    pair.1.now)
 
 pub returns-in-None : goal.returns-in-None
 returns-in-None c =

@@ -9,10 +9,26 @@ use Rattle.verity_superblock.proofs.line.read_fields.Goals as goal
 
 pub returns-clause-fields : goal.returns-clause-fields
 returns-clause-fields c =
-    let ten = and_parts (length (fields_of c.args.text.now) == 10) (list_all (λ (f : List ℕ). nat_lt 0 (length f)) (fields_of c.args.text.now)) (sym c.ten_fields.ensures ∙ c.if-not-ten_fields.false) in
+    let ten = and_parts (length (fields_of c.args.text.now) == 10)
+    (list_all (λ (f : List ℕ). nat_lt 0 (length f)) (fields_of c.args.text.now)) (sym c.ten_fields.ensures
+    ∙ c.if-not-ten_fields.false) in
     let whole : length (fields_of c.args.text.now) ≡ 10 = eqb-true (length (fields_of c.args.text.now)) 10 ten.0 in
-    let version : c.cut.result.0.now ≡ codes "1" = same_text c.cut.result.0.now (codes "1") (sym (not-false (pointwise nat_eq c.cut.result.0.now (codes "1")) (sym c.if-ne.ensures))) in
-    let last : length (fields_of c.cut-9.result.1.now) ≡ 1 = omega (arith, c.cut.ensures.fewer, c.cut-2.ensures.fewer, c.cut-3.ensures.fewer, c.cut-4.ensures.fewer, c.cut-5.ensures.fewer, c.cut-6.ensures.fewer, c.cut-7.ensures.fewer, c.cut-8.ensures.fewer, c.cut-9.ensures.fewer) in
+    let version : c.cut.result.0.now ≡ codes "1" =
+    same_text c.cut.result.0.now (codes "1")
+    (sym (not-false (pointwise nat_eq c.cut.result.0.now (codes "1")) (sym c.if-ne.ensures))) in
+    let last : length (fields_of c.cut-9.result.1.now) ≡ 1 =
+    omega (
+      arith,
+      c.cut.ensures.fewer,
+      c.cut-2.ensures.fewer,
+      c.cut-3.ensures.fewer,
+      c.cut-4.ensures.fewer,
+      c.cut-5.ensures.fewer,
+      c.cut-6.ensures.fewer,
+      c.cut-7.ensures.fewer,
+      c.cut-8.ensures.fewer,
+      c.cut-9.ensures.fewer,
+    ) in
     c.cut.ensures.fields ∙ ap (λ v. v ∷ fields_of c.cut.result.1.now) version
     ∙ ap (λ fs. codes "1" ∷ fs) (c.cut-2.ensures.fields
     ∙ ap (λ fs. c.cut-2.result.0.now ∷ fs) (c.cut-3.ensures.fields

@@ -44,11 +44,13 @@ returns-clause-ends g c =
       count = omega (arith, ap length c.remove-ended.ensures.items, length-remove_at c.args.id ns c.in-Some.at p, ap length v);
       session = (get_or ns c.in-Some.at d).session;
       found = ap (lookup c.args.id) (sym v) ∙ lookup-at c.args.id ns c.in-Some.at d p;
-      sets = λ j. ap (lookup j) c.remove-ended.ensures.items ∙ lookup-remove c.args.id 0 ns h.next c.in-Some.at c.self.invariant.rising p j ∙ ap (F j) v;
+      sets = λ j. ap (lookup j) c.remove-ended.ensures.items ∙ lookup-remove c.args.id 0 ns h.next c.in-Some.at
+          c.self.invariant.rising p j ∙ ap (F j) v;
     }
 
 pub returns-clause-after : goal.returns-clause-after
 returns-clause-after g c =
     let f = g.E.Export.facts in
-    λ history x. after_ended (f c.args.self.now.1) (f c.self.inside.export) c.args.self.now.0 _ history c.args.id (keeps_at f c.args.self.now.1 c.self.inside.export (ap (λ p. p.1) (sym c.self.view_is)))
+    λ history x. after_ended (f c.args.self.now.1) (f c.self.inside.export) c.args.self.now.0 _ history c.args.id
+    (keeps_at f c.args.self.now.1 c.self.inside.export (ap (λ p. p.1) (sym c.self.view_is)))
     (returns-clause-ends g c) x

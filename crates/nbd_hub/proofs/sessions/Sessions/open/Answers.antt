@@ -1,4 +1,5 @@
-use Rattle.std.proofs.Common.{◌≡◌, ◌+◌, ℕ, nat_eq, if◌then◌else◌, List, [], ◌∷◌, ◌++◌, Some, length, refl, sym, ap, ◌∙◌, subst, arith, length-append}
+use Rattle.std.proofs.Common.{◌≡◌, ◌+◌, ℕ, nat_eq, if◌then◌else◌, List, [], ◌∷◌, ◌++◌, Some, length, refl, sym, ap, ◌∙◌, subst}
+use Rattle.std.proofs.Common.{arith, length-append}
 use Rattle.nbd_session.specs.declared.offer.Offer.{Offer}
 use Rattle.nbd_hub.specs.Sessions.{Entry, IsSound, lookup}
 use Rattle.nbd_hub.proofs.Lookup.{lookup-push, Rising-push, AllOffer-push}
@@ -11,7 +12,8 @@ invariant_of-self-in-Ok-push g c =
     let ns = h.open.items in
     let x : Entry = record { number = h.next; session = c.in-Ok.session } in
     let i = c.self.invariant in
-    let e : c.push.new.self.items ≡ ns ++ x ∷ [] = c.in-Ok-push.ensures.items ∙ ap (λ (n : Entry). c.reserve.new.self.items ++ n ∷ []) c.new.ensures ∙ ap (λ l. l ++ x ∷ []) c.reserve.ensures.items in
+    let e : c.push.new.self.items ≡ ns ++ x ∷ [] = c.in-Ok-push.ensures.items
+    ∙ ap (λ (n : Entry). c.reserve.new.self.items ++ n ∷ []) c.new.ensures ∙ ap (λ l. l ++ x ∷ []) c.reserve.ensures.items in
     let O : List ℕ → Offer = λ m. record { name = m; size = h.offer.size; block = h.offer.block } in
     let o : c.in-Ok.session.offer ≡ h.offer = c.in-Ok.ensures.offer ∙ ap O c.copied-name.ensures in
     let P : List Entry → Type 0 = λ l. IsSound h.offer (g.E.Export.facts h.export).size (g.E.Export.facts h.export).block (h.next + 1) l in
@@ -30,7 +32,8 @@ returns-in-Ok-push-clause-opens g c =
     let ns = h.open.items in
     let x : Entry = record { number = h.next; session = c.in-Ok.session } in
     let i = c.self.invariant in
-    let e : c.push.new.self.items ≡ ns ++ x ∷ [] = c.in-Ok-push.ensures.items ∙ ap (λ (n : Entry). c.reserve.new.self.items ++ n ∷ []) c.new.ensures ∙ ap (λ l. l ++ x ∷ []) c.reserve.ensures.items in
+    let e : c.push.new.self.items ≡ ns ++ x ∷ [] = c.in-Ok-push.ensures.items
+    ∙ ap (λ (n : Entry). c.reserve.new.self.items ++ n ∷ []) c.new.ensures ∙ ap (λ l. l ++ x ∷ []) c.reserve.ensures.items in
     let O : List ℕ → Offer = λ m. record { name = m; size = h.offer.size; block = h.offer.block } in
     let o : c.in-Ok.session.offer ≡ h.offer = c.in-Ok.ensures.offer ∙ ap O c.copied-name.ensures in
     let H = c.args.self.now.0 in
@@ -49,11 +52,13 @@ returns-in-Ok-push-clause-opens g c =
       at = c.in-Ok.ensures.at;
       awake = c.in-Ok.ensures.begins.1;
       offers = o ∙ w;
-      sets = λ j. ap (lookup j) e ∙ lookup-push 0 ns h.next x i.rising refl j ∙ ap (λ l. if nat_eq j h.next then Some c.in-Ok.session else lookup j l) v;
+      sets = λ j. ap (lookup j) e ∙ lookup-push 0 ns h.next x i.rising refl j
+          ∙ ap (λ l. if nat_eq j h.next then Some c.in-Ok.session else lookup j l) v;
     }
 
 pub returns-in-Ok-push-clause-after : goal.returns-in-Ok-push-clause-after
 returns-in-Ok-push-clause-after g c =
     let f = g.E.Export.facts in
-    λ history x. after_opened (f c.args.self.now.1) (f c.self.inside.export) c.args.self.now.0 _ history c.self.inside.next (keeps_at f c.args.self.now.1 c.self.inside.export (ap (λ p. p.1) (sym c.self.view_is)))
+    λ history x. after_opened (f c.args.self.now.1) (f c.self.inside.export) c.args.self.now.0 _ history c.self.inside.next
+    (keeps_at f c.args.self.now.1 c.self.inside.export (ap (λ p. p.1) (sym c.self.view_is)))
     (returns-in-Ok-push-clause-opens g c) x

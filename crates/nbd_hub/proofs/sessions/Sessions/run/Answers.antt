@@ -1,4 +1,5 @@
-use Rattle.std.proofs.Common.{◌≡◌, ◌<◌, ◌++◌, length, List, [], ◌∷◌, ℕ, refl, ap, sym, ◌∙◌, subst, arith, append_assoc, append-nil, length-append, get_or}
+use Rattle.std.proofs.Common.{◌≡◌, ◌<◌, ◌++◌, length, List, [], ◌∷◌, ℕ, refl, ap, sym, ◌∙◌, subst, arith, append_assoc, append-nil}
+use Rattle.std.proofs.Common.{length-append, get_or}
 use Rattle.nbd_hub.specs.declared.events.HubReply.{HubReply}
 use Rattle.nbd_session.proofs.Moving.{Keeps-refl, Keeps-trans}
 use Rattle.nbd_hub.specs.History.{Step}
@@ -43,7 +44,8 @@ loop-event-preserved g c =
         r.0 ++ one,
         c.in-Ok.ensures.items ∙ ap (λ x. x ++ one) (c.reserve.ensures.items ∙ r.1) ∙ append_assoc c.args.replies.now.items r.0 one,
         omega (arith, length-append r.0 one, n),
-        λ history x. ran_on (f c.loop-event.self.1) (f a.new.self.1) c.args.self.now.0.offer c.loop-event.self.0 a.new.self.0 history events r.0 c.event-item.result a.result
+        λ history x. ran_on (f c.loop-event.self.1) (f a.new.self.1) c.args.self.now.0.offer c.loop-event.self.0 a.new.self.0
+            history events r.0 c.event-item.result a.result
             a.ensures.keeps i.offer a.ensures.offer l is (r.3 history x) a.ensures.replies a.ensures.after,
       );
     }

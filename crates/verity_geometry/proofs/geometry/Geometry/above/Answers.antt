@@ -12,7 +12,8 @@ pub returns-clause-value : goal.returns-clause-value
 returns-clause-value c =
     let s = c.args.self.now in
     let at : c.args.level + 1 ≡ suc c.args.level = omega arith in
-    ap (λ w. c.args.n / w) (c.blocks_below-span.ensures.value ∙ ap (λ k. k ^ (c.args.level + 1)) c.per_block.ensures.value ∙ ap (λ e. digests_per_block s ^ e) at)
+    ap (λ w. c.args.n / w) (c.blocks_below-span.ensures.value ∙ ap (λ k. k ^ (c.args.level + 1)) c.per_block.ensures.value
+    ∙ ap (λ e. digests_per_block s ^ e) at)
 
 pub returns-clause-within : goal.returns-clause-within
 returns-clause-within c =

@@ -13,16 +13,20 @@ overflow_add-blocks c =
     let level : ℕ = c.loop-level.level in
     let ok : IsShape s = subst IsShape c.self.view_is c.self.invariant in
     let same : first + (level - first) ≡ level = omega arith in
-    let more : blocks_of_levels k s.blocks first (level - first + 1) ≡ blocks_of_levels k s.blocks first (level - first) + level_len k s.blocks level =
-    blocks_of_levels-more k s.blocks first (level - first) ∙ ap (λ l. blocks_of_levels k s.blocks first (level - first) + level_len k s.blocks l) same in
-    let most : blocks_of_levels k s.blocks first (level - first + 1) ≤ s.blocks = part_most k s.blocks first (level - first + 1) (wide s ok) (omega arith) in
+    let more : blocks_of_levels k s.blocks first (level - first + 1) ≡ blocks_of_levels k s.blocks first (level - first) + level_len
+    k s.blocks level =
+    blocks_of_levels-more k s.blocks first (level - first)
+    ∙ ap (λ l. blocks_of_levels k s.blocks first (level - first) + level_len k s.blocks l) same in
+    let most : blocks_of_levels k s.blocks first (level - first + 1) ≤ s.blocks =
+    part_most k s.blocks first (level - first + 1) (wide s ok) (omega arith) in
     omega (arith, few s ok, c.loop-level.invariant, c.level_len-blocks.ensures.value)
 
 pub loop-level-init : goal.loop-level-init
 loop-level-init c =
     let s = c.args.self.now in
     let none : c.args.first - c.args.first ≡ 0 = omega arith in
-    sym (ap (λ n. blocks_of_levels (digests_per_block s) s.blocks c.args.first n) none ∙ blocks_of_levels-none (digests_per_block s) s.blocks c.args.first)
+    sym (ap (λ n. blocks_of_levels (digests_per_block s) s.blocks c.args.first n) none
+    ∙ blocks_of_levels-none (digests_per_block s) s.blocks c.args.first)
 
 pub loop-level-preserved : goal.loop-level-preserved
 loop-level-preserved c =
@@ -33,6 +37,7 @@ loop-level-preserved c =
     let same : first + (level - first) ≡ level = omega arith in
     let next : level - first + 1 ≡ level + 1 - first = omega arith in
     ap (λ n. n + c.level_len-blocks.result) c.loop-level.invariant
-    ∙ ap (λ n. blocks_of_levels k s.blocks first (level - first) + n) (c.level_len-blocks.ensures.value ∙ ap (λ l. level_len k s.blocks l) (sym same))
+    ∙ ap (λ n. blocks_of_levels k s.blocks first (level - first) + n) (c.level_len-blocks.ensures.value
+    ∙ ap (λ l. level_len k s.blocks l) (sym same))
     ∙ sym (blocks_of_levels-more k s.blocks first (level - first))
     ∙ ap (λ n. blocks_of_levels k s.blocks first n) next

@@ -16,4 +16,5 @@ returns-clause-value c =
     let at : c.args.level + 1 ≡ suc c.args.level = omega arith in
     c.div_ceil.ensures
     ∙ ap (λ n. div_ceil n c.blocks_below.result) c.blocks-blocks.ensures.value
-    ∙ ap (λ w. div_ceil s.blocks w) (c.blocks_below.ensures.value ∙ ap (λ k. k ^ (c.args.level + 1)) c.per_block.ensures.value ∙ ap (λ e. digests_per_block s ^ e) at)
+    ∙ ap (λ w. div_ceil s.blocks w) (c.blocks_below.ensures.value ∙ ap (λ k. k ^ (c.args.level + 1)) c.per_block.ensures.value
+    ∙ ap (λ e. digests_per_block s ^ e) at)

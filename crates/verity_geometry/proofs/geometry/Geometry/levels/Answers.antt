@@ -14,4 +14,5 @@ pub returns-clause-most : goal.returns-clause-most
 returns-clause-most c = let most = levels_few c.args.self.now c.per_block.ensures.shaped in omega (arith, returns-clause-value c)
 
 pub returns-clause-most_sha256 : goal.returns-clause-most_sha256
-returns-clause-most_sha256 c e = let most = levels_few_sha256 c.args.self.now c.per_block.ensures.shaped e in omega (arith, returns-clause-value c)
+returns-clause-most_sha256 c e = let most = levels_few_sha256 c.args.self.now c.per_block.ensures.shaped e in
+    omega (arith, returns-clause-value c)

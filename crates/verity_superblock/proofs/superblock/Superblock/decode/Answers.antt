@@ -14,7 +14,8 @@ returns-in_err-algorithm-clause-refused g c =
 
 pub returns-in_err-sizes-clause-refused : goal.returns-in_err-sizes-clause-refused
 returns-in_err-sizes-clause-refused g c =
-    rw (refusal-size c.args.bytes.now c.if-bytes-lt512.false c.in_ok-algorithm.ensures.refused ∙ sym c.in_err-sizes.ensures.refused) (search rules)
+    rw (refusal-size c.args.bytes.now c.if-bytes-lt512.false c.in_ok-algorithm.ensures.refused ∙ sym c.in_err-sizes.ensures.refused)
+    (search rules)
 
 pub returns-in_default-clause-refused : goal.returns-in_default-clause-refused
 returns-in_default-clause-refused g c =
@@ -45,7 +46,9 @@ returns-clause-reads g c =
       data_size = sym c.in_ok-sizes.ensures.data_size;
       hash_size = sym c.in_ok-sizes.ensures.hash_size;
       count = sym c.in_ok-sizes.ensures.count;
-      salt_size = sym c.in_ok-sizes.ensures.salt_size ∙ sym (ap length c.in-Ok.ensures.value ∙ length-within c.args.bytes.now 88 c.in_ok-sizes.sizes.salt_size (omega (arith, c.in_ok-sizes.ensures.short_salt)));
+      salt_size = sym c.in_ok-sizes.ensures.salt_size
+          ∙ sym (ap length c.in-Ok.ensures.value ∙ length-within c.args.bytes.now 88 c.in_ok-sizes.sizes.salt_size
+          (omega (arith, c.in_ok-sizes.ensures.short_salt)));
       salt = ap (λ n. slice_range c.args.bytes.now 88 (88 + n)) (sym c.in_ok-sizes.ensures.salt_size) ∙ sym c.in-Ok.ensures.value;
     }
 
@@ -54,4 +57,5 @@ returns-clause-profile g c = invariant_of-result g c
 
 pub returns-clause-refused : goal.returns-clause-refused
 returns-clause-refused g c =
-    rw (refusal-size c.args.bytes.now c.if-bytes-lt512.false c.in_ok-algorithm.ensures.refused ∙ sym c.in_ok-sizes.ensures.refused) (search rules)
+    rw (refusal-size c.args.bytes.now c.if-bytes-lt512.false c.in_ok-algorithm.ensures.refused ∙ sym c.in_ok-sizes.ensures.refused)
+    (search rules)

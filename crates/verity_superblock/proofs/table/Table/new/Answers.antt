@@ -9,7 +9,8 @@ use Rattle.verity_superblock.proofs.table.Table.new.Goals as goal
 
 pub invariant_of-result : goal.invariant_of-result
 invariant_of-result g c =
-    let fit = values_refusal-none c.args.dev.now c.args.hash_dev.now c.args.data_size c.args.hash_size c.args.blocks c.args.start c.in_ok-check_values.ensures in
+    let fit = values_refusal-none c.args.dev.now c.args.hash_dev.now c.args.data_size c.args.hash_size c.args.blocks c.args.start
+    c.in_ok-check_values.ensures in
     record {
       dev = ap is_path c.in-Ok.ensures.ok ∙ fit.paths.0;
       hash_dev = ap is_path c.in-Ok-from_str.ensures.ok ∙ fit.paths.1;
@@ -17,7 +18,8 @@ invariant_of-result g c =
       hash_size = fit.sizes.1;
       count = fit.count;
       start = fit.near;
-      digest = c.algorithm-sized.ensures ∙ ap size_of (sym (algorithm_of-sized c.algorithm-sized.result c.args.root c.algorithm-sized.ensures));
+      digest = c.algorithm-sized.ensures ∙ ap size_of
+          (sym (algorithm_of-sized c.algorithm-sized.result c.args.root c.algorithm-sized.ensures));
       digest_bytes = subst (λ (bytes : List ℕ). IsBytes bytes) c.bytes.ensures c.are_bytes.ensures;
       short_salt = omega (arith, ap length c.bytes-2.ensures.value, c.bytes-2.ensures.most);
       salt_bytes = subst (λ (bytes : List ℕ). IsBytes bytes) c.bytes-2.ensures.value c.are_bytes-2.ensures;
