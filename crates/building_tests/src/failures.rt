@@ -3,9 +3,10 @@ use crate::whole::{build_now, compare_now, whole};
 use std::alloc::Global;
 use std::process::Abort;
 use std::test::Fail;
+use test_stores::FailStore;
 use test_volumes::{Volume, copy};
 use verity_build::{BuildFault, Compared};
-use verity_store::{BlockStore, FailStore, MemStore, Which};
+use verity_store::{BlockStore, MemStore, Which};
 
 // Whether a build at which no call fails gives the volume.
 fn is_built<D: BlockStore + Drop>(

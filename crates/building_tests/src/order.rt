@@ -1,9 +1,10 @@
 //! In which order a build writes.
 use crate::volumes::{numbered, params};
 use std::test::Fail;
+use test_stores::FailStore;
 use verity_build::{BuildFault, build, compare};
 use verity_digest::Algorithm;
-use verity_store::{FailStore, MemStore, Which};
+use verity_store::{MemStore, Which};
 
 #[test]
 fn full_blocks_are_written_at_once(rt: HostRuntime) -> Result<(), Fail> {

@@ -3,9 +3,10 @@ use crate::volumes::*;
 use std::alloc::Global;
 use std::process::Abort;
 use std::test::Fail;
+use test_stores::FailStore;
 use verity_check::{CheckFault, Place, Verdict, Verifier};
 use verity_digest::Algorithm;
-use verity_store::{BlockStore, FailStore, MemStore, Which};
+use verity_store::{BlockStore, MemStore, Which};
 
 // A verifier of 17 data blocks whose data store fails at this call.
 fn failing_data(alloc: Global, call: u64) -> Result<Verifier<FailStore<MemStore>, MemStore>, Fail> {

@@ -3,9 +3,10 @@ use crate::volumes::*;
 use std::alloc::Global;
 use std::process::Abort;
 use std::test::Fail;
+use test_stores::{Answer, ScriptStore};
 use verity_check::{CheckFault, Place};
 use verity_digest::Algorithm;
-use verity_store::{Answer, Block, ScriptStore};
+use verity_store::Block;
 
 // A store that gives blocks filled with these bytes, in turn.
 fn fills(alloc: Global, bytes: [u8; 3]) -> Result<ScriptStore, Fail> {

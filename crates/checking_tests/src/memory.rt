@@ -5,9 +5,10 @@ use linked_list_allocator::LocalHeap;
 use std::alloc::{Allocator, Global};
 use std::process::Abort;
 use std::test::Fail;
+use test_stores::FailStore;
 use test_volumes::{STEP, Volume, copy};
 use verity_check::{CheckFault, Verifier};
-use verity_store::{BlockStore, FailStore};
+use verity_store::BlockStore;
 
 // How a verifier over a heap with little room came out.
 #[derive(Clone, Copy, Debug, PartialEq, Eq)]

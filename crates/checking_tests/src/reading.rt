@@ -3,9 +3,10 @@ use crate::volumes::*;
 use std::alloc::Global;
 use std::process::Abort;
 use std::test::Fail;
+use test_stores::FailStore;
 use verity_check::{CheckFault, Place, Verdict, Verifier};
 use verity_digest::{Algorithm, Digest};
-use verity_store::{FailStore, MemStore, Which};
+use verity_store::{MemStore, Which};
 
 #[test]
 fn a_sound_volume_is_served(rt: HostRuntime) -> Result<(), Fail> {

@@ -3,9 +3,10 @@
 use crate::volumes::*;
 use std::alloc::Global;
 use std::test::Fail;
+use test_stores::FailStore;
 use test_volumes::{Volume, image, make_volume};
 use verity_edit::Editor;
-use verity_store::{FailStore, MemStore};
+use verity_store::MemStore;
 
 // The stores of a volume after a block that was added and written, over a data store that fails every read after `open`.
 // None where the commit was refused, or hashed more than the block, its level-0 block and the top.

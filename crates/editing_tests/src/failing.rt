@@ -4,10 +4,11 @@ use crate::volumes::*;
 use std::alloc::Global;
 use std::process::Abort;
 use std::test::Fail;
+use test_stores::FailStore;
 use test_volumes::{Volume, make_volume, params};
 use verity_build::build;
 use verity_edit::{EditFault, Editor};
-use verity_store::{FailStore, MemStore, Which};
+use verity_store::{MemStore, Which};
 
 type Failing = FailStore<MemStore>;
 

@@ -4,8 +4,8 @@ use crate::clients::*;
 use crate::volumes::*;
 use std::alloc::Global;
 use std::test::Fail;
+use test_stores::FailStore;
 use test_volumes::image;
-use verity_store::FailStore;
 
 /// Two READs one after the other: the blocks 4 to 6, and 14 to 16.
 const RANGES: [(u64, u32); 2] = [(2048, 1536), (7168, 1536)];

@@ -5,9 +5,10 @@ use crate::clients::*;
 use crate::volumes::*;
 use std::alloc::{AllocError, Global};
 use std::test::Fail;
+use test_stores::{Answer, ScriptStore};
 use test_volumes::image;
 use verity_hub::{Event, Hub};
-use verity_store::{Answer, Block, BlockStore, ScriptStore};
+use verity_store::{Block, BlockStore};
 
 /// What a store gives for its reads, in turn: the block of this number of those that it has to give, or a fault.
 pub type Script = &'static [Option<usize>];

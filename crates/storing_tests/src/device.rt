@@ -3,7 +3,8 @@ ghost use Rattle.std.specs.Prelude.{◌≡◌, Some};
 
 use std::io;
 use std::io::ErrorKind;
-use verity_store::{MemFile, RawFile};
+use test_stores::MemFile;
+use verity_store::RawFile;
 
 /// A file in memory that neither grows nor shrinks.
 #[derive(Drop)]

@@ -2,10 +2,8 @@
 ghost use Rattle.verity_store.specs.Stores.{IsOnlyRead};
 
 use std::test::Fail;
-use verity_store::{
-    Answer, Block, BlockStore, FailStore, FileStore, MemFile, MemStore, ScriptStore, StoreFault,
-    Which, move_run,
-};
+use test_stores::{Answer, FailStore, MemFile, ScriptStore};
+use verity_store::{Block, BlockStore, FileStore, MemStore, StoreFault, Which, move_run};
 
 /// A write is read back, a store grows by zeros and is cut, over any store of blocks of 512 bytes.
 fn keeps_what_is_written<S: BlockStore>(store: &mut S) -> bool {

@@ -49,9 +49,9 @@ chunk_at size first count j bytes given len is below =
     let same : given ≡ take (m + left) behind = is ∙ ap (λ n. take n behind) (len ∙ whole) in
     sym
     (ap (λ xs. take size (drop m xs)) same
-      ∙ ap (take size) (drop-take m left behind)
-      ∙ take-take size left (drop m behind) (omega (arith, room))
-      ∙ ap (take size) (drop-drop m (first * size) bytes ∙ ap (λ n. drop n bytes) place))
+    ∙ ap (take size) (drop-take m left behind)
+    ∙ take-take size left (drop m behind) (omega (arith, room))
+    ∙ ap (take size) (drop-drop m (first * size) bytes ∙ ap (λ n. drop n bytes) place))
 
 -- each block of a run that is read at once
 pub file_run : (size n first count : ℕ) (known : Option (List ℕ)) (given : List ℕ) → first + count ≤ length (file_blocks size n known) → length given ≡ count * size

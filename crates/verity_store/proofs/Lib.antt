@@ -2,7 +2,6 @@ pub mod BlockLemmas
 pub mod FileLemmas
 pub mod GivenLemmas
 pub mod MoveLemmas
-pub mod ScriptLemmas
 pub mod StoreLemmas
 pub mod RunLemmas
 pub mod WindowLemmas

@@ -1,10 +1,7 @@
 pub mod Blocks
-pub mod Failing
 pub mod Given
 pub mod Moves
 pub mod RawFile
-pub mod Script
-pub mod ScriptStore
 pub mod Stores
 pub mod Texts
 pub mod Window

@@ -1,5 +1,6 @@
 //! A store in a file.
-ghost use Rattle.std.specs.Prelude.{◌≡◌, ◌≢◌, ◌+◌, ◌*◌, ◌^◌, ◌<◌, ◌≤◌, ◌%◌, ◌↔◌, ◌++◌, length, IfOk, IfErr, IfSome, OnOk, OnErr, IsOk, IsTrue, true};
+ghost use Rattle.std.specs.Prelude.{◌≡◌, ◌≢◌, ◌+◌, ◌*◌, ◌^◌, ◌<◌, ◌≤◌, ◌%◌, ◌↔◌, ◌++◌, length, true};
+ghost use Rattle.std.specs.Prelude.{IfOk, IfErr, IfSome, OnOk, OnErr, IsOk, IsTrue};
 ghost use Rattle.std.specs.List.{concat};
 ghost use Rattle.verity_profile.specs.Profile.{IsBlockSize};
 ghost use Rattle.verity_store.specs.Given.{run_of};
@@ -77,7 +78,8 @@ impl<F: RawFile> FileStore<F> {
         ensures size { IfOk result (λ s. ⟦<FileStore<F> as BlockStore>⟧.size s ≡ size) }
         ensures tells { IfOk result (λ s. ⟦<FileStore<F> as BlockStore>⟧.tells s ≡ is_known (F.bytes file)) }
         ensures wrong_size { (result ≡ Err StoreFault.BlockSize) ↔ ¬ IsBlockSize size }
-        ensures ragged { IfSome (F.bytes file) (λ bytes. (result ≡ Err StoreFault.Ragged) ↔ (IsBlockSize size × (length bytes % size ≢ 0))) }
+        ensures ragged { IfSome (F.bytes file) (λ bytes. (result ≡ Err StoreFault.Ragged)
+            ↔ (IsBlockSize size × (length bytes % size ≢ 0))) }
         ensures succeeds { IfSome (F.bytes file) (λ bytes. IsBlockSize size → length bytes % size ≡ 0 → IsOk result) }
         ensures memory { result ≢ Err StoreFault.NoMemory }
     {
@@ -262,7 +264,8 @@ impl<F: RawFile> BlockStore for FileStore<F> {
         ensures unfailed { OnOk result (self.new.failed.steps ≡ self.old.failed.steps) }
         ensures failures { self.old.failed.steps ≤ self.new.failed.steps }
         ensures reads { self.new.read_count.steps ≡ self.old.read_count.steps }
-        ensures content { file_blocks self.new.size self.new.blocks (F.bytes self.new.file) ≡ file_blocks self.old.size self.old.blocks (F.bytes self.old.file) }
+        ensures content { file_blocks self.new.size self.new.blocks (F.bytes self.new.file)
+            ≡ file_blocks self.old.size self.old.blocks (F.bytes self.old.file) }
         ensures given { self.new.given.blocks ≡ self.old.given.blocks }
         ensures tells { is_known (F.bytes self.new.file) ≡ is_known (F.bytes self.old.file) }
         ensures size { self.new.size ≡ self.old.size }

@@ -9,39 +9,29 @@
 //!
 //! Its faults are S1 to S4 (`StoreFault`). A call answers S1 only where `failures` rose in it.
 //!
-//! Four stores: `MemStore` in memory and `FileStore` in a file, which are honest; `ScriptStore`, which gives what it was told to
-//! give, and `FailStore`, some of whose calls fail, which are for whoever wants to see what a layer above makes of them. A `Window`
-//! is a file for a `FileStore`: the first bytes of one that doesn't grow, as of a block device.
+//! Two stores, which are honest: `MemStore` in memory and `FileStore` in a file. A `Window` is a file for a `FileStore`: the first
+//! bytes of one that doesn't grow, as of a block device. Stores that fail or lie, for tests, are those of `test_stores`.
 //! `move_run` moves a run of blocks within any store.
 //!
 //! Definitions: `specs/Blocks.antt` (lists of blocks), `specs/Moves.antt` (runs that are moved), `specs/Given.antt` (lists of
-//! given blocks, and runs of them), `specs/Stores.antt` (what calls leave of a store's facts), `specs/Script.antt` and `specs/Failing.antt`
-//! (those two stores), `specs/RawFile.antt` (the bytes of a file), `specs/Window.antt` (its first bytes), `specs/Texts.antt`
-//! (the texts).
+//! given blocks, and runs of them), `specs/Stores.antt` (what calls leave of a store's facts), `specs/RawFile.antt` (the bytes of
+//! a file), `specs/Window.antt` (its first bytes), `specs/Texts.antt` (the texts).
 #![tactic(auto)]
 
-mod answer;
 mod block;
-mod fail;
 mod fault;
 mod file;
-mod mem_file;
 mod memory;
 mod moves;
 mod raw_file;
-mod script;
 mod store;
 mod window;
 
-pub use answer::Answer;
 pub use block::Block;
-pub use fail::FailStore;
 pub use fault::{StoreFault, Which};
 pub use file::FileStore;
-pub use mem_file::MemFile;
 pub use memory::MemStore;
 pub use moves::move_run;
 pub use raw_file::RawFile;
-pub use script::ScriptStore;
 pub use store::BlockStore;
 pub use window::Window;

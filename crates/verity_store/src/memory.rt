@@ -1,5 +1,6 @@
 //! A store in memory.
-ghost use Rattle.std.specs.Prelude.{◌≡◌, ◌≢◌, ℕ, ◌+◌, ◌*◌, ◌/◌, ◌^◌, ◌<◌, ◌≤◌, ◌++◌, ◌↔◌, Bool, true, List, length, take, drop, replicate, vec_len, vec_capacity, IfOk, IfErr, OnOk, IsTrue, IsOk, ◌%◌};
+ghost use Rattle.std.specs.Prelude.{◌≡◌, ◌≢◌, ℕ, ◌+◌, ◌*◌, ◌/◌, ◌%◌, ◌^◌, ◌<◌, ◌≤◌, ◌++◌, ◌↔◌, Bool, true, IfOk, IfErr, OnOk, IsTrue, IsOk};
+ghost use Rattle.std.specs.Prelude.{List, length, take, drop, replicate, vec_len, vec_capacity};
 ghost use Rattle.std.specs.List.{concat};
 ghost use Rattle.verity_profile.specs.Profile.{IsBlockSize, zero_block};
 ghost use Rattle.verity_store.specs.Blocks.{cut};
@@ -22,7 +23,7 @@ pub struct MemStore<A: Allocator = Global> {
     ghost whole: { vec_len bytes ≡ blocks * size },
 }
 
-pub(crate) fn get(bytes: &[u8], at: usize, out: &mut [u8])
+fn get(bytes: &[u8], at: usize, out: &mut [u8])
     requires { at + length out.old ≤ length bytes.now }
     ensures { out.new ≡ take (length out.old) (drop at bytes.now) }
 {
@@ -30,7 +31,7 @@ pub(crate) fn get(bytes: &[u8], at: usize, out: &mut [u8])
     out.copy_from_slice(&bytes[at..end]);
 }
 
-pub(crate) fn put<A: Allocator>(bytes: &mut Vec<u8, A>, at: usize, block: &[u8])
+fn put<A: Allocator>(bytes: &mut Vec<u8, A>, at: usize, block: &[u8])
     requires { at + length block.now ≤ vec_len bytes.old }
     ensures items { bytes.new.items ≡ take at bytes.old.items ++ (block.now ++ drop (at + length block.now) bytes.old.items) }
     ensures len { vec_len bytes.new ≡ vec_len bytes.old }

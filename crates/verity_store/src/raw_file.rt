@@ -9,7 +9,7 @@ use std::os::unix::fs::FileExt;
 /// A run of bytes that is read and written at byte offsets.
 ///
 /// Of a file of the system nothing is known, and these clauses say nothing of its bytes. Over a file whose bytes are known, as
-/// a `MemFile`, they say all.
+/// one in memory, they say all.
 pub trait RawFile {
     /// The bytes of the file, where they are known.
     ghost bytes: { Self → Option (List ℕ) } = { λ _. None };

@@ -1,5 +1,6 @@
 //! What is asked of a block store.
-ghost use Rattle.std.specs.Prelude.{◌≡◌, ◌≢◌, ℕ, ◌+◌, ◌*◌, ◌^◌, ◌<◌, ◌≤◌, Bool, true, List, [], ◌∷◌, ◌++◌, length, slice_index_or, slice_set, OnOk, OnErr, IfErr};
+ghost use Rattle.std.specs.Prelude.{◌≡◌, ◌≢◌, ℕ, ◌+◌, ◌*◌, ◌^◌, ◌<◌, ◌≤◌, Bool, true, OnOk, OnErr, IfErr};
+ghost use Rattle.std.specs.Prelude.{List, [], ◌∷◌, ◌++◌, length, slice_index_or, slice_set};
 ghost use Rattle.verity_profile.specs.Profile.{IsBlockSize, AllSized};
 ghost use Rattle.std.specs.Fork.{slice_chunk};
 ghost use Rattle.verity_store.specs.Given.{GoesOn, run_of, GivesPart};

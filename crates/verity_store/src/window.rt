@@ -70,8 +70,10 @@ impl<F: RawFile> RawFile for Window<F> {
     fn write_all_at(&mut self, at: u64, block: &[u8]) -> io::Result<()>
         requires { at + length block.now ≤ known_len (first_bytes self.old.len (F.bytes self.old.file)) (at + length block.now) }
         ensures inside { OnOk result (at + length block.now ≤ self.old.len) }
-        ensures written { OnOk result (Writes (first_bytes self.old.len (F.bytes self.old.file)) (first_bytes self.new.len (F.bytes self.new.file)) at block.now) }
-        ensures failed { OnErr result (MayWrite (first_bytes self.old.len (F.bytes self.old.file)) (first_bytes self.new.len (F.bytes self.new.file)) at (length block.now)) }
+        ensures written { OnOk result (Writes
+            (first_bytes self.old.len (F.bytes self.old.file)) (first_bytes self.new.len (F.bytes self.new.file)) at block.now) }
+        ensures failed { OnErr result (MayWrite
+            (first_bytes self.old.len (F.bytes self.old.file)) (first_bytes self.new.len (F.bytes self.new.file)) at (length block.now)) }
         ensures behind { bytes_behind self.old.len (F.bytes self.new.file) ≡ bytes_behind self.old.len (F.bytes self.old.file) }
         ensures len { self.new.len ≡ self.old.len }
         ensures room { self.new.room ≡ self.old.room }
@@ -88,12 +90,15 @@ impl<F: RawFile> RawFile for Window<F> {
     /// Narrows or widens the window, and fills what it is widened by with zeros. Past the room it is refused, and nothing
     /// changes.
     fn set_byte_len(&mut self, n: u64) -> io::Result<()>
-        ensures set { OnOk result (SetsLength (first_bytes self.old.len (F.bytes self.old.file)) (first_bytes self.new.len (F.bytes self.new.file)) n) }
-        ensures failed { OnErr result (MaySetLength (first_bytes self.old.len (F.bytes self.old.file)) (first_bytes self.new.len (F.bytes self.new.file)) n) }
+        ensures set { OnOk result (SetsLength
+            (first_bytes self.old.len (F.bytes self.old.file)) (first_bytes self.new.len (F.bytes self.new.file)) n) }
+        ensures failed { OnErr result (MaySetLength
+            (first_bytes self.old.len (F.bytes self.old.file)) (first_bytes self.new.len (F.bytes self.new.file)) n) }
         ensures kept { OnErr result (first_bytes self.new.len (F.bytes self.new.file) ≡ first_bytes self.old.len (F.bytes self.old.file)) }
         ensures past { self.old.room < n → IsErr result × (F.bytes self.new.file ≡ F.bytes self.old.file) }
         ensures narrowed { n ≤ self.old.len → IsOk result × (F.bytes self.new.file ≡ F.bytes self.old.file) }
-        ensures behind { bytes_behind (max n self.old.len) (F.bytes self.new.file) ≡ bytes_behind (max n self.old.len) (F.bytes self.old.file) }
+        ensures behind { bytes_behind (max n self.old.len) (F.bytes self.new.file)
+            ≡ bytes_behind (max n self.old.len) (F.bytes self.old.file) }
         ensures len { OnOk result (self.new.len ≡ n) }
         ensures len_kept { OnErr result (self.new.len ≡ self.old.len) }
         ensures room { self.new.room ≡ self.old.room }

@@ -68,4 +68,4 @@ returns-in_err-read-clause-given_most g c =
     let S = g.Self.BlockStore in
     on_err_always c.from_residual.result _
     (run_part (S.given c.args.self.now) (S.given c.read.new.self) c.args.first (S.size c.args.self.now) c.args.count c.each.j c.each.out _ (omega arith)
-      (before g (goal.at.returns-in_err-read-clause-given_most g c).After-read) (c.in_err-read.ensures.ungiven ∙ c.each.invariant.given))
+    (before g (goal.at.returns-in_err-read-clause-given_most g c).After-read) (c.in_err-read.ensures.ungiven ∙ c.each.invariant.given))

@@ -1,7 +1,7 @@
 -- A store that gives what it was told to give.
 use Rattle.std.specs.Prelude.{◌≡◌, ℕ, ◌+◌, Option, None, Some, List, [], ◌∷◌, ◌++◌, length}
-use Rattle.verity_store.specs.declared.answer.Answer.{Answer}
-use Rattle.verity_store.specs.declared.answer.Answer.TheVariants.{Block, Fault}
+use Rattle.test_stores.specs.declared.answer.Answer.{Answer}
+use Rattle.test_stores.specs.declared.answer.Answer.TheVariants.{Block, Fault}
 
 -- the block of an answer, if it isn't a fault
 abbrev pub block_of : {A : Type 0} → Answer A → Option (List ℕ)

@@ -1,8 +1,8 @@
 use Rattle.std.proofs.Common.{◌≡◌, ℕ, List, [], sym, length, arith, rules}
 use Rattle.std.proofs.lemmas.List.Elements.{All-nil, All-same}
 use Rattle.std.proofs.lemmas.List.Sorted.{All-permutation}
-use Rattle.verity_store.specs.Script.{IsSized}
-use Rattle.verity_store.proofs.script.ScriptStore.new.Goals as goal
+use Rattle.test_stores.specs.Script.{IsSized}
+use Rattle.test_stores.proofs.script.ScriptStore.new.Goals as goal
 
 pub invariant_of-result : goal.invariant_of-result
 invariant_of-result g c =

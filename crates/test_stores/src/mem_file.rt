@@ -2,11 +2,10 @@
 ghost use Rattle.std.specs.Prelude.{◌≡◌, ◌+◌, ◌≤◌, ◌↔◌, IsTrue, IsOk, OnOk, Some, true, length, vec_len};
 ghost use Rattle.verity_store.specs.RawFile.{Reads};
 
-use crate::RawFile;
-use crate::memory::{get, put};
 use std::alloc::{Allocator, Global};
 use std::io;
 use std::io::ErrorKind;
+use verity_store::RawFile;
 
 /// A file in memory.
 #[derive(Drop)]
@@ -51,13 +50,15 @@ impl<A: Allocator> RawFile for MemFile<A> {
         if !is_within(at, out.len(), self.bytes.len()) {
             return Err(ErrorKind::UnexpectedEof.into());
         }
-        get(&self.bytes, at as usize, out);
+        let start = at as usize;
+        out.copy_from_slice(&self.bytes[start..start + out.len()]);
         Ok(())
     }
 
     fn write_all_at(&mut self, at: u64, block: &[u8]) -> io::Result<()> {
         self.synced = false;
-        put(&mut self.bytes, at as usize, block);
+        let start = at as usize;
+        self.bytes[start..start + block.len()].copy_from_slice(block);
         Ok(())
     }
 

@@ -1,8 +1,8 @@
 -- A script's store as contracts see it.
 use Rattle.std.specs.Prelude.{◌≡◌, ◌+◌, ◌≤◌, All, length, map, reverse, vec_len, vec_capacity}
 use Rattle.verity_profile.specs.Profile.{IsBlockSize}
-use Rattle.verity_store.specs.Script.{Script, block_of, IsSized}
-use Rattle.verity_store.specs.declared.script.ScriptStore.TheInside.{Inside}
+use Rattle.test_stores.specs.Script.{Script, block_of, IsSized}
+use Rattle.test_stores.specs.declared.script.ScriptStore.TheInside.{Inside}
 
 abbrev pub script_of : {A : Type 0} → Inside A → Script
 script_of s =

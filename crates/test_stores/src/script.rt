@@ -1,13 +1,14 @@
 //! A store that gives what it was told to give.
 ghost use Rattle.std.specs.Prelude.{◌≡◌, ◌≢◌, ℕ, ◌↔◌, List, [], All, Contains, map, IfOk, IsTrue};
 ghost use Rattle.verity_profile.specs.Profile.{IsBlockSize};
-ghost use Rattle.verity_store.specs.Script.{IsSized};
+ghost use Rattle.test_stores.specs.Script.{IsSized};
 
-use crate::{Answer, Block, BlockStore, StoreFault};
+use crate::Answer;
 use std::alloc::{Allocator, Global};
 use std::marker::Model;
 use verity_count::Count;
 use verity_profile::is_block_size;
+use verity_store::{Block, BlockStore, StoreFault};
 
 /// A store whose reads give a list of answers in order, whatever is asked. It does not tell.
 ///
@@ -25,11 +26,11 @@ pub struct ScriptStore<A: Allocator = Global> {
 }
 
 impl<A: Allocator> Model for ScriptStore<A> {
-    ghost use Rattle.verity_store.specs.Script.{Script};
+    ghost use Rattle.test_stores.specs.Script.{Script};
 
     ghost Value = { Script };
 
-    ghost use Rattle.verity_store.specs.ScriptStore.{script_of, IsSound};
+    ghost use Rattle.test_stores.specs.ScriptStore.{script_of, IsSound};
 
     ghost view = { script_of };
 
@@ -44,7 +45,7 @@ fn are_sized<A: Allocator>(answers: &[Answer<A>], size: usize) -> bool
 }
 
 impl<A: Allocator> ScriptStore<A> {
-    ghost use Rattle.verity_store.specs.Script.{block_of};
+    ghost use Rattle.test_stores.specs.Script.{block_of};
 
     /// A store of `blocks` blocks of `size` bytes whose reads give `answers`, the first one first. It takes memory to keep
     /// what it will give.
@@ -57,7 +58,8 @@ impl<A: Allocator> ScriptStore<A> {
         blocks: u64,
         answers: Vec<Answer<A>, A>,
     ) -> Result<ScriptStore<A>, StoreFault>
-        ensures script { IfOk result (λ s. s ≡ record { size = size; blocks = blocks; answers = map block_of answers.items; given = []; reads = 0; failures = 0 }) }
+        ensures script { IfOk result (λ s. s
+            ≡ record { size = size; blocks = blocks; answers = map block_of answers.items; given = []; reads = 0; failures = 0 }) }
         ensures wrong_size { (result ≡ Err StoreFault.BlockSize) ↔ ¬ IsBlockSize size }
         ensures ragged { (result ≡ Err StoreFault.Ragged) ↔ (IsBlockSize size × ¬ All (IsSized size) answers.items) }
         ensures device { result ≢ Err StoreFault.Device }
@@ -95,7 +97,7 @@ impl<A: Allocator> ScriptStore<A> {
 impl<A: Allocator> BlockStore for ScriptStore<A> {
     ghost use Rattle.std.specs.Prelude.{◌≡◌, ℕ, ◌^◌, List, length, replicate, Contains, false, None, Some, IsOk};
     ghost use Rattle.verity_profile.specs.Profile.{zero_block};
-    ghost use Rattle.verity_store.specs.Script.{Script, next_block, after_read, after_fault};
+    ghost use Rattle.test_stores.specs.Script.{Script, next_block, after_read, after_fault};
 
     ghost size = { λ s. s.size };
 

@@ -1,15 +1,16 @@
 //! A store that fails where it is told to.
 ghost use Rattle.std.specs.Prelude.{◌≡◌, ℕ, ◌+◌, Bool, Option, None, Some, ◌==◌};
-ghost use Rattle.verity_store.specs.Failing.{is_past};
+ghost use Rattle.test_stores.specs.Failing.{is_past};
 
-use crate::{BlockStore, StoreFault};
 use std::marker::Model;
 use verity_count::Count;
+use verity_store::{BlockStore, StoreFault};
 
 /// A store over another, some of whose calls fail with S1 and are not passed on. All other calls are passed on.
 ///
-/// The calls that are counted are reads, writes, `set_len` and `sync`, from 1 on. Its content, whether it tells, what it gave
-/// and its room are those of the store below. It takes no memory.
+/// The calls that are counted are reads, writes, `set_len` and `sync`, from 1 on; a run is read block by block, so each of its
+/// blocks is a read. Its content, whether it tells, what it gave, what it is bound to and its room are those of the store below.
+/// It takes no memory.
 #[derive(Drop)]
 pub struct FailStore<S: BlockStore> {
     store: S,
@@ -22,11 +23,19 @@ pub struct FailStore<S: BlockStore> {
 }
 
 impl<S: BlockStore> Model for FailStore<S> {
-    ghost use Rattle.verity_store.specs.Failing.{Failing};
+    ghost use Rattle.test_stores.specs.Failing.{Failing};
 
     ghost Value = { Failing S };
 
-    ghost view = { λ s. record { store = s.store; due = s.due; allowed = s.allowed; calls = s.calls; reads = s.reads; failed = s.failed.steps; refused = s.refused.steps } };
+    ghost view = { λ s. record {
+      store = s.store;
+      due = s.due;
+      allowed = s.allowed;
+      calls = s.calls;
+      reads = s.reads;
+      failed = s.failed.steps;
+      refused = s.refused.steps;
+    } };
 }
 
 // Whether the call after so many is the due one.
@@ -48,7 +57,8 @@ fn is_past(allowed: Option<u64>, reads: u64) -> bool
 
 impl<S: BlockStore> FailStore<S> {
     ghost use Rattle.std.specs.Prelude.{◌≡◌, None, Some, true, false};
-    ghost use Rattle.verity_store.specs.Failing.{failing_at, is_call_due, is_read_due, after_call, after_read, after_failed_call, after_failed_read};
+    ghost use Rattle.test_stores.specs.Failing.{failing_at, is_call_due, is_read_due};
+    ghost use Rattle.test_stores.specs.Failing.{after_call, after_read, after_failed_call, after_failed_read};
 
     /// A store whose call number `k` fails and no other; with `k` of 0, none.
     pub fn at(store: S, k: u64) -> FailStore<S>
@@ -134,11 +144,12 @@ impl<S: BlockStore> FailStore<S> {
 }
 
 impl<S: BlockStore> BlockStore for FailStore<S> {
-    ghost use Rattle.std.specs.Prelude.{◌≡◌, ◌≢◌, ℕ, ◌+◌, ◌^◌, ◌<◌, ◌≤◌, true, false, List, [], ◌∷◌, ◌++◌, length, slice_index_or, slice_set, OnOk, OnErr, IfErr};
+    ghost use Rattle.std.specs.Prelude.{◌≡◌, ◌≢◌, ℕ, ◌+◌, ◌^◌, ◌<◌, ◌≤◌, true, false, OnOk, OnErr, IfErr};
+    ghost use Rattle.std.specs.Prelude.{List, [], ◌∷◌, ◌++◌, length, slice_index_or, slice_set};
     ghost use Rattle.verity_profile.specs.Profile.{AllSized};
     ghost use Rattle.verity_store.specs.Given.{GoesOn};
     ghost use Rattle.verity_store.specs.Blocks.{resized, ResizedToward, ChangesAt};
-    ghost use Rattle.verity_store.specs.Failing.{is_call_due, is_read_due, after_call, after_read, after_failed_call, after_failed_read};
+    ghost use Rattle.test_stores.specs.Failing.{is_call_due, is_read_due, after_call, after_read, after_failed_call, after_failed_read};
 
     ghost size = { λ s. S.size s.store };
 
@@ -197,9 +208,11 @@ impl<S: BlockStore> BlockStore for FailStore<S> {
         requires sized { length block.now ≡ S.size self.old.store }
         ensures due { is_call_due self.old ≡ true → (result ≡ Err StoreFault.Device) × (self.new ≡ after_failed_call self.old) }
         ensures passed { is_call_due self.old ≡ false → self.new ≡ after_call self.old self.new.store }
-        ensures written { OnOk result (S.tells self.old.store ≡ true → S.content self.new.store ≡ slice_set (S.content self.old.store) n block.now) }
+        ensures written { OnOk result (S.tells self.old.store ≡ true
+            → S.content self.new.store ≡ slice_set (S.content self.old.store) n block.now) }
         ensures others { ChangesAt n (S.content self.old.store) (S.content self.new.store) }
-        ensures blocks { AllSized (S.size self.old.store) (S.content self.old.store) → AllSized (S.size self.old.store) (S.content self.new.store) }
+        ensures blocks { AllSized (S.size self.old.store) (S.content self.old.store)
+            → AllSized (S.size self.old.store) (S.content self.new.store) }
         ensures error { IfErr result (λ e. e ≡ StoreFault.Device) }
         ensures failed { OnErr result (S.failures self.old.store + self.old.failed < S.failures self.new.store + self.new.failed) }
         ensures unfailed { OnOk result (S.failures self.new.store + self.new.failed ≡ S.failures self.old.store + self.old.failed) }
@@ -243,10 +256,13 @@ impl<S: BlockStore> BlockStore for FailStore<S> {
         ensures passed { is_call_due self.old ≡ false → self.new ≡ after_call self.old self.new.store }
         ensures done { OnOk result (S.content self.new.store ≡ resized (S.size self.old.store) blocks (S.content self.old.store)) }
         ensures partly { ResizedToward (S.size self.old.store) blocks (S.content self.old.store) (S.content self.new.store) }
-        ensures blocks { AllSized (S.size self.old.store) (S.content self.old.store) → AllSized (S.size self.old.store) (S.content self.new.store) }
+        ensures blocks { AllSized (S.size self.old.store) (S.content self.old.store)
+            → AllSized (S.size self.old.store) (S.content self.new.store) }
         ensures error { IfErr result (λ e. e ≢ StoreFault.Device → (e ≡ StoreFault.NoMemory) × (S.room self.old.store < blocks)) }
-        ensures failed { result ≡ Err StoreFault.Device → S.failures self.old.store + self.old.failed < S.failures self.new.store + self.new.failed }
-        ensures refused { result ≡ Err StoreFault.NoMemory → S.failures self.new.store + self.new.failed ≡ S.failures self.old.store + self.old.failed }
+        ensures failed { result ≡ Err StoreFault.Device
+            → S.failures self.old.store + self.old.failed < S.failures self.new.store + self.new.failed }
+        ensures refused { result ≡ Err StoreFault.NoMemory
+            → S.failures self.new.store + self.new.failed ≡ S.failures self.old.store + self.old.failed }
         ensures unfailed { OnOk result (S.failures self.new.store + self.new.failed ≡ S.failures self.old.store + self.old.failed) }
         ensures failures { S.failures self.old.store + self.old.failed ≤ S.failures self.new.store + self.new.failed }
         ensures reads { S.reads self.new.store + self.new.refused ≡ S.reads self.old.store + self.old.refused }

@@ -1,8 +1,8 @@
 //! What a script says.
 ghost use Rattle.std.specs.Prelude.{IsTrue, ◌↔◌};
 
-use crate::Block;
 use std::alloc::{Allocator, Global};
+use verity_store::Block;
 
 /// What a read of a `ScriptStore` answers.
 #[derive(Drop)]
@@ -14,7 +14,7 @@ pub enum Answer<A: Allocator = Global> {
 }
 
 impl<A: Allocator> Answer<A> {
-    ghost use Rattle.verity_store.specs.Script.{IsSized};
+    ghost use Rattle.test_stores.specs.Script.{IsSized};
 
     // Its block, if it has one, has this size.
     pub(crate) fn is_sized(&self, size: usize) -> bool

@@ -1,10 +1,10 @@
 use Rattle.std.proofs.Common.{refl, rules, arith}
 use Rattle.std.proofs.lemmas.Bool.{false≢true}
-use Rattle.verity_store.specs.Script.{next_block}
+use Rattle.test_stores.specs.Script.{next_block}
 use Rattle.verity_store.proofs.BlockLemmas.{resized_not}
 use Rattle.verity_store.proofs.GivenLemmas.{goes_on_same}
-use Rattle.verity_store.proofs.ScriptLemmas.{read_tells, on_ok_always}
-use Rattle.verity_store.proofs.script.ScriptStoreBlockStore.TheImpl.Goals as goal
+use Rattle.test_stores.proofs.ScriptLemmas.{read_tells, on_ok_always}
+use Rattle.test_stores.proofs.script.ScriptStoreBlockStore.TheImpl.Goals as goal
 
 pub read-tells : goal.read-tells
 read-tells g c =

@@ -3,7 +3,7 @@ use Rattle.std.proofs.Common.{◌≡◌, refl, ℕ, ◌+◌, ◌<◌, ◌≤◌,
 use Rattle.std.proofs.lemmas.Bool.{false≢true}
 use Rattle.verity_store.specs.Given.{GoesOn}
 use Rattle.verity_store.proofs.GivenLemmas.{goes_on_same, goes_on_push}
-use Rattle.verity_store.specs.Script.{Script, after_read}
+use Rattle.test_stores.specs.Script.{Script, after_read}
 use Rattle.verity_store.specs.declared.fault.StoreFault.{StoreFault}
 use Rattle.verity_store.specs.declared.fault.StoreFault.TheVariants.{Device}
 
