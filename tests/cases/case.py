@@ -1,6 +1,7 @@
 """What a case is: words and files, and what is expected of them."""
 import os
 import random
+import re
 import subprocess
 import tempfile
 
@@ -13,10 +14,11 @@ class Case:
     `output` is the whole output, or a list of texts that stand in it. A file that `leaves` doesn't name must be left
     as it was; None is for a file that must not be there, and no file may come that `leaves` doesn't name. `sink` is a
     path that the output goes to instead. `before` are functions that are called with the folder once its files are
-    there. FOLDER in a word is the folder's path.
+    there. FOLDER in a word is the folder's path. `errors` are the lines on standard error; where they aren't written out,
+    nothing stands there at status 0, and else each refusal that was printed is told there in words.
     """
 
-    def __init__(self, name, words, output, status=0, files=None, leaves=None, input=b"", sink=None, before=()):
+    def __init__(self, name, words, output, status=0, files=None, leaves=None, input=b"", sink=None, before=(), errors=None):
         self.name = name
         self.words = words
         self.output, self.status = output, status
@@ -24,6 +26,7 @@ class Case:
         self.input = input
         self.sink = sink
         self.before = before
+        self.errors = errors
 
     def differences(self, tool, folder):
         """What is not as the case says, in a folder with its files."""
@@ -32,8 +35,21 @@ class Case:
             yield f"the status is {status}, not {self.status}; printed {output!r}"
         if not self.prints(output):
             yield f"printed {output!r}, not {self.output!r}"
-        if errors:
+        yield from self.wrong_errors(output, errors.decode())
+
+    def wrong_errors(self, output, errors):
+        """What standard error has that it is not to have, or lacks."""
+        lines = errors.split("\n")[:-1]
+        if self.errors is not None and lines != self.errors:
+            yield f"wrote {lines!r} to standard error, not {self.errors!r}"
+        if self.status == 0 and errors or not all(line.startswith("dalgovuun: ") for line in lines):
             yield f"wrote {errors!r} to standard error"
+        if self.status and re.search(rb"^(bad line|no memory|corrupt|error: .*)$", output, re.M) and not lines:
+            yield "told nothing on standard error"
+        refused = re.findall(r"^refused (.*)$", output.decode(errors="replace"), re.M)
+        for fault in refused:
+            if not any(f"({fault})" in line for line in lines):
+                yield f"didn't tell {fault} on standard error: {lines!r}"
 
     def run(self, tool, folder):
         """The status, and what went to standard output and to standard error."""

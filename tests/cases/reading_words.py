@@ -15,7 +15,8 @@ Commands:
   help    Print this message or the help of the given subcommand(s)
 
 Options:
-  -h, --help  Print help
+  -h, --help     Print help
+  -V, --version  Print version
 """
 
 DUMP_HELP = """Prints the superblock of a hash device
@@ -28,6 +29,9 @@ Arguments:
 Options:
       --hash-offset <hash-offset>  The superblock's place in HASH, in bytes [default: 0]
   -h, --help                       Print help
+
+Example:
+  dalgovuun dump image.hash
 """
 
 MISSING = """error: the following required arguments were not provided:

@@ -8,9 +8,10 @@ use std::{env, io};
 fn main(rt: HostRuntime) -> ExitCode {
     let mut input = rt.stdin();
     let mut output = io::writer(&rt);
+    let mut errors = rt.stderr();
     ExitCode::from(match words(&rt) {
-        Ok(words) => verity_tool::run(&rt, words.as_slice(), &mut input, &mut output),
-        Err(error) => unread(error.kind(), &mut output),
+        Ok(words) => verity_tool::run(&rt, words.as_slice(), &mut input, &mut output, &mut errors),
+        Err(error) => unread(error.kind(), &mut output, &mut errors),
     })
 }
 
@@ -19,11 +20,12 @@ fn words(rt: &HostRuntime) -> io::Result<Vec<String>> {
 }
 
 // The status where the words could not be read: want of memory, or a word that is not UTF-8.
-fn unread<W: Write>(kind: ErrorKind, output: &mut W) -> u8 {
-    let (line, status) = match kind {
-        ErrorKind::OutOfMemory => ("no memory", 3),
-        _ => ("error: a word is not UTF-8", 2),
+fn unread<W: Write, E: Write>(kind: ErrorKind, output: &mut W, errors: &mut E) -> u8 {
+    let (line, words, status) = match kind {
+        ErrorKind::OutOfMemory => ("no memory", "memory was refused", 3),
+        _ => ("error: a word is not UTF-8", "a word is not UTF-8", 2),
     };
+    let _ = writeln!(errors, "dalgovuun: {words}");
     match writeln!(output, "{line}") {
         Ok(()) => status,
         Err(_) => 1,

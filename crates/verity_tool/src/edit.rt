@@ -8,7 +8,7 @@ use crate::identity::check_apart;
 use crate::lines::Devices;
 use crate::locks::take_lock;
 use crate::opening::{Opened, fault_of, open_there};
-use crate::script::{read_script, run_script};
+use crate::script::{Script, read_script, run_script};
 use crate::stores::{VolumeStore, room_of, store_of_most};
 use crate::values::{check_paths, number};
 use crate::words::EditWords;
@@ -23,27 +23,32 @@ use verity_superblock::SuperFault;
 /// An editor over two files.
 type FileEditor = Editor<VolumeStore, VolumeStore>;
 
-/// Does the lines of SCRIPT over the volume in DATA and HASH, and prints their answers.
+/// Does the lines of SCRIPT over the volume in DATA and HASH, and prints their answers; why one wasn't done goes to `errors`.
 ///
 /// The words are read first, then both files opened and told apart, the superblock read, the volume opened, and the
 /// script read.
-pub fn edit<R: Files<File = File> + AllocGlobal, W: Write>(
+pub fn edit<R: Files<File = File> + AllocGlobal, W: Write, E: Write>(
     rt: &R,
     words: &EditWords<'_>,
     output: &mut W,
+    errors: &mut E,
 ) -> Result<u8, Failure> {
     let alloc = rt.alloc();
     check_paths(words.data_path, words.hash_path)?;
     let offset = number(Word::HashOffset, words.hash_offset)?;
     let (mut editor, sizes) = open_editor(rt, words, offset)?;
-    let script = script_bytes(rt, words.script_path)?;
+    let bytes = script_bytes(rt, words.script_path)?;
+    let script = Script {
+        path: words.script_path,
+        bytes: &bytes,
+    };
     let devices = Devices {
         data_path: words.data_path,
         hash_path: words.hash_path,
         hash_start_block: sizes.hash_start_block,
         hash_room: sizes.hash_room,
     };
-    run_script(alloc, &mut editor, devices, &script, output)
+    run_script(alloc, &mut editor, devices, script, output, errors)
 }
 
 /// The editor of the volume whose superblock stands at an offset of HASH, and what its files were opened with.

@@ -50,6 +50,25 @@ impl fmt::Display for Word {
     }
 }
 
+impl Word {
+    /// What can stand there.
+    pub fn wanted(self) -> &'static str {
+        match self {
+            Word::Data => "a path that isn't empty and has no space, since a table line names it",
+            Word::Hash =>
+                "another file than DATA, by a path that isn't empty and has no space, since a table line names it",
+            Word::Salt => "two hexadecimal digits a byte, or none for the empty salt",
+            Word::Uuid => "a UUID, as 01234567-89ab-cdef-0123-456789abcdef",
+            Word::DataBlocks => "a count of blocks, in decimal digits",
+            Word::DataBlockSize | Word::HashBlockSize => "a count of bytes, in decimal digits",
+            Word::Algorithm => "sha256 or sha512",
+            Word::HashOffset => "a count of bytes, in decimal digits",
+            Word::Cache => "a count of hash blocks, in decimal digits",
+            Word::Sessions => "a count of connections, in decimal digits, at most 4294967295",
+        }
+    }
+}
+
 /// Why a command stopped.
 #[derive(Clone, Copy, Debug, PartialEq, Eq)]
 pub enum Failure {

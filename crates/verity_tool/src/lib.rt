@@ -7,14 +7,17 @@
 mod command;
 mod dump;
 mod edit;
+mod explaining;
 mod failure;
 mod fault;
 mod format;
 mod identity;
 mod lines;
 mod locks;
+mod looking;
 mod opened;
 mod opening;
+mod parts;
 mod program;
 mod scratch;
 mod script;

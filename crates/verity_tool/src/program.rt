@@ -2,6 +2,7 @@
 
 use crate::dump::dump;
 use crate::edit::edit;
+use crate::explaining::{explain, explain_corrupt, explain_usage, explain_words};
 use crate::failure::{Failure, fail};
 use crate::format::format;
 use crate::scratch::scratch;
@@ -19,20 +20,39 @@ use std::rt::Files;
 
 /// Does what the words ask for, of which the first is the program's own name, and answers the status that the process
 /// ends with: 0 done; 1 refused, corrupt, or a fault of a file, a socket or the output; 2 words that were not
-/// understood; 3 want of memory. All that the program prints goes to `output`.
+/// understood; 3 want of memory. What the program has to say goes to `output`; to `errors` goes why it refused, in words for
+/// a person, and nothing where the status is 0.
 pub fn run<
     R: Files<File = File> + Net<Stream = TcpStream, Listener = TcpListener> + AllocGlobal,
     I: Read,
     W: Write,
->(rt: &R, words: &[String], input: &mut I, output: &mut W) -> u8 {
-    let done = match read_words(rt.alloc(), words) {
-        Ok(Some(request)) => answer(rt, request, input, output),
-        Ok(None) => Ok(DONE),
-        Err(error) => return not_understood(&error, output),
-    };
-    match done {
-        Ok(status) => status,
-        Err(failure) => fail(failure, output),
+    E: Write,
+>(rt: &R, words: &[String], input: &mut I, output: &mut W, errors: &mut E) -> u8 {
+    match read_words(rt.alloc(), words) {
+        Ok(Some(request)) => do_request(rt, request, input, output, errors),
+        Ok(None) => DONE,
+        Err(error) => not_understood(&error, output, errors),
+    }
+}
+
+fn do_request<
+    R: Files<File = File> + Net<Stream = TcpStream, Listener = TcpListener> + AllocGlobal,
+    I: Read,
+    W: Write,
+    E: Write,
+>(rt: &R, request: Request<'_>, input: &mut I, output: &mut W, errors: &mut E) -> u8 {
+    match answer(rt, request, input, output, errors) {
+        Ok(status) => {
+            if status == REFUSED && matches!(request, Request::Verify(_)) {
+                explain_corrupt(errors);
+            }
+            status
+        }
+        Err(failure) => {
+            let status = fail(failure, output);
+            explain(rt, request, failure, errors);
+            status
+        }
     }
 }
 
@@ -40,12 +60,19 @@ fn answer<
     R: Files<File = File> + Net<Stream = TcpStream, Listener = TcpListener> + AllocGlobal,
     I: Read,
     W: Write,
->(rt: &R, request: Request<'_>, input: &mut I, output: &mut W) -> Result<u8, Failure> {
+    E: Write,
+>(
+    rt: &R,
+    request: Request<'_>,
+    input: &mut I,
+    output: &mut W,
+    errors: &mut E,
+) -> Result<u8, Failure> {
     match request {
-        Request::Scratch => scratch(rt.alloc(), input, output),
+        Request::Scratch => scratch(rt.alloc(), input, output, errors),
         Request::Format(words) => format(rt, &words, output).map(|()| DONE),
         Request::Dump(words) => dump(rt, &words, output).map(|()| DONE),
-        Request::Edit(words) => edit(rt, &words, output),
+        Request::Edit(words) => edit(rt, &words, output, errors),
         Request::Verify(words) => verify(rt, &words, output),
         Request::Serve(words) => serve(rt, &words, output),
         Request::Talk(words) => talk(rt, &words, input, output),
@@ -53,14 +80,21 @@ fn answer<
 }
 
 /// Prints the texts of `clap`: help, usage and faults.
-fn not_understood<W: Write>(error: &Error, output: &mut W) -> u8 {
+fn not_understood<W: Write, E: Write>(error: &Error, output: &mut W, errors: &mut E) -> u8 {
     if error.kind() == ErrorKind::OutOfMemory {
+        explain_words(Failure::NoMemory, errors);
         return fail(Failure::NoMemory, output);
     }
     let written = write!(output, "{error}");
     match (written, error.use_stderr()) {
-        (Err(_), _) => REFUSED,
-        (Ok(()), true) => NOT_UNDERSTOOD,
+        (Err(_), _) => {
+            explain_words(Failure::Output, errors);
+            REFUSED
+        }
+        (Ok(()), true) => {
+            explain_usage(error.kind(), errors);
+            NOT_UNDERSTOOD
+        }
         (Ok(()), false) => DONE,
     }
 }

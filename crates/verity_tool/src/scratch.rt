@@ -2,7 +2,7 @@
 
 use crate::failure::Failure;
 use crate::lines::{Devices, committed_line};
-use crate::script::{read_script, run_script};
+use crate::script::{Script, read_script, run_script};
 use crate::values::salt;
 use std::alloc::Global;
 use std::io::{Read, Write};
@@ -24,15 +24,20 @@ const DEVICES: Devices<'static> = Devices {
 };
 
 /// Builds a volume of one zero block in memory, prints its table line, and does the input's lines over it.
-pub fn scratch<I: Read, W: Write>(
+pub fn scratch<I: Read, W: Write, E: Write>(
     alloc: Global,
     input: &mut I,
     output: &mut W,
+    errors: &mut E,
 ) -> Result<u8, Failure> {
     let mut editor = zero_volume(alloc)?;
     print_line(alloc, &editor, output)?;
-    let script = read_script(alloc, input)?;
-    run_script(alloc, &mut editor, DEVICES, &script, output)
+    let bytes = read_script(alloc, input)?;
+    let script = Script {
+        path: "standard input",
+        bytes: &bytes,
+    };
+    run_script(alloc, &mut editor, DEVICES, script, output, errors)
 }
 
 fn zero_volume(alloc: Global) -> Result<Editor<MemStore, MemStore>, Failure> {

@@ -1,5 +1,6 @@
 //! A script over a volume: read whole, then done line by line.
 
+use crate::explaining::{Refusal, Where, explain_line};
 use crate::failure::Failure;
 use crate::lines::{Devices, committed_line};
 use crate::status::{DONE, REFUSED};
@@ -13,6 +14,13 @@ use verity_store::{Block, BlockStore, StoreFault, Which};
 
 /// The most bytes of a script.
 const MOST_BYTES: u64 = 1 << 30;
+
+/// A script: its bytes, and the path that it is named by.
+#[derive(Clone, Copy)]
+pub struct Script<'a> {
+    pub path: &'a str,
+    pub bytes: &'a [u8],
+}
 
 /// The bytes of a script. S1 where it can't be read, or is longer than 2^30 bytes.
 pub fn read_script<I: Read>(alloc: Global, input: &mut I) -> Result<Vec<u8>, Failure> {
@@ -38,48 +46,69 @@ fn unread(error: io::Error) -> Failure {
 
 /// Does the lines of a script in order and prints one answer line each, but for empty lines: `ok`, `committed ` and the
 /// new table line, `refused ` and the fault's text, or `bad line`. It goes on after a refusal, and answers status 1 if
-/// there was one. Edits that are pending at the end are dropped with the editor.
-pub fn run_script<D: BlockStore, H: BlockStore, W: Write>(
+/// there was one. Edits that are pending at the end are dropped with the editor. Why a line wasn't done goes to `errors`.
+pub fn run_script<D: BlockStore, H: BlockStore, W: Write, E: Write>(
     alloc: Global,
     editor: &mut Editor<D, H>,
     devices: Devices<'_>,
-    script: &[u8],
+    script: Script<'_>,
     output: &mut W,
+    errors: &mut E,
 ) -> Result<u8, Failure> {
     let mut status = DONE;
-    for text in script.split(|byte| *byte == b'\n') {
-        if !text.is_empty() && !run_line(alloc, editor, devices, text, output)? {
+    let mut line: usize = 0;
+    for text in script.bytes.split(|byte| *byte == b'\n') {
+        line = line.saturating_add(1);
+        if let Some(refusal) = run_line(alloc, editor, devices, text, output)? {
             status = REFUSED;
+            explain_line(place_of(editor, script, line), refusal, errors);
         }
     }
     Ok(status)
 }
 
-/// Does a line, prints its answer, and tells whether it was done.
-fn run_line<D: BlockStore, H: BlockStore, W: Write>(
+/// Where a line of a script is done.
+fn place_of<'a, D: BlockStore, H: BlockStore>(
+    editor: &Editor<D, H>,
+    script: Script<'a>,
+    line: usize,
+) -> Where<'a> {
+    Where {
+        script: script.path,
+        line,
+        blocks: editor.blocks(),
+        size: editor.superblock().data_block_size(),
+    }
+}
+
+/// Does a line that isn't empty, prints its answer, and tells what of it was refused.
+fn run_line<'a, D: BlockStore, H: BlockStore, W: Write>(
     alloc: Global,
     editor: &mut Editor<D, H>,
     devices: Devices<'_>,
-    text: &[u8],
+    text: &'a [u8],
     output: &mut W,
-) -> Result<bool, Failure> {
+) -> Result<Option<Refusal<'a>>, Failure> {
+    if text.is_empty() {
+        return Ok(None);
+    }
     let Some(line) = line_of(text) else {
         writeln!(output, "bad line")?;
-        return Ok(false);
+        return Ok(Some(Refusal::BadLine));
     };
     match answer(alloc, editor, devices, line)? {
         Reply::Done => {
             writeln!(output, "ok")?;
-            Ok(true)
+            Ok(None)
         }
         Reply::Committed(committed) => {
             let line = committed_line(alloc, devices, editor.superblock(), committed.root)?;
             writeln!(output, "committed {line}")?;
-            Ok(true)
+            Ok(None)
         }
         Reply::Refused(fault) => {
             writeln!(output, "refused {fault}")?;
-            Ok(false)
+            Ok(Some(Refusal::Refused(line, fault)))
         }
     }
 }

@@ -36,9 +36,13 @@ pub enum Request<'a> {
     Talk(TalkWords<'a>),
 }
 
+/// The program's version.
+const VERSION: &str = "0.1";
+
 fn tool<'a>(alloc: Global) -> Result<Command<'a>, AllocError> {
     Command::new(alloc, "dalgovuun")
         .about("Makes, edits, verifies and serves dm-verity volumes")
+        .version(VERSION)
         .subcommand(format_command(alloc)?)?
         .subcommand(dump_command(alloc)?)?
         .subcommand(edit_command(alloc)?)?

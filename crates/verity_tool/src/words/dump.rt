@@ -4,6 +4,10 @@ use super::parts::{hash_offset, path};
 use clap::{ArgMatches, Command};
 use std::alloc::{AllocError, Global};
 
+/// What `--help` shows.
+const EXAMPLE: &str = "Example:
+  dalgovuun dump image.hash";
+
 /// The words of `dump`.
 #[derive(Clone, Copy, Debug)]
 pub struct DumpWords<'a> {
@@ -14,6 +18,7 @@ pub struct DumpWords<'a> {
 pub fn dump_command<'a>(alloc: Global) -> Result<Command<'a>, AllocError> {
     Command::new(alloc, "dump")
         .about("Prints the superblock of a hash device")
+        .after_help(EXAMPLE)
         .arg(path(alloc, "HASH", "The hash device"))?
         .arg(hash_offset(alloc))
 }

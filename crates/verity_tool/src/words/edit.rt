@@ -4,6 +4,12 @@ use super::parts::{hash_offset, path};
 use clap::{ArgMatches, Command};
 use std::alloc::{AllocError, Global};
 
+/// What `--help` shows.
+const EXAMPLE: &str = "Example:
+  printf 'grow 310\\nfill 309 5a\\ncommit\\n' > script
+  dalgovuun edit image image.hash script > answers
+  sed -n 's/^committed //p' answers > image.table";
+
 /// The words of `edit`.
 #[derive(Clone, Copy, Debug)]
 pub struct EditWords<'a> {
@@ -16,6 +22,7 @@ pub struct EditWords<'a> {
 pub fn edit_command<'a>(alloc: Global) -> Result<Command<'a>, AllocError> {
     Command::new(alloc, "edit")
         .about("Does a script's lines over a volume, and prints an answer to each")
+        .after_help(EXAMPLE)
         .arg(path(alloc, "DATA", "The block image"))?
         .arg(path(alloc, "HASH", "The hash device"))?
         .arg(path(alloc, "SCRIPT", "The script"))?

@@ -4,6 +4,11 @@ use super::parts::{hash_offset, option, path};
 use clap::{ArgMatches, Command};
 use std::alloc::{AllocError, Global};
 
+/// What `--help` shows.
+const EXAMPLE: &str = "Example:
+  dalgovuun format image image.hash --salt 00ff \\
+    --uuid 01234567-89ab-cdef-0123-456789abcdef > image.table";
+
 /// The words of `format`.
 #[derive(Clone, Copy, Debug)]
 pub struct FormatWords<'a> {
@@ -21,6 +26,7 @@ pub struct FormatWords<'a> {
 pub fn format_command<'a>(alloc: Global) -> Result<Command<'a>, AllocError> {
     Command::new(alloc, "format")
         .about("Makes the hash device of a block image, and prints the table line")
+        .after_help(EXAMPLE)
         .arg(path(alloc, "DATA", "The block image"))?
         .arg(path(alloc, "HASH", "The hash device that is made"))?
         .arg(option(alloc, "salt", "The salt in hexadecimal, or 'none'").required(true))?

@@ -4,6 +4,12 @@ use super::parts::{cache, name, option, table};
 use clap::{ArgMatches, Command};
 use std::alloc::{AllocError, Global};
 
+/// What `--help` shows.
+const EXAMPLE: &str = "Example:
+  dalgovuun serve --table \"$(cat image.table)\" \\
+    --listen 127.0.0.1:10809 --name vol &
+  nbdcopy nbd://127.0.0.1/vol copy";
+
 /// The words of `serve`.
 #[derive(Clone, Copy, Debug)]
 pub struct ServeWords<'a> {
@@ -17,6 +23,7 @@ pub struct ServeWords<'a> {
 pub fn serve_command<'a>(alloc: Global) -> Result<Command<'a>, AllocError> {
     Command::new(alloc, "serve")
         .about("Serves a volume over NBD, one connection after the other")
+        .after_help(EXAMPLE)
         .arg(table(alloc))?
         .arg(option(alloc, "listen", "The address to listen on, as HOST:PORT").required(true))?
         .arg(name(alloc))?

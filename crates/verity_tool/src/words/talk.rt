@@ -4,6 +4,12 @@ use super::parts::{cache, name, table};
 use clap::{ArgMatches, Command};
 use std::alloc::{AllocError, Global};
 
+/// What `--help` shows.
+const EXAMPLE: &str = "Example:
+  nbdsh -c 'h.connect_command([\"dalgovuun\", \"talk\", \"--table\",
+    open(\"image.table\").read().strip(), \"--name\", \"vol\"])' \\
+    -c 'print(h.get_size())'";
+
 /// The words of `talk`.
 #[derive(Clone, Copy, Debug)]
 pub struct TalkWords<'a> {
@@ -15,6 +21,7 @@ pub struct TalkWords<'a> {
 pub fn talk_command<'a>(alloc: Global) -> Result<Command<'a>, AllocError> {
     Command::new(alloc, "talk")
         .about("Serves a volume to one NBD client, over standard input and output")
+        .after_help(EXAMPLE)
         .arg(table(alloc))?
         .arg(name(alloc))?
         .arg(cache(alloc))

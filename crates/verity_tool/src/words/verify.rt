@@ -4,6 +4,10 @@ use super::parts::table;
 use clap::{ArgMatches, Command};
 use std::alloc::{AllocError, Global};
 
+/// What `--help` shows.
+const EXAMPLE: &str = "Example:
+  dalgovuun verify --table \"$(cat image.table)\"";
+
 /// The words of `verify`.
 #[derive(Clone, Copy, Debug)]
 pub struct VerifyWords<'a> {
@@ -13,6 +17,7 @@ pub struct VerifyWords<'a> {
 pub fn verify_command<'a>(alloc: Global) -> Result<Command<'a>, AllocError> {
     Command::new(alloc, "verify")
         .about("Reports what is wrong in a volume")
+        .after_help(EXAMPLE)
         .arg(table(alloc))
 }
 

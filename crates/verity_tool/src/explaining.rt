@@ -1,0 +1,140 @@
+//! Why a command stopped, in words for a person.
+//!
+//! A line names what it is about, says what is wrong, by which fault, and what to do next. The words of a fault stand in the
+//! table of `plain_words`; what more there is to say of a file is found by a second look at it. What can't be written is
+//! passed over: the status and the line on standard output stand.
+
+use crate::failure::Failure;
+use crate::fault::Fault;
+use crate::looking::{Detail, look};
+use crate::parts::{Parts, parts_of};
+use crate::words::Request;
+use clap::error::ErrorKind;
+use std::fs::File;
+use std::io;
+use std::io::Write;
+use std::rt::Files;
+use verity_edit::EditFault;
+use verity_script::Line;
+
+/// Says why a command stopped.
+pub fn explain<R: Files<File = File>, E: Write>(
+    rt: &R,
+    request: Request<'_>,
+    failure: Failure,
+    errors: &mut E,
+) {
+    match failure {
+        Failure::Refused(fault) => explain_fault(rt, parts_of(request), fault, errors),
+        failure => explain_words(failure, errors),
+    }
+}
+
+/// Says why a command stopped that looked at no file.
+pub fn explain_words<E: Write>(failure: Failure, errors: &mut E) {
+    let _ = match failure {
+        Failure::Word(word) => {
+            let wanted = word.wanted();
+            writeln!(errors, "dalgovuun: {word}: {wanted}")
+        }
+        Failure::Refused(fault) => tell(errors, "the volume", &Detail::None, fault),
+        Failure::NoMemory => writeln!(errors, "dalgovuun: memory was refused"),
+        Failure::Output => writeln!(errors, "dalgovuun: standard output can't be written"),
+    };
+}
+
+/// Says that `clap` didn't understand the words.
+pub fn explain_usage<E: Write>(kind: ErrorKind, errors: &mut E) {
+    let _ = writeln!(errors, "dalgovuun: {kind}; see dalgovuun --help");
+}
+
+/// Says what `verify` found.
+pub fn explain_corrupt<E: Write>(errors: &mut E) {
+    let _ = writeln!(
+        errors,
+        "dalgovuun: the volume isn't the one that the table line vouches for"
+    );
+}
+
+fn explain_fault<R: Files<File = File>, E: Write>(
+    rt: &R,
+    parts: Parts<'_>,
+    fault: Fault,
+    errors: &mut E,
+) {
+    let (subject, detail) = look(rt, parts, fault);
+    let _ = tell(errors, subject, &detail, fault);
+}
+
+/// What a line of a script asked for that wasn't done, and why; of a line that is none, nothing.
+#[derive(Clone, Copy, Debug)]
+pub enum Refusal<'a> {
+    BadLine,
+    Refused(Line<'a>, EditFault),
+}
+
+/// Which line of which script, and the count and the size of the volume's data blocks.
+#[derive(Clone, Copy)]
+pub struct Where<'a> {
+    pub script: &'a str,
+    pub line: usize,
+    pub blocks: u64,
+    pub size: usize,
+}
+
+/// Says why a line of a script wasn't done.
+pub fn explain_line<E: Write>(place: Where<'_>, refusal: Refusal<'_>, errors: &mut E) {
+    let Where { script, line, .. } = place;
+    let _ = match refusal {
+        Refusal::BadLine => {
+            writeln!(
+                errors,
+                "dalgovuun: {script}:{line}: no line of a script; these are write N HEX, fill N HH, grow C, shrink C, discard, commit"
+            )
+        }
+        Refusal::Refused(asked, fault) => {
+            let _ = write!(errors, "dalgovuun: {script}:{line}");
+            tell_of(errors, &asked_for(place, asked), Fault::Edit(fault))
+        }
+    };
+}
+
+/// What a line asked for, beside what the volume has.
+fn asked_for(place: Where<'_>, asked: Line<'_>) -> Detail<'static> {
+    match asked {
+        Line::Write(block, digits) if block < place.blocks => {
+            Detail::Bytes(digits.len() as u64 / 2, place.size as u64)
+        }
+        Line::Write(block, _) | Line::Fill(block, _) => Detail::Block(block, place.blocks),
+        Line::Grow(count) | Line::Shrink(count) => Detail::Count(count, place.blocks),
+        Line::Discard | Line::Commit => Detail::None,
+    }
+}
+
+/// A line: what it is about, what is wrong, by which fault, and what to do next.
+fn tell<E: Write>(
+    errors: &mut E,
+    subject: &str,
+    detail: &Detail<'_>,
+    fault: Fault,
+) -> io::Result<()> {
+    write!(errors, "dalgovuun: {subject}")?;
+    tell_of(errors, detail, fault)
+}
+
+/// The rest of a line, from what is wrong on.
+fn tell_of<E: Write>(errors: &mut E, detail: &Detail<'_>, fault: Fault) -> io::Result<()> {
+    let meaning = fault.number().meaning();
+    let what = meaning.what;
+    write!(errors, ": {what}")?;
+    if let Some(cause) = fault.cause() {
+        let why = cause.meaning().what;
+        write!(errors, ": {why}")?;
+    }
+    write!(errors, "{detail} ({fault})")?;
+    if !meaning.next.is_empty() {
+        let next = meaning.next;
+        write!(errors, "; {next}")?;
+    }
+    writeln!(errors)
+}

@@ -1,0 +1,260 @@
+//! A second look at what a command was refused for: which file or word it is, and what is seen there.
+
+use crate::command::Command;
+use crate::fault::Fault;
+use crate::identity::file_identity;
+use crate::opening::open_there;
+use crate::parts::{Parts, field};
+use std::fs::{File, OpenOptions};
+use std::rt::Files;
+use std::{fmt, fs, io};
+use verity_build::BuildFault;
+use verity_check::CheckFault;
+use verity_edit::EditFault;
+use verity_profile::is_block_size;
+use verity_store::{StoreFault, Which};
+use verity_superblock::{SuperFault, TableFault};
+
+/// What is seen. Its text begins with what sets it off from the words before it.
+#[derive(Debug, Drop)]
+pub enum Detail<'a> {
+    None,
+    /// What the system said of a path.
+    System(io::Error),
+    /// It is a folder, a pipe, a socket or a terminal.
+    NoFile,
+    /// It isn't there, and can't be made there.
+    Unmade,
+    /// So many bytes, and blocks of so many.
+    Bytes(u64, u64),
+    /// A block of this number, and the count of blocks.
+    Block(u64, u64),
+    /// A count that was asked for, and the present one.
+    Count(u64, u64),
+    /// It has so many blocks and is to have so many.
+    Few(u64, u64),
+    /// So many fields.
+    Fields(usize),
+    /// The text that was found.
+    Text(&'a str),
+    /// The number that was found.
+    Number(u64),
+}
+
+impl fmt::Display for Detail<'_> {
+    fn fmt<W: fmt::Write>(&self, f: &mut fmt::Formatter<W>) -> fmt::Result {
+        match self {
+            Detail::None => Ok(()),
+            Detail::System(error) => write!(f, ": {error}"),
+            Detail::NoFile => f.write_str(": it is neither a file nor a block device"),
+            Detail::Unmade => f.write_str(": it isn't there, and can't be made there"),
+            Detail::Bytes(bytes, size) => write!(f, ": {bytes} bytes, blocks of {size}"),
+            Detail::Block(block, count) => write!(f, ": block {block}, count {count}"),
+            Detail::Count(asked, count) => write!(f, ": {asked}, where the count is {count}"),
+            Detail::Few(seen, wanted) => write!(f, ": {seen} blocks, not {wanted}"),
+            Detail::Fields(count) => write!(f, ": this one has {count}"),
+            Detail::Text(text) => write!(f, ": {text}"),
+            Detail::Number(number) => write!(f, ": {number}"),
+        }
+    }
+}
+
+/// What a fault of a command is about, and what is seen there.
+pub fn look<'a, R: Files<File = File>>(
+    rt: &R,
+    parts: Parts<'a>,
+    fault: Fault,
+) -> (&'a str, Detail<'a>) {
+    match fault {
+        Fault::Store(StoreFault::BlockSize) => look_at_sizes(parts),
+        Fault::Store(fault) => look_at_files(rt, parts, fault),
+        Fault::Check(CheckFault::Lengths) => look_at_lengths(rt, parts),
+        Fault::Table(fault) => ("the table line", look_at_line(parts.line, fault)),
+        Fault::Socket => (parts.address, Detail::None),
+        fault => (subject_of(parts, fault), Detail::None),
+    }
+}
+
+/// What a fault is about that needs no second look.
+fn subject_of<'a>(parts: Parts<'a>, fault: Fault) -> &'a str {
+    match fault {
+        Fault::InUse(which) => parts.path(which),
+        Fault::Salt(_) => "--salt",
+        Fault::Superblock(SuperFault::Offset) => "--hash-offset",
+        Fault::Superblock(_) => parts.hash,
+        Fault::Build(fault) => built(parts, fault),
+        Fault::Check(CheckFault::Store(which)) => parts.path(which),
+        Fault::Check(CheckFault::CacheSize) => "--cache",
+        Fault::Check(_) => "the volume",
+        Fault::Edit(fault) => edited(parts, fault),
+        Fault::Session(_) => "--name",
+        Fault::Store(_) => parts.data,
+        Fault::Table(_) => "the table line",
+        Fault::Socket => parts.address,
+    }
+}
+
+fn built<'a>(parts: Parts<'a>, fault: BuildFault) -> &'a str {
+    match fault {
+        BuildFault::Geometry(_) => parts.data,
+        BuildFault::Store(which) => parts.path(which),
+        BuildFault::NoMemory => "the volume",
+        BuildFault::Offset => "--hash-offset",
+    }
+}
+
+fn edited<'a>(parts: Parts<'a>, fault: EditFault) -> &'a str {
+    match fault {
+        EditFault::Store(which) | EditFault::StoreSize(which) => parts.path(which),
+        EditFault::DataLength => parts.data,
+        EditFault::Superblock(_) | EditFault::Mismatch { .. } => parts.hash,
+        EditFault::Offset => "--hash-offset",
+        _ => "the volume",
+    }
+}
+
+/// Which of the block sizes is none.
+fn look_at_sizes<'a>(parts: Parts<'a>) -> (&'a str, Detail<'a>) {
+    if parts.data_size <= usize::MAX as u64 && is_block_size(parts.data_size as usize) {
+        ("--hash-block-size", Detail::Number(parts.hash_size))
+    } else {
+        ("--data-block-size", Detail::Number(parts.data_size))
+    }
+}
+
+/// Which of the fields is wrong.
+fn look_at_line<'a>(line: &'a str, fault: TableFault) -> Detail<'a> {
+    match fault {
+        TableFault::Fields => Detail::Fields(line.split(' ').count()),
+        TableFault::Version => Detail::Text(field(line, 0)),
+        TableFault::Algorithm => Detail::Text(field(line, 7)),
+        TableFault::Digest => Detail::Text(field(line, 8)),
+        TableFault::Salt => Detail::Text(field(line, 9)),
+        _ => Detail::None,
+    }
+}
+
+/// The files don't fit the table line: the image where it has too few blocks, else the hash device.
+fn look_at_lengths<'a, R: Files<File = File>>(rt: &R, parts: Parts<'a>) -> (&'a str, Detail<'a>) {
+    match blocks_of(rt, parts, Which::Data) {
+        Some(blocks) if blocks < parts.data_blocks => {
+            (parts.data, Detail::Few(blocks, parts.data_blocks))
+        }
+        _ => (parts.hash, Detail::None),
+    }
+}
+
+fn blocks_of<R: Files<File = File>>(rt: &R, parts: Parts<'_>, which: Which) -> Option<u64> {
+    let size = parts.size(which);
+    match open_there(rt, parts.path(which), Command::Dump, which) {
+        Ok(opened) if size > 0 => Some(opened.len / size),
+        _ => None,
+    }
+}
+
+/// The first of the files in which a store's fault is seen again, in the order in which a command opens them.
+fn look_at_files<'a, R: Files<File = File>>(
+    rt: &R,
+    parts: Parts<'a>,
+    fault: StoreFault,
+) -> (&'a str, Detail<'a>) {
+    let data = look_at_store(rt, parts, Which::Data, fault);
+    let hash = look_at_store(rt, parts, Which::Hash, fault);
+    match (data, hash) {
+        (Some(detail), _) => (parts.data, detail),
+        (None, Some(detail)) => (parts.hash, detail),
+        (None, None) => look_at_script(rt, parts),
+    }
+}
+
+/// The script, where it can't be read; else nothing that is seen.
+fn look_at_script<'a, R: Files<File = File>>(rt: &R, parts: Parts<'a>) -> (&'a str, Detail<'a>) {
+    if parts.script.is_empty() {
+        return ("the volume", Detail::None);
+    }
+    match fs::metadata(rt, parts.script) {
+        Ok(_) => (parts.script, Detail::None),
+        Err(error) => (parts.script, Detail::System(error)),
+    }
+}
+
+/// What is wrong with one of a volume's files, where it is this fault's.
+fn look_at_store<'a, R: Files<File = File>>(
+    rt: &R,
+    parts: Parts<'a>,
+    which: Which,
+    fault: StoreFault,
+) -> Option<Detail<'a>> {
+    match fault {
+        StoreFault::Device => look_at_device(rt, parts, which),
+        StoreFault::Ragged => look_at_length(rt, parts, which),
+        StoreFault::NoMemory | StoreFault::BlockSize => None,
+    }
+}
+
+/// Why a file can't be opened, or has too few blocks.
+fn look_at_device<'a, R: Files<File = File>>(
+    rt: &R,
+    parts: Parts<'a>,
+    which: Which,
+) -> Option<Detail<'a>> {
+    let path = parts.path(which);
+    if path.is_empty() {
+        return None;
+    }
+    match fs::metadata(rt, path) {
+        Err(error) => Some(unseen(parts.command, which, error)),
+        Ok(metadata) if file_identity(&metadata).is_none() => Some(Detail::NoFile),
+        Ok(_) => look_at_opening(rt, parts, which),
+    }
+}
+
+/// Why a path can't be looked at. `format` makes HASH where there is nothing.
+fn unseen<'a>(command: Command, which: Which, error: io::Error) -> Detail<'a> {
+    match (command, which) {
+        (Command::Format, Which::Hash) => Detail::Unmade,
+        _ => Detail::System(error),
+    }
+}
+
+fn look_at_opening<'a, R: Files<File = File>>(
+    rt: &R,
+    parts: Parts<'a>,
+    which: Which,
+) -> Option<Detail<'a>> {
+    let opened = OpenOptions::new()
+        .read(true)
+        .write(parts.command.is_writing(which))
+        .open(rt, parts.path(which));
+    match opened {
+        Err(error) => Some(Detail::System(error)),
+        Ok(_) => look_at_count(rt, parts, which),
+    }
+}
+
+/// Whether an image has fewer blocks than were asked for.
+fn look_at_count<'a, R: Files<File = File>>(
+    rt: &R,
+    parts: Parts<'a>,
+    which: Which,
+) -> Option<Detail<'a>> {
+    match (which, blocks_of(rt, parts, which)) {
+        (Which::Data, Some(blocks)) if blocks < parts.data_blocks => {
+            Some(Detail::Few(blocks, parts.data_blocks))
+        }
+        _ => None,
+    }
+}
+
+/// Whether the length is no multiple of the block size.
+fn look_at_length<'a, R: Files<File = File>>(
+    rt: &R,
+    parts: Parts<'a>,
+    which: Which,
+) -> Option<Detail<'a>> {
+    let size = parts.size(which);
+    match open_there(rt, parts.path(which), Command::Dump, which) {
+        Ok(opened) if size > 0 && opened.len % size != 0 => Some(Detail::Bytes(opened.len, size)),
+        _ => None,
+    }
+}

@@ -1,0 +1,108 @@
+//! What a command works on, as its words name it.
+
+use crate::command::Command;
+use crate::words::Request;
+use verity_store::Which;
+
+/// The files that a command's words name, and the sizes of their blocks; what the words don't name is empty or 0.
+#[derive(Clone, Copy, Debug)]
+pub struct Parts<'a> {
+    pub command: Command,
+    pub data: &'a str,
+    pub hash: &'a str,
+    pub script: &'a str,
+    pub address: &'a str,
+    pub line: &'a str,
+    pub data_size: u64,
+    pub hash_size: u64,
+    pub data_blocks: u64,
+}
+
+impl<'a> Parts<'a> {
+    /// The path of one of the volume's files.
+    pub fn path(&self, which: Which) -> &'a str {
+        match which {
+            Which::Data => self.data,
+            Which::Hash => self.hash,
+        }
+    }
+
+    /// How many bytes a block of one of them has.
+    pub fn size(&self, which: Which) -> u64 {
+        match which {
+            Which::Data => self.data_size,
+            Which::Hash => self.hash_size,
+        }
+    }
+}
+
+/// What a command works on.
+pub fn parts_of<'a>(request: Request<'a>) -> Parts<'a> {
+    match request {
+        Request::Scratch => Parts {
+            script: "standard input",
+            ..no_parts(Command::Edit)
+        },
+        Request::Format(words) => Parts {
+            data: words.data_path,
+            hash: words.hash_path,
+            data_size: number_of(words.data_block_size),
+            hash_size: number_of(words.hash_block_size),
+            data_blocks: number_of(words.data_blocks.unwrap_or("")),
+            ..no_parts(Command::Format)
+        },
+        Request::Dump(words) => Parts {
+            hash: words.hash_path,
+            ..no_parts(Command::Dump)
+        },
+        Request::Edit(words) => Parts {
+            data: words.data_path,
+            hash: words.hash_path,
+            script: words.script_path,
+            ..no_parts(Command::Edit)
+        },
+        Request::Verify(words) => parts_of_line(Command::Verify, words.table),
+        Request::Serve(words) => Parts {
+            address: words.listen,
+            ..parts_of_line(Command::Serve, words.table)
+        },
+        Request::Talk(words) => parts_of_line(Command::Talk, words.table),
+    }
+}
+
+/// What a table line names, as far as it does.
+fn parts_of_line<'a>(command: Command, line: &'a str) -> Parts<'a> {
+    Parts {
+        line,
+        data: field(line, 1),
+        hash: field(line, 2),
+        data_size: number_of(field(line, 3)),
+        hash_size: number_of(field(line, 4)),
+        data_blocks: number_of(field(line, 5)),
+        ..no_parts(command)
+    }
+}
+
+/// A field of a table line by its number from 0 on; empty where there is none.
+pub fn field(line: &str, index: usize) -> &str {
+    line.split(' ').nth(index).unwrap_or("")
+}
+
+/// The number that a word is, or 0.
+fn number_of(text: &str) -> u64 {
+    text.parse::<u64>().unwrap_or(0)
+}
+
+fn no_parts<'a>(command: Command) -> Parts<'a> {
+    Parts {
+        command,
+        data: "",
+        hash: "",
+        script: "",
+        address: "",
+        line: "",
+        data_size: 0,
+        hash_size: 0,
+        data_blocks: 0,
+    }
+}
