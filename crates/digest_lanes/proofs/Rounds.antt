@@ -1,5 +1,6 @@
 -- The operations on vectors, a lane at a time, and the window of words of a lane.
-use Rattle.std.proofs.Common.{◌≡◌, ℕ, ◌+◌, ◌-◌, ◌*◌, ◌/◌, ◌%◌, ◌^◌, ◌<◌, List, [], ◌∙◌, length, replicate, slice_index, slice_set, map, bit_or, bit_xor, bit_and, arith, refl, sym, ap, ap₂}
+use Rattle.std.proofs.Common.{◌≡◌, ℕ, ◌+◌, ◌-◌, ◌*◌, ◌/◌, ◌%◌, ◌^◌, ◌<◌, List, [], ◌∙◌, length, replicate, slice_index, slice_set}
+use Rattle.std.proofs.Common.{map, bit_or, bit_xor, bit_and, arith, refl, sym, ap, ap₂}
 use Rattle.std.proofs.lemmas.Simd.{get_or-zip2, length-zip2, get_or-replicate, length-replicate, get_or-chunk}
 use Rattle.std.proofs.lemmas.List.{get_or-map, map-set, length-map}
 use Rattle.std.specs.Simd.Lanes.{zip2}
@@ -10,15 +11,18 @@ use Rattle.digest_lanes.specs.Lanes.{lane_at, window_of, piece_at}
 use Rattle.digest_lanes.proofs.ChMaj.{maj_short}
 
 -- an operator on two vectors of n lanes
-pub zip2_at : (f : ℕ → ℕ → ℕ) (xs ys : List ℕ) (n j : ℕ) → length xs ≡ n → length ys ≡ n → j < n → slice_index (zip2 f xs ys) j ≡ f (slice_index xs j) (slice_index ys j)
+pub zip2_at : (f : ℕ → ℕ → ℕ) (xs ys : List ℕ) (n j : ℕ) → length xs ≡ n → length ys ≡ n → j < n →
+    slice_index (zip2 f xs ys) j ≡ f (slice_index xs j) (slice_index ys j)
 zip2_at f xs ys n j lx ly h = get_or-zip2 f xs ys j 0 0 0 (omega arith) (omega arith)
 
 pub zip2_length : (f : ℕ → ℕ → ℕ) (xs ys : List ℕ) (n : ℕ) → length xs ≡ n → length ys ≡ n → length (zip2 f xs ys) ≡ n
 zip2_length f xs ys n lx ly = length-zip2 f xs ys (lx ∙ sym ly) ∙ lx
 
 -- an operator on a vector and a splat
-pub splat_at : (f : ℕ → ℕ → ℕ) (xs : List ℕ) (n j y : ℕ) → length xs ≡ n → j < n → slice_index (zip2 f xs (replicate n y)) j ≡ f (slice_index xs j) y
-splat_at f xs n j y lx h = zip2_at f xs (replicate n y) n j lx (length-replicate n y) h ∙ ap (f (slice_index xs j)) (get_or-replicate n j y 0 h)
+pub splat_at : (f : ℕ → ℕ → ℕ) (xs : List ℕ) (n j y : ℕ) → length xs ≡ n → j < n →
+    slice_index (zip2 f xs (replicate n y)) j ≡ f (slice_index xs j) y
+splat_at f xs n j y lx h = zip2_at f xs (replicate n y) n j lx (length-replicate n y) h
+    ∙ ap (f (slice_index xs j)) (get_or-replicate n j y 0 h)
 
 pub splat_length : (f : ℕ → ℕ → ℕ) (xs : List ℕ) (n y : ℕ) → length xs ≡ n → length (zip2 f xs (replicate n y)) ≡ n
 splat_length f xs n y lx = zip2_length f xs (replicate n y) n lx (length-replicate n y)
@@ -30,7 +34,8 @@ shifts_or : (b n k m : ℕ) (xs : List ℕ) (j : ℕ) → length xs ≡ n → j 
 shifts_or b n k m xs j lx h =
     let r : List ℕ = zip2 (λ x m. x / 2 ^ m) xs (replicate n k) in
     let l : List ℕ = zip2 (λ x m. x * 2 ^ m % 2 ^ b) xs (replicate n m) in
-    zip2_at bit_or r l n j (splat_length _ xs n k lx) (splat_length _ xs n m lx) h ∙ ap₂ bit_or (splat_at _ xs n j k lx h) (splat_at _ xs n j m lx h)
+    zip2_at bit_or r l n j (splat_length _ xs n k lx) (splat_length _ xs n m lx) h
+    ∙ ap₂ bit_or (splat_at _ xs n j k lx h) (splat_at _ xs n j m lx h)
 
 -- they are a rotation
 pub shifts_rotate : (n k : ℕ) → 0 < k → k < 32 → (xs : List ℕ) → length xs ≡ n → (j : ℕ) → j < n
@@ -56,22 +61,27 @@ xor_at xs ys zs n j lx ly lz h =
     ∙ ap (λ (a : ℕ). bit_xor a (slice_index zs j)) (zip2_at bit_xor xs ys n j lx ly h)
 
 pub ch_at : (w : Width) (xs ys zs : List ℕ) (n j : ℕ) → length xs ≡ n → length ys ≡ n → length zs ≡ n → j < n
-    → slice_index (zip2 bit_xor (zip2 bit_and xs ys) (zip2 bit_and (map (bit_not w) xs) zs)) j ≡ bit_xor (bit_and (slice_index xs j) (slice_index ys j)) (bit_and (bit_not w (slice_index xs j)) (slice_index zs j))
+    → slice_index (zip2 bit_xor (zip2 bit_and xs ys) (zip2 bit_and (map (bit_not w) xs) zs)) j ≡ bit_xor
+    (bit_and (slice_index xs j) (slice_index ys j)) (bit_and (bit_not w (slice_index xs j)) (slice_index zs j))
 ch_at w xs ys zs n j lx ly lz h =
     let lm : length (map (bit_not w) xs) ≡ n = length-map xs (bit_not w) ∙ lx in
-    zip2_at bit_xor (zip2 bit_and xs ys) (zip2 bit_and (map (bit_not w) xs) zs) n j (zip2_length bit_and xs ys n lx ly) (zip2_length bit_and (map (bit_not w) xs) zs n lm lz) h
+    zip2_at bit_xor (zip2 bit_and xs ys) (zip2 bit_and (map (bit_not w) xs) zs) n j (zip2_length bit_and xs ys n lx ly)
+    (zip2_length bit_and (map (bit_not w) xs) zs n lm lz) h
     ∙ ap₂ bit_xor (zip2_at bit_and xs ys n j lx ly h)
-    (zip2_at bit_and (map (bit_not w) xs) zs n j lm lz h ∙ ap (λ (a : ℕ). bit_and a (slice_index zs j)) (get_or-map (bit_not w) xs j 0 0 (omega arith)))
+    (zip2_at bit_and (map (bit_not w) xs) zs n j lm lz h
+    ∙ ap (λ (a : ℕ). bit_and a (slice_index zs j)) (get_or-map (bit_not w) xs j 0 0 (omega arith)))
 
 pub maj_at : (xs ys zs : List ℕ) (n j : ℕ) → length xs ≡ n → length ys ≡ n → length zs ≡ n → j < n
-    → slice_index (zip2 bit_xor ys (zip2 bit_and (zip2 bit_xor xs ys) (zip2 bit_xor ys zs))) j ≡ maj (slice_index xs j) (slice_index ys j) (slice_index zs j)
+    → slice_index (zip2 bit_xor ys (zip2 bit_and (zip2 bit_xor xs ys) (zip2 bit_xor ys zs))) j ≡ maj (slice_index xs j)
+    (slice_index ys j) (slice_index zs j)
 maj_at xs ys zs n j lx ly lz h =
     let a : List ℕ = zip2 bit_xor xs ys in
     let b : List ℕ = zip2 bit_xor ys zs in
     let la : length a ≡ n = zip2_length bit_xor xs ys n lx ly in
     let lb : length b ≡ n = zip2_length bit_xor ys zs n ly lz in
     zip2_at bit_xor ys (zip2 bit_and a b) n j ly (zip2_length bit_and a b n la lb) h
-    ∙ ap (bit_xor (slice_index ys j)) (zip2_at bit_and a b n j la lb h ∙ ap₂ bit_and (zip2_at bit_xor xs ys n j lx ly h) (zip2_at bit_xor ys zs n j ly lz h))
+    ∙ ap (bit_xor (slice_index ys j)) (zip2_at bit_and a b n j la lb h ∙ ap₂ bit_and (zip2_at bit_xor xs ys n j lx ly h)
+    (zip2_at bit_xor ys zs n j ly lz h))
     ∙ maj_short (slice_index xs j) (slice_index ys j) (slice_index zs j)
 
 -- word k of a lane's window
@@ -82,7 +92,8 @@ pub window_length : (j : ℕ) (w : List (List ℕ)) → length (window_of j w) �
 window_length j w = length-map w (λ (v : List ℕ). slice_index v j)
 
 -- a word is written into each lane's window
-pub window_set : (j : ℕ) (w : List (List ℕ)) (k : ℕ) (v : List ℕ) → window_of j (slice_set w k v) ≡ slice_set (window_of j w) k (slice_index v j)
+pub window_set : (j : ℕ) (w : List (List ℕ)) (k : ℕ) (v : List ℕ) →
+    window_of j (slice_set w k v) ≡ slice_set (window_of j w) k (slice_index v j)
 window_set j w k v = map-set (λ (u : List ℕ). slice_index u j) w k v
 
 -- a word of a piece

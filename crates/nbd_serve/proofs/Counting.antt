@@ -10,12 +10,14 @@ use Rattle.nbd_relay.proofs.Many.{all_still}
 use Rattle.nbd_serve.specs.Pending.{pending}
 
 module _ {S : Type 0} where
-  pub one_more : (cs : List (ClientState × S)) (i : ℕ) (d : ClientState × S) → i < length cs → pending (take (suc i) cs) ≡ pending (take i cs) + length (get_or cs i d).0.unsent
+  pub one_more : (cs : List (ClientState × S)) (i : ℕ) (d : ClientState × S) → i < length cs →
+      pending (take (suc i) cs) ≡ pending (take i cs) + length (get_or cs i d).0.unsent
   one_more [] i d l = absurd (omega arith)
   one_more (c ∷ cs) zero d l = omega arith
   one_more (c ∷ cs) (suc i) d l = omega (arith, one_more cs i d (omega arith))
 
-  pub one_of_all : (cs : List (ClientState × S)) (i : ℕ) (d : ClientState × S) → i < length cs → length (get_or cs i d).0.unsent ≤ pending cs
+  pub one_of_all : (cs : List (ClientState × S)) (i : ℕ) (d : ClientState × S) → i < length cs →
+      length (get_or cs i d).0.unsent ≤ pending cs
   one_of_all [] i d l = absurd (omega arith)
   one_of_all (c ∷ cs) zero d l = omega arith
   one_of_all (c ∷ cs) (suc i) d l = omega (arith, one_of_all cs i d (omega arith))
@@ -25,4 +27,10 @@ module _ {S : Type 0} where
   runs_none r w facts hub h cs ls x v =
       let P : List Step → Type 0 = λ z. IsAfter facts hub z in
       let Q : List Step → Type 0 = λ z. AllServed hub.offer z cs ls in
-      record { fed = []; after = subst P (sym (append-nil h)) x; later = ls; logged = all_still r w hub.offer h cs ls v; served = subst Q (sym (append-nil h)) v }
+      record {
+        fed = [];
+        after = subst P (sym (append-nil h)) x;
+        later = ls;
+        logged = all_still r w hub.offer h cs ls v;
+        served = subst Q (sym (append-nil h)) v;
+      }

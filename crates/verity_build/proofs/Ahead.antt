@@ -11,7 +11,8 @@ use Rattle.verity_build.specs.Climb.{Comes}
 use Rattle.verity_build.specs.Ahead.{AreAhead}
 
 -- those of a run of blocks from n on, in front of what is left of older ones
-pub ahead_made : {S : Type 0} (facts : store.Ghosts S) (salted : Salted) (n : ℕ) (s : S) (made old : List (List ℕ)) (run : List ℕ) (size count : ℕ) → length made ≡ count → n + count ≤ length (facts.content s)
+pub ahead_made : {S : Type 0} (facts : store.Ghosts S) (salted : Salted) (n : ℕ) (s : S) (made old : List (List ℕ)) (run : List ℕ)
+    (size count : ℕ) → length made ≡ count → n + count ≤ length (facts.content s)
     → ((j : ℕ) → j < count → get_or made j [] ≡ salted_digest salted (slice_chunk run size j))
     → (facts.tells s ≡ true → (j : ℕ) → j < count → get_or (facts.content s) (n + j) [] ≡ slice_chunk run size j)
     → AreAhead facts salted n s (made ++ old) 0 count
@@ -27,7 +28,8 @@ ahead_made facts salted n s made old run size count len within digests right =
     }
 
 -- the first of them is taken
-pub ahead_taken : {S : Type 0} (facts : store.Ghosts S) (salted : Salted) (n : ℕ) (s : S) (digests : List (List ℕ)) (taken held : ℕ) → taken < held
+pub ahead_taken : {S : Type 0} (facts : store.Ghosts S) (salted : Salted) (n : ℕ) (s : S) (digests : List (List ℕ)) (taken held : ℕ)
+    → taken < held
     → AreAhead facts salted n s digests taken held → AreAhead facts salted (n + 1) s digests (taken + 1) held
 ahead_taken facts salted n s digests taken held some ahead =
     record {
@@ -39,16 +41,24 @@ ahead_taken facts salted n s digests taken held some ahead =
       right = λ tells j below.
           let place : taken + 1 + j ≡ taken + (j + 1) = omega arith in
           let block : n + (j + 1) ≡ n + 1 + j = omega arith in
-          ap (λ k. get_or digests k []) place ∙ ahead.right tells (j + 1) (omega arith) ∙ ap (λ k. salted_digest salted (get_or (facts.content s) k [])) block;
+          ap (λ k. get_or digests k []) place ∙ ahead.right tells (j + 1) (omega arith)
+          ∙ ap (λ k. salted_digest salted (get_or (facts.content s) k [])) block;
     }
 
 -- nothing is ahead
-pub ahead_none : {S : Type 0} (facts : store.Ghosts S) (salted : Salted) (n : ℕ) (s : S) (digests : List (List ℕ)) (taken held : ℕ) → taken ≡ held → n ≤ length (facts.content s) → AreAhead facts salted n s digests taken held
+pub ahead_none : {S : Type 0} (facts : store.Ghosts S) (salted : Salted) (n : ℕ) (s : S) (digests : List (List ℕ)) (taken held : ℕ)
+    → taken ≡ held → n ≤ length (facts.content s) → AreAhead facts salted n s digests taken held
 ahead_none facts salted n s digests taken held none within =
-    record { order = omega arith; within = omega arith; sized = λ j below. absurd (omega arith); right = λ tells j below. absurd (omega arith) }
+    record {
+      order = omega arith;
+      within = omega arith;
+      sized = λ j below. absurd (omega arith);
+      right = λ tells j below. absurd (omega arith);
+    }
 
 -- a digest comes, and the open blocks were not touched before
-pub comes_now : (digest : List ℕ) (old same new : List Open) (old_root same_root new_root : Option (List ℕ)) → same ≡ old → same_root ≡ old_root
+pub comes_now : (digest : List ℕ) (old same new : List Open) (old_root same_root new_root : Option (List ℕ)) → same ≡ old →
+    same_root ≡ old_root
     → Comes 0 digest same new same_root new_root → Comes 0 digest old new old_root new_root
 comes_now digest old same new old_root same_root new_root opens root comes =
     subst (λ r. Comes 0 digest old new r new_root) root (subst (λ o. Comes 0 digest o new same_root new_root) opens comes)

@@ -13,7 +13,8 @@ use Rattle.verity_build.specs.Progress.{closed, Growing, Grown, Settling}
 use Rattle.verity_build.proofs.Settles.{Reaches, came_most, index_below, settling_reaches, growing_reaches, grown_reaches, same_index}
 
 -- where no index changes none was closed
-pub closed_same : (old new : List Open) → length new ≡ length old → ((l : ℕ) → l < length old → (open_at new l).index ≡ (open_at old l).index) → closed new ≡ closed old
+pub closed_same : (old new : List Open) → length new ≡ length old →
+    ((l : ℕ) → l < length old → (open_at new l).index ≡ (open_at old l).index) → closed new ≡ closed old
 closed_same [] [] len same = refl
 closed_same [] (b ∷ new) len same = absurd (omega arith)
 closed_same (a ∷ old) [] len same = absurd (omega arith)
@@ -23,7 +24,8 @@ closed_same (a ∷ old) (b ∷ new) len same =
     omega arith
 
 -- where one index rises by one, one more was closed
-pub closed_one : (j : ℕ) (old new : List Open) → length new ≡ length old → j < length old → (open_at new j).index ≡ (open_at old j).index + 1
+pub closed_one : (j : ℕ) (old new : List Open) → length new ≡ length old → j < length old →
+    (open_at new j).index ≡ (open_at old j).index + 1
     → ((l : ℕ) → l ≢ j → l < length old → (open_at new l).index ≡ (open_at old l).index) → closed new ≡ closed old + 1
 closed_one j [] new len there one same = absurd (omega arith)
 closed_one j (a ∷ old) [] len there one same = absurd (omega arith)
@@ -33,7 +35,8 @@ closed_one zero (a ∷ old) (b ∷ new) len there one same =
     omega arith
 closed_one (suc j) (a ∷ old) (b ∷ new) len there one same =
     let here : b.index ≡ a.index = same 0 (λ e. absurd (omega arith)) (omega arith) in
-    let rest = closed_one j old new (omega arith) (omega arith) one (λ l apart inside. same (suc l) (λ e. apart (omega arith)) (omega arith)) in
+    let rest = closed_one j old new (omega arith) (omega arith) one (λ l apart inside. same (suc l) (λ e. apart (omega arith))
+    (omega arith)) in
     omega arith
 
 pub closed_none : (opens : List Open) → ((l : ℕ) → l < length opens → (open_at opens l).index ≡ 0) → closed opens ≡ 0
@@ -45,7 +48,8 @@ closed_none (a ∷ opens) none =
 
 module _ (k n : ℕ) where
   -- the levels from l on closed no more blocks than they have
-  closed_most : (l : ℕ) (opens : List Open) → ((m : ℕ) → m < length opens → (open_at opens m).index ≤ level_len k n (l + m)) → closed opens ≤ blocks_of_levels k n l (length opens)
+  closed_most : (l : ℕ) (opens : List Open) → ((m : ℕ) → m < length opens → (open_at opens m).index ≤ level_len k n (l + m)) →
+      closed opens ≤ blocks_of_levels k n l (length opens)
   closed_most l [] most = omega arith
   closed_most l (a ∷ opens) most =
       let P : ℕ → Type 0 = λ e. a.index ≤ level_len k n e in
@@ -58,7 +62,8 @@ module _ (k n : ℕ) where
 
   -- .. and fewer where one has a block left
   closed_less : (j l : ℕ) (opens : List Open) → j < length opens → (open_at opens j).index < level_len k n (l + j)
-      → ((m : ℕ) → m < length opens → (open_at opens m).index ≤ level_len k n (l + m)) → closed opens < blocks_of_levels k n l (length opens)
+      → ((m : ℕ) → m < length opens → (open_at opens m).index ≤ level_len k n (l + m)) →
+      closed opens < blocks_of_levels k n l (length opens)
   closed_less j l [] there less most = absurd (omega arith)
   closed_less zero l (a ∷ opens) there less most =
       let P : ℕ → Type 0 = λ e. a.index < level_len k n e in
@@ -85,7 +90,8 @@ module _ (k n : ℕ) where
         subst P (let e : m ≡ 0 + m = omega arith in e) (came_most k n all opens some few reaches (suc m) (omega arith))
 
 -- so at no time more than the tree has, and fewer where a block is about to be closed
-module _ (s : Shape) (n : ℕ) (opens : List Open) (root : Option (List ℕ)) (shaped : IsShape s) (levels : length opens ≡ levels_of s) (few : n ≤ s.blocks) where
+module _ (s : Shape) (n : ℕ) (opens : List Open) (root : Option (List ℕ)) (shaped : IsShape s) (levels : length opens ≡ levels_of s)
+    (few : n ≤ s.blocks) where
   room_there : 0 < digests_per_block s
   room_there = let w = wide s shaped in omega arith
 
@@ -94,7 +100,8 @@ module _ (s : Shape) (n : ℕ) (opens : List Open) (root : Option (List ℕ)) (s
 
   reaches_total : Reaches (digests_per_block s) n opens → closed opens ≤ total_of s
   reaches_total reaches =
-      let most = closed_most (digests_per_block s) s.blocks 0 opens (not_more (digests_per_block s) n s.blocks opens root room_there few reaches) in
+      let most = closed_most (digests_per_block s) s.blocks 0 opens (not_more (digests_per_block s) n s.blocks opens root room_there
+      few reaches) in
       omega (arith, all_levels)
 
   pub settling_total : (j : ℕ) → Settling (digests_per_block s) n s.blocks j opens root → closed opens ≤ total_of s
@@ -104,7 +111,8 @@ module _ (s : Shape) (n : ℕ) (opens : List Open) (root : Option (List ℕ)) (s
   settling_before j settling there =
       let k : ℕ = digests_per_block s in
       let P : ℕ → Type 0 = λ e. (open_at opens j).index < level_len k s.blocks e in
-      let less = closed_less k s.blocks j 0 opens there (subst P (let e : j ≡ 0 + j = omega arith in e) (index_below k n s.blocks j opens root room_there few settling there))
+      let less = closed_less k s.blocks j 0 opens there (subst P (let e : j ≡ 0 + j = omega arith in
+      e) (index_below k n s.blocks j opens root room_there few settling there))
       (not_more k n s.blocks opens root room_there few (settling_reaches k n s.blocks j opens root room_there settling)) in
       omega (arith, all_levels)
 
@@ -115,14 +123,18 @@ module _ (s : Shape) (n : ℕ) (opens : List Open) (root : Option (List ℕ)) (s
   grown_total grown = reaches_total (grown_reaches (digests_per_block s) n opens root grown)
 
 -- a block that is closed is one more
-pub closes_one : (h : Hashing) (j : ℕ) (old new : List Open) (old_root new_root : Option (List ℕ)) → Closes h j old new old_root new_root → j < length old → closed new ≡ closed old + 1
+pub closes_one : (h : Hashing) (j : ℕ) (old new : List Open) (old_root new_root : Option (List ℕ)) →
+    Closes h j old new old_root new_root → j < length old → closed new ≡ closed old + 1
 closes_one h j old new old_root new_root closes there =
     closed_one j old new closes.len there (ap (λ o. o.index) closes.here)
     (λ l apart inside. ⊎_elim
-    (λ next. ap (λ m. (open_at new m).index) next ∙ ap (λ o. o.index) (closes.above (omega arith)) ∙ ap (λ m. (open_at old m).index) (sym next))
+    (λ next. ap (λ m. (open_at new m).index) next ∙ ap (λ o. o.index) (closes.above (omega arith))
+    ∙ ap (λ m. (open_at old m).index) (sym next))
     (λ other. ap (λ o. o.index) (closes.others l apart other))
     (cases_eq l (suc j)))
 
 -- a data block's digest closes none
-pub comes_none : (k n : ℕ) (d : List ℕ) (old new : List Open) (old_root new_root : Option (List ℕ)) → Growing k n old old_root → Comes 0 d old new old_root new_root → closed new ≡ closed old
-comes_none k n d old new old_root new_root growing comes = closed_same old new comes.len (same_index k n d old new old_root new_root growing comes)
+pub comes_none : (k n : ℕ) (d : List ℕ) (old new : List Open) (old_root new_root : Option (List ℕ)) → Growing k n old old_root →
+    Comes 0 d old new old_root new_root → closed new ≡ closed old
+comes_none k n d old new old_root new_root growing comes =
+    closed_same old new comes.len (same_index k n d old new old_root new_root growing comes)

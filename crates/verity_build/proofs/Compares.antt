@@ -1,5 +1,6 @@
 -- Blocks of a tree that are compared with those of a store, the first difference kept.
-use Rattle.std.proofs.Common.{◌≡◌, ◌≢◌, ℕ, zero, suc, ◌+◌, ◌-◌, ◌*◌, ◌/◌, ◌<◌, ◌≤◌, List, [], length, take, drop, get_or, ltb, ⊎_elim, refl, sym, ap, ◌∙◌, subst, arith}
+use Rattle.std.proofs.Common.{◌≡◌, ◌≢◌, ℕ, zero, suc, ◌+◌, ◌-◌, ◌*◌, ◌/◌, ◌<◌, ◌≤◌, List, [], length, take, drop, get_or, ltb}
+use Rattle.std.proofs.Common.{⊎_elim, refl, sym, ap, ◌∙◌, subst, arith}
 use Rattle.std.specs.Prelude.{Option, None, Some}
 use Rattle.std.proofs.lemmas.Bool.{cases_lt, cases_eq, cond-true, cond-false, lt-ltb, le-ltb}
 use Rattle.std.proofs.lemmas.List.{ext_get_or, get_or-drop, get_or-take, get_or_past, length-take, length-drop}
@@ -17,32 +18,42 @@ use Rattle.verity_build.specs.Differences.{ComesBefore, Found, AreCompared, earl
 use Rattle.verity_build.specs.declared.comparing.Place.{Place}
 use Rattle.verity_build.proofs.Writes.{closed_before}
 
-index_grows : (h : Hashing) (j : ℕ) (old new : List Open) (old_root new_root : Option (List ℕ)) → Closes h j old new old_root new_root → (l : ℕ) → l < length old → (open_at old l).index ≤ (open_at new l).index
+index_grows : (h : Hashing) (j : ℕ) (old new : List Open) (old_root new_root : Option (List ℕ)) →
+    Closes h j old new old_root new_root → (l : ℕ) → l < length old → (open_at old l).index ≤ (open_at new l).index
 index_grows h j old new old_root new_root closes l there =
     ⊎_elim
-    (λ here. let e : (open_at new l).index ≡ (open_at old l).index + 1 = ap (λ m. (open_at new m).index) here ∙ ap (λ o. o.index) closes.here ∙ ap (λ m. (open_at old m).index + 1) (sym here) in omega arith)
+    (λ here. let e : (open_at new l).index ≡ (open_at old l).index + 1 = ap (λ m. (open_at new m).index) here
+    ∙ ap (λ o. o.index) closes.here ∙ ap (λ m. (open_at old m).index + 1) (sym here) in omega arith)
     (λ other. ⊎_elim
-    (λ next. let e : (open_at new l).index ≡ (open_at old l).index = ap (λ m. (open_at new m).index) next ∙ ap (λ o. o.index) (closes.above (omega arith)) ∙ ap (λ m. (open_at old m).index) (sym next) in omega arith)
+    (λ next. let e : (open_at new l).index ≡ (open_at old l).index = ap (λ m. (open_at new m).index) next
+    ∙ ap (λ o. o.index) (closes.above (omega arith)) ∙ ap (λ m. (open_at old m).index) (sym next) in omega arith)
     (λ later. let e : (open_at new l).index ≡ (open_at old l).index = ap (λ o. o.index) (closes.others l other later) in omega arith)
     (cases_eq l (suc j)))
     (cases_eq l j)
 
-found_grows : (s : Shape) (start : ℕ) (blocks content : List (List ℕ)) (old new : List Open) (found : Option Place) → length new ≡ length old
-    → ((l : ℕ) → l < length old → (open_at old l).index ≤ (open_at new l).index) → Found s start blocks old content found → Found s start blocks new content found
+found_grows : (s : Shape) (start : ℕ) (blocks content : List (List ℕ)) (old new : List Open) (found : Option Place) →
+    length new ≡ length old
+    → ((l : ℕ) → l < length old → (open_at old l).index ≤ (open_at new l).index) → Found s start blocks old content found →
+    Found s start blocks new content found
 found_grows s start blocks content old new None len grows f = tt
-found_grows s start blocks content old new (Some place) len grows f = (let a = f.0 in omega arith, let b = f.1 in let g = grows place.level f.0 in omega arith, f.2)
+found_grows s start blocks content old new (Some place) len grows f =
+    (let a = f.0 in omega arith, let b = f.1 in let g = grows place.level f.0 in omega arith, f.2)
 
-module _ (h : Hashing) (s : Shape) (start j : ℕ) (blocks content : List (List ℕ)) (old new : List Open) (old_root new_root : Option (List ℕ)) (closes : Closes h j old new old_root new_root)
+module _ (h : Hashing) (s : Shape) (start j : ℕ) (blocks content : List (List ℕ)) (old new : List Open)
+    (old_root new_root : Option (List ℕ)) (closes : Closes h j old new old_root new_root)
     (there : j < length old) where
-  same_before : (found : Option Place) → AreCompared s start blocks old content found → (l i : ℕ) → l < length new → i < (open_at new l).index
+  same_before : (found : Option Place) → AreCompared s start blocks old content found → (l i : ℕ) → l < length new →
+      i < (open_at new l).index
       → (place_of s l i ≡ place_of s j (open_at old j).index → ⊥) → ComesBefore s (place_of s l i) found
       → get_or content (start + place_of s l i) [] ≡ get_or blocks (place_of s l i) []
   same_before found compared l i inside below apart before =
       compared.same l i (let len = closes.len in omega arith)
-      (closed_before h j old new old_root new_root closes l i (let len = closes.len in omega arith) below (λ e f. apart (λ t. place_of s (e t) (f t)))) before
+      (closed_before h j old new old_root new_root closes l i (let len = closes.len in
+      omega arith) below (λ e f. apart (λ t. place_of s (e t) (f t)))) before
 
   -- the block that is closed is the store's
-  pub compared_same : (found : Option Place) → get_or content (start + place_of s j (open_at old j).index) [] ≡ get_or blocks (place_of s j (open_at old j).index) []
+  pub compared_same : (found : Option Place) → get_or content (start + place_of s j (open_at old j).index) [] ≡ get_or blocks
+      (place_of s j (open_at old j).index) []
       → AreCompared s start blocks old content found → AreCompared s start blocks new content found
   compared_same found is compared = record {
     same = λ l i inside below before. ⊎_elim
@@ -53,8 +64,10 @@ module _ (h : Hashing) (s : Shape) (start j : ℕ) (blocks content : List (List 
   }
 
   -- it isn't
-  module _ (levels : length old ≡ levels_of s) (index : (open_at old j).index < len_of s j) (most : (l : ℕ) → l < length old → (open_at old l).index ≤ len_of s l)
-      (differs : get_or content (start + place_of s j (open_at old j).index) [] ≢ get_or blocks (place_of s j (open_at old j).index) []) where
+  module _ (levels : length old ≡ levels_of s) (index : (open_at old j).index < len_of s j) (most : (l : ℕ) → l < length old →
+      (open_at old l).index ≤ len_of s l)
+      (differs : get_or content (start + place_of s j (open_at old j).index) [] ≢ get_or blocks (place_of s j (open_at old j).index)
+      []) where
     this_place : Place
     this_place = record { level = j; index = (open_at old j).index }
 
@@ -66,7 +79,8 @@ module _ (h : Hashing) (s : Shape) (start j : ℕ) (blocks content : List (List 
         let order = starts_in_order (digests_per_block s) s.blocks place.level j lower (omega arith) in
         omega arith
 
-    kept_first : (place : Place) → j ≤ place.level → place.level < length old → place.index < (open_at old place.level).index → place_of s place.level place.index < place_of s j (open_at old j).index
+    kept_first : (place : Place) → j ≤ place.level → place.level < length old → place.index < (open_at old place.level).index →
+        place_of s place.level place.index < place_of s j (open_at old j).index
     kept_first place le inside below =
         let bound = most place.level inside in
         ⊎_elim
@@ -75,7 +89,8 @@ module _ (h : Hashing) (s : Shape) (start j : ℕ) (blocks content : List (List 
         (λ apart. let order = starts_in_order (digests_per_block s) s.blocks j place.level (omega arith) (omega arith) in omega arith)
         (cases_eq place.level j)
 
-    pub compared_other : (found : Option Place) → AreCompared s start blocks old content found → AreCompared s start blocks new content (earlier found (record { level = j; index = (open_at old j).index }))
+    pub compared_other : (found : Option Place) → AreCompared s start blocks old content found →
+        AreCompared s start blocks new content (earlier found (record { level = j; index = (open_at old j).index }))
     compared_other None compared = record {
       same = λ l i inside below before. same_before None compared l i inside below (λ e. absurd (omega arith)) tt;
       met = this_found;
@@ -97,44 +112,59 @@ module _ (h : Hashing) (s : Shape) (start j : ℕ) (blocks content : List (List 
         subst P (sym (cond-false (ltb place.level j) (Some new_place) (Some place) (le-ltb place.level j le)))
         (record {
           same = λ l i inside below before. same_before (Some place) compared l i inside below (λ e. absurd (omega arith)) before;
-          met = found_grows s start blocks content old new (Some place) closes.len (index_grows h j old new old_root new_root closes) compared.met;
+          met = found_grows s start blocks content old new (Some place) closes.len
+              (index_grows h j old new old_root new_root closes) compared.met;
         }))
         (cases_lt place.level j)
 
 -- before the first data block nothing is compared
-pub compared_none : (s : Shape) (start : ℕ) (blocks content : List (List ℕ)) (opens : List Open) → ((l : ℕ) → l < length opens → (open_at opens l).index ≡ 0) → AreCompared s start blocks opens content None
-compared_none s start blocks content opens empty = record { same = λ l i there below before. let zeros = empty l there in absurd (omega arith); met = tt }
+pub compared_none : (s : Shape) (start : ℕ) (blocks content : List (List ℕ)) (opens : List Open) →
+    ((l : ℕ) → l < length opens → (open_at opens l).index ≡ 0) → AreCompared s start blocks opens content None
+compared_none s start blocks content opens empty = record {
+  same = λ l i there below before. let zeros = empty l there in
+      absurd (omega arith);
+  met = tt;
+}
 
 -- where no index changes nothing more is compared
-pub compared_kept : (s : Shape) (start : ℕ) (blocks content : List (List ℕ)) (old new : List Open) (found : Option Place) → length new ≡ length old
-    → ((l : ℕ) → l < length old → (open_at new l).index ≡ (open_at old l).index) → AreCompared s start blocks old content found → AreCompared s start blocks new content found
+pub compared_kept : (s : Shape) (start : ℕ) (blocks content : List (List ℕ)) (old new : List Open) (found : Option Place) →
+    length new ≡ length old
+    → ((l : ℕ) → l < length old → (open_at new l).index ≡ (open_at old l).index) → AreCompared s start blocks old content found →
+    AreCompared s start blocks new content found
 compared_kept s start blocks content old new found len same compared = record {
   same = λ l i there below before. compared.same l i (omega arith) (let e = same l (omega arith) in omega arith) before;
   met = found_grows s start blocks content old new found len (λ l there. let e = same l there in omega arith) compared.met;
 }
 
 -- behind the last data block every block was compared
-module _ (s : Shape) (salted : Salted) (image : List (List ℕ)) (start : ℕ) (content : List (List ℕ)) (opens : List Open) (shaped : IsShape s) (sized : size_of salted.algorithm ≡ s.digest_size)
-    (count : length image ≡ s.blocks) (levels : length opens ≡ levels_of s) (closed : (l : ℕ) → l < levels_of s → (open_at opens l).index ≡ len_of s l) where
+module _ (s : Shape) (salted : Salted) (image : List (List ℕ)) (start : ℕ) (content : List (List ℕ)) (opens : List Open)
+    (shaped : IsShape s) (sized : size_of salted.algorithm ≡ s.digest_size)
+    (count : length image ≡ s.blocks) (levels : length opens ≡ levels_of s) (closed : (l : ℕ) → l < levels_of s →
+    (open_at opens l).index ≡ len_of s l) where
   end_of : IsOfShape s (hashing salted s.hash_size) image
   end_of = IsOfShape-hashing s salted image shaped sized count
 
-  same_at : (found : Option Place) → AreCompared s start (tree (hashing salted s.hash_size) image) opens content found → (q : ℕ) → q < total_of s → ComesBefore s q found
+  same_at : (found : Option Place) → AreCompared s start (tree (hashing salted s.hash_size) image) opens content found → (q : ℕ) →
+      q < total_of s → ComesBefore s q found
       → get_or content (start + q) [] ≡ get_or (tree (hashing salted s.hash_size) image) q []
   same_at found compared q below before =
       let here = placed (digests_per_block s) s.blocks q below in
-      let P : ℕ → Type 0 = λ p. ComesBefore s p found → get_or content (start + p) [] ≡ get_or (tree (hashing salted s.hash_size) image) p [] in
+      let P : ℕ → Type 0 = λ p. ComesBefore s p found →
+      get_or content (start + p) [] ≡ get_or (tree (hashing salted s.hash_size) image) p [] in
       subst P here.at
-      (λ first. compared.same here.level here.index (let there = here.there in omega arith) (let within = here.within in let all = closed here.level here.there in omega arith) first)
+      (λ first. compared.same here.level here.index (let there = here.there in omega arith) (let within = here.within in
+      let all = closed here.level here.there in omega arith) first)
       before
 
   block_size_at : (q : ℕ) → q < total_of s → length (get_or (tree (hashing salted s.hash_size) image) q []) ≡ s.hash_size
   block_size_at q below =
       let h : Hashing = hashing salted s.hash_size in
-      All-get_or (λ b. length b ≡ s.hash_size) (tree h image) q [] (let len = length-shape_tree s h image end_of in omega arith) (AllSized-tree h image end_of.hashing)
+      All-get_or (λ b. length b ≡ s.hash_size) (tree h image) q [] (let len = length-shape_tree s h image end_of in
+      omega arith) (AllSized-tree h image end_of.hashing)
 
   -- the store is as long as the tree
-  long_enough : AreCompared s start (tree (hashing salted s.hash_size) image) opens content None → 0 < total_of s → start + total_of s ≤ length content
+  long_enough : AreCompared s start (tree (hashing salted s.hash_size) image) opens content None → 0 < total_of s →
+      start + total_of s ≤ length content
   long_enough compared some =
       ⊎_elim
       (λ short.
@@ -148,7 +178,8 @@ module _ (s : Shape) (salted : Salted) (image : List (List ℕ)) (start : ℕ) (
       (λ le. le)
       (cases_lt (length content) (start + total_of s))
 
-  pub begins_with : AreCompared s start (tree (hashing salted s.hash_size) image) opens content None → BeginsWith start (tree (hashing salted s.hash_size) image) content
+  pub begins_with : AreCompared s start (tree (hashing salted s.hash_size) image) opens content None →
+      BeginsWith start (tree (hashing salted s.hash_size) image) content
   begins_with compared =
       let h : Hashing = hashing salted s.hash_size in
       let len : length (tree h image) ≡ total_of s = length-shape_tree s h image end_of in

@@ -1,9 +1,12 @@
 -- Behind the last data block: the root is there, and a store with each closed block in its place holds
 -- the tree.
-use Rattle.std.proofs.Common.{◌≡◌, ◌≢◌, ℕ, suc, ◌+◌, ◌-◌, ◌/◌, ◌<◌, ◌≤◌, min, List, [], ◌∷◌, ◌++◌, length, take, drop, replicate, get_or, set, ⊎_elim, refl, sym, ap, ◌∙◌, subst, arith}
+use Rattle.std.proofs.Common.{◌≡◌, ◌≢◌, ℕ, suc, ◌+◌, ◌-◌, ◌/◌, ◌<◌, ◌≤◌, min, List, [], ◌∷◌, ◌++◌, length, take, drop, replicate}
+use Rattle.std.proofs.Common.{get_or, set, ⊎_elim, refl, sym, ap, ◌∙◌, subst, arith}
 use Rattle.std.specs.Prelude.{Option, None, Some}
 use Rattle.std.proofs.lemmas.Bool.{cases_lt}
-use Rattle.std.proofs.lemmas.List.{ext_get_or, get_or-drop, get_or-take, get_or_append_left, get_or-append-add, length-append, length-drop, length-take, length-replicate, get_or-replicate, take-append-drop, drop_more, get_or-set_same, get_or-set_other, length-set}
+use Rattle.std.proofs.lemmas.List.{ext_get_or, get_or-drop, get_or-take, get_or_append_left, get_or-append-add, length-append}
+use Rattle.std.proofs.lemmas.List.{length-drop, length-take, length-replicate, get_or-replicate, take-append-drop, drop_more}
+use Rattle.std.proofs.lemmas.List.{get_or-set_same, get_or-set_other, length-set}
 use Rattle.verity_digest.specs.Hash.{Salted, size_of, hashing}
 use Rattle.verity_digest.specs.Tree.{Hashing, per_block, tree, root}
 use Rattle.verity_digest.specs.Rows.{block_at}
@@ -21,7 +24,8 @@ use Rattle.verity_build.specs.Progress.{came, Grown, IsRight}
 use Rattle.verity_build.specs.Device.{AreStored}
 use Rattle.verity_build.proofs.Settles.{grown_all}
 
-module _ (s : Shape) (opens : List Open) (known : Option (List ℕ)) (shaped : IsShape s) (levels : length opens ≡ levels_of s) (grown : Grown (digests_per_block s) s.blocks opens known) where
+module _ (s : Shape) (opens : List Open) (known : Option (List ℕ)) (shaped : IsShape s) (levels : length opens ≡ levels_of s)
+    (grown : Grown (digests_per_block s) s.blocks opens known) where
   finish_some : 0 < digests_per_block s
   finish_some = let w = wide s shaped in omega arith
 
@@ -41,12 +45,14 @@ module _ (s : Shape) (opens : List Open) (known : Option (List ℕ)) (shaped : I
       let nothing = grown.rooted none in
       absurd (omega arith)
 
-  module _ (salted : Salted) (image : List (List ℕ)) (sized : size_of salted.algorithm ≡ s.digest_size) (count : length image ≡ s.blocks) where
+  module _ (salted : Salted) (image : List (List ℕ)) (sized : size_of salted.algorithm ≡ s.digest_size)
+      (count : length image ≡ s.blocks) where
     finish_of : IsOfShape s (hashing salted s.hash_size) image
     finish_of = IsOfShape-hashing s salted image shaped sized count
 
     -- .. and is the image's
-    pub root_right : (digest : List ℕ) → IsRight (hashing salted s.hash_size) image opens known → known ≡ Some digest → digest ≡ root (hashing salted s.hash_size) image
+    pub root_right : (digest : List ℕ) → IsRight (hashing salted s.hash_size) image opens known → known ≡ Some digest →
+        digest ≡ root (hashing salted s.hash_size) image
     root_right digest right is =
         let h : Hashing = hashing salted s.hash_size in
         let width : per_block h ≡ digests_per_block s = ap (λ d. s.hash_size / d) sized in
@@ -56,11 +62,13 @@ module _ (s : Shape) (opens : List Open) (known : Option (List ℕ)) (shaped : I
         right.rooted digest is ∙ ap (λ l. h.digest (block_at h image l 0)) top ∙ sym (root-row h image (omega arith) (omega arith))
 
     -- a store whose blocks from `start` on are as many as the tree's, with each closed block in its place
-    pub holds_tree : (start : ℕ) (content : List (List ℕ)) → AreStored s start (tree (hashing salted s.hash_size) image) opens content → length content ≡ start + total_of s
+    pub holds_tree : (start : ℕ) (content : List (List ℕ)) →
+        AreStored s start (tree (hashing salted s.hash_size) image) opens content → length content ≡ start + total_of s
         → drop start content ≡ tree (hashing salted s.hash_size) image
     holds_tree start content stored len =
         let h : Hashing = hashing salted s.hash_size in
-        tree_by_shape_places s h image (drop start content) finish_of (length-drop start content ∙ (let e : length content - start ≡ total_of s = omega arith in e))
+        tree_by_shape_places s h image (drop start content) finish_of (length-drop start content
+        ∙ (let e : length content - start ≡ total_of s = omega arith in e))
         (λ l i there inside.
         get_or-drop start content (place_of s l i) []
         ∙ stored l i (omega arith) (let closed = all_closed l there in omega arith)
@@ -73,21 +81,26 @@ length-resized size count blocks =
     simp (length-append, length-take, length-replicate) (omega arith) in
     some
 
-pub get_or-resized_old : (size count : ℕ) (blocks : List (List ℕ)) (q : ℕ) → q < count → q < length blocks → get_or (resized size count blocks) q [] ≡ get_or blocks q []
+pub get_or-resized_old : (size count : ℕ) (blocks : List (List ℕ)) (q : ℕ) → q < count → q < length blocks →
+    get_or (resized size count blocks) q [] ≡ get_or blocks q []
 get_or-resized_old size count blocks q below inside =
     let there : q < length (take count blocks) = rw length-take (omega arith) in
-    get_or_append_left (take count blocks) (replicate (count - length blocks) (zero_block size)) [] q there ∙ get_or-take count blocks q [] below
+    get_or_append_left (take count blocks) (replicate (count - length blocks) (zero_block size)) [] q there
+    ∙ get_or-take count blocks q [] below
 
-pub get_or-resized_new : (size count : ℕ) (blocks : List (List ℕ)) (q : ℕ) → q < count → length blocks ≤ q → get_or (resized size count blocks) q [] ≡ zero_block size
+pub get_or-resized_new : (size count : ℕ) (blocks : List (List ℕ)) (q : ℕ) → q < count → length blocks ≤ q →
+    get_or (resized size count blocks) q [] ≡ zero_block size
 get_or-resized_new size count blocks q below behind =
-    let all : length (take count blocks) ≡ length blocks = length-take count blocks ∙ (let e : min count (length blocks) ≡ length blocks = omega arith in e) in
+    let all : length (take count blocks) ≡ length blocks = length-take count blocks
+    ∙ (let e : min count (length blocks) ≡ length blocks = omega arith in e) in
     let at : q ≡ length (take count blocks) + (q - length blocks) = omega arith in
     ap (λ i. get_or (resized size count blocks) i []) at
     ∙ get_or-append-add (take count blocks) (replicate (count - length blocks) (zero_block size)) (q - length blocks) []
     ∙ get_or-replicate (count - length blocks) (q - length blocks) (zero_block size) [] (omega arith)
 
 -- two sizes agree on what both have
-pub resized_agree : (size a b : ℕ) (blocks : List (List ℕ)) (q : ℕ) → q < a → q < b → get_or (resized size a blocks) q [] ≡ get_or (resized size b blocks) q []
+pub resized_agree : (size a b : ℕ) (blocks : List (List ℕ)) (q : ℕ) → q < a → q < b →
+    get_or (resized size a blocks) q [] ≡ get_or (resized size b blocks) q []
 resized_agree size a b blocks q p r =
     ⊎_elim
     (λ inside. get_or-resized_old size a blocks q p inside ∙ sym (get_or-resized_old size b blocks q r inside))
@@ -95,16 +108,19 @@ resized_agree size a b blocks q p r =
     (cases_lt q (length blocks))
 
 -- a content in three parts
-pub in_parts : (n : ℕ) (front content : List (List ℕ)) → n < length content → length front ≡ n → ((q : ℕ) → q < n → get_or content q [] ≡ get_or front q [])
+pub in_parts : (n : ℕ) (front content : List (List ℕ)) → n < length content → length front ≡ n →
+    ((q : ℕ) → q < n → get_or content q [] ≡ get_or front q [])
     → content ≡ front ++ (get_or content n [] ∷ drop (n + 1) content)
 in_parts n front content inside len same =
     let short : length (take n content) ≡ n = rw length-take (omega arith) in
     sym (take-append-drop n content)
-    ∙ ap (λ xs. xs ++ drop n content) (ext_get_or [] (take n content) front (short ∙ sym len) (λ q below. get_or-take n content q [] (omega arith) ∙ same q (omega arith)))
+    ∙ ap (λ xs. xs ++ drop n content) (ext_get_or [] (take n content) front (short ∙ sym len)
+    (λ q below. get_or-take n content q [] (omega arith) ∙ same q (omega arith)))
     ∙ ap (λ xs. front ++ xs) (drop_more content n [] inside)
 
 -- the hash device: the front, the superblock's block and the tree
-pub device_is : (s : Shape) (start : ℕ) (blocks old mid new : List (List ℕ)) (superblock : List ℕ) → 1 ≤ start → length mid ≡ start + total_of s
+pub device_is : (s : Shape) (start : ℕ) (blocks old mid new : List (List ℕ)) (superblock : List ℕ) → 1 ≤ start →
+    length mid ≡ start + total_of s
     → ((q : ℕ) → q < start → get_or mid q [] ≡ get_or (resized s.hash_size (start + total_of s) old) q [])
     → new ≡ set mid (start - 1) superblock → drop start new ≡ blocks → new ≡ resized s.hash_size (start - 1) old ++ (superblock ∷ blocks)
 device_is s start blocks old mid new superblock some len front is tree_there =
@@ -123,7 +139,8 @@ device_is s start blocks old mid new superblock some len front is tree_there =
     ∙ ap (λ bs. resized s.hash_size n old ++ (superblock ∷ bs)) tree_there
 
 -- a write in front of the tree leaves its blocks
-pub stored_behind : (s : Shape) (start : ℕ) (blocks : List (List ℕ)) (opens : List Open) (mid new : List (List ℕ)) (superblock : List ℕ) → 1 ≤ start → new ≡ set mid (start - 1) superblock
+pub stored_behind : (s : Shape) (start : ℕ) (blocks : List (List ℕ)) (opens : List Open) (mid new : List (List ℕ))
+    (superblock : List ℕ) → 1 ≤ start → new ≡ set mid (start - 1) superblock
     → AreStored s start blocks opens mid → AreStored s start blocks opens new
 stored_behind s start blocks opens mid new superblock some is stored l i there below =
     ap (λ c. get_or c (start + place_of s l i) []) is

@@ -1,5 +1,6 @@
 -- The numbers of digests and blocks while open blocks are closed level by level.
-use Rattle.std.proofs.Common.{◌≡◌, ◌≢◌, ℕ, zero, suc, ◌+◌, ◌-◌, ◌*◌, ◌<◌, ◌≤◌, List, [], ◌∷◌, ◌++◌, length, ⊎_elim, refl, sym, ap, ◌∙◌, subst, arith}
+use Rattle.std.proofs.Common.{◌≡◌, ◌≢◌, ℕ, zero, suc, ◌+◌, ◌-◌, ◌*◌, ◌<◌, ◌≤◌, List, [], ◌∷◌, ◌++◌, length, ⊎_elim, refl, sym, ap}
+use Rattle.std.proofs.Common.{◌∙◌, subst, arith}
 use Rattle.std.specs.Prelude.{Option, Some, None}
 use Rattle.std.specs.Int.{div_ceil}
 use Rattle.std.proofs.Math.Nat.{add-mul, zero-mul, suc-mul, lt_of_mul-lt-mul_right}
@@ -14,7 +15,8 @@ use Rattle.verity_build.specs.Climb.{open_at, AreEmpty, Comes, Closes}
 use Rattle.verity_build.specs.Progress.{came, InOrder, Rooted, Growing, Grown, Settling}
 
 -- where the indices below a level are the same, as many came to it
-came_same : (n m : ℕ) (old new : List Open) (l : ℕ) → (l ≡ 0 → n ≡ m) → ((q : ℕ) → suc q ≡ l → (open_at new q).index ≡ (open_at old q).index) → came m new l ≡ came n old l
+came_same : (n m : ℕ) (old new : List Open) (l : ℕ) → (l ≡ 0 → n ≡ m) →
+    ((q : ℕ) → suc q ≡ l → (open_at new q).index ≡ (open_at old q).index) → came m new l ≡ came n old l
 came_same n m old new zero first same = sym (first refl)
 came_same n m old new (suc l) first same = same l refl
 
@@ -34,12 +36,14 @@ length-push o o' d is = ap (λ x. length x.digests) is ∙ length-append o.diges
 index-push : (o o' : Open) (d : List ℕ) → o' ≡ record o { digests = o.digests ++ d ∷ [] } → o'.index ≡ o.index
 index-push o o' d is = ap (λ x. x.index) is
 
-order_push : (k c : ℕ) (o o' : Open) (d : List ℕ) → c ≡ o.index * k + length o.digests → o' ≡ record o { digests = o.digests ++ d ∷ [] } → c + 1 ≡ o'.index * k + length o'.digests
+order_push : (k c : ℕ) (o o' : Open) (d : List ℕ) → c ≡ o.index * k + length o.digests →
+    o' ≡ record o { digests = o.digests ++ d ∷ [] } → c + 1 ≡ o'.index * k + length o'.digests
 order_push k c o o' d order is =
     let same : o'.index * k ≡ o.index * k = ap (λ x. x * k) (index-push o o' d is) in
     omega (arith, length-push o o' d is)
 
-module _ (k n : ℕ) (d : List ℕ) (old new : List Open) (old_root new_root : Option (List ℕ)) (growing : Growing k n old old_root) (comes : Comes 0 d old new old_root new_root) where
+module _ (k n : ℕ) (d : List ℕ) (old new : List Open) (old_root new_root : Option (List ℕ)) (growing : Growing k n old old_root)
+    (comes : Comes 0 d old new old_root new_root) where
   pub same_index : (q : ℕ) → q < length old → (open_at new q).index ≡ (open_at old q).index
   same_index zero there = ap (λ o. o.index) (comes.here there)
   same_index (suc q) there = ap (λ o. o.index) (comes.others (suc q) (λ e. absurd (omega arith)))
@@ -78,12 +82,14 @@ module _ (k n : ℕ) (d : List ℕ) (old new : List Open) (old_root new_root : O
         rooted = first_rooted;
       }
 
-module _ (k n all j : ℕ) (h : Hashing) (old new : List Open) (old_root new_root : Option (List ℕ)) (settling : Settling k n all j old old_root) (there : j < length old)
+module _ (k n all j : ℕ) (h : Hashing) (old new : List Open) (old_root new_root : Option (List ℕ))
+    (settling : Settling k n all j old old_root) (there : j < length old)
     (done : n < all → length (open_at old j).digests ≡ k) (closes : Closes h j old new old_root new_root) where
   closed_index : (q : ℕ) → q ≢ j → q < length old → (open_at new q).index ≡ (open_at old q).index
   closed_index q apart inside =
       ⊎_elim
-      (λ next. ap (λ m. (open_at new m).index) next ∙ ap (λ o. o.index) (closes.above (omega arith)) ∙ ap (λ m. (open_at old m).index) (sym next))
+      (λ next. ap (λ m. (open_at new m).index) next ∙ ap (λ o. o.index) (closes.above (omega arith))
+      ∙ ap (λ m. (open_at old m).index) (sym next))
       (λ other. ap (λ o. o.index) (closes.others q apart other))
       (cases_eq q (suc j))
 
@@ -120,7 +126,8 @@ module _ (k n all j : ℕ) (h : Hashing) (old new : List Open) (old_root new_roo
 
   next_order : suc j < length old → InOrder k n new (suc j)
   next_order inside =
-      here_index ∙ order_push k (open_at old j).index (open_at old (suc j)) (open_at new (suc j)) (h.digest (hash_block h (open_at old j).digests))
+      here_index ∙ order_push k (open_at old j).index (open_at old (suc j)) (open_at new (suc j))
+      (h.digest (hash_block h (open_at old j).digests))
       (settling.order (suc j) (omega arith) inside) (closes.above inside)
 
   later_order : (l : ℕ) → suc j < l → l < length old → InOrder k n new l
@@ -156,24 +163,37 @@ module _ (k n all j : ℕ) (h : Hashing) (old new : List Open) (old_root new_roo
   settling_next =
       let len = closes.len in
       record {
-        below = λ l less inside. ⊎_elim (λ e. subst (λ m. IsCeil (came n new m) k (open_at new m).index) (sym e) here_ceil) (λ apart. lower_ceil l (omega arith) (omega arith)) (cases_eq l j);
-        earlier = λ more l less inside. ⊎_elim (λ e. subst (λ m. InOrder k n new m) (sym e) (here_order more)) (λ apart. lower_order more l (omega arith) (omega arith)) (cases_eq l j);
-        order = λ l le inside. ⊎_elim (λ e. subst (λ m. InOrder k n new m) (sym e) (next_order (omega arith))) (λ apart. later_order l (omega arith) (omega arith)) (cases_eq l (suc j));
+        below = λ l less inside. ⊎_elim (λ e. subst (λ m. IsCeil (came n new m) k (open_at new m).index) (sym e) here_ceil)
+            (λ apart. lower_ceil l (omega arith) (omega arith)) (cases_eq l j);
+        earlier = λ more l less inside. ⊎_elim (λ e. subst (λ m. InOrder k n new m) (sym e) (here_order more))
+            (λ apart. lower_order more l (omega arith) (omega arith)) (cases_eq l j);
+        order = λ l le inside. ⊎_elim (λ e. subst (λ m. InOrder k n new m) (sym e) (next_order (omega arith)))
+            (λ apart. later_order l (omega arith) (omega arith)) (cases_eq l (suc j));
         room = λ l apart inside.
             ⊎_elim
             (λ e. let some = settling.some there in let most = settling.most there in
             subst (λ m. length (open_at new m).digests < k) (sym e) (omega (arith, here_digests)))
-            (λ other. let room = settling.room l other (omega arith) in subst (λ o. length o.digests < k) (sym (closes.others l other apart)) room)
+            (λ other. let room = settling.room l other (omega arith) in
+            subst (λ o. length o.digests < k) (sym (closes.others l other apart)) room)
             (cases_eq l j);
-        some = λ inside. omega (arith, length-push (open_at old (suc j)) (open_at new (suc j)) (h.digest (hash_block h (open_at old j).digests)) (closes.above (omega arith)));
+        some = λ inside. omega (
+          arith,
+          length-push (open_at old (suc j)) (open_at new (suc j))
+              (h.digest (hash_block h (open_at old j).digests)) (closes.above (omega arith)),
+        );
         most = λ inside.
             let room = settling.room (suc j) (λ e. absurd (omega arith)) (omega arith) in
-            omega (arith, length-push (open_at old (suc j)) (open_at new (suc j)) (h.digest (hash_block h (open_at old j).digests)) (closes.above (omega arith)));
+            omega (
+              arith,
+              length-push (open_at old (suc j)) (open_at new (suc j)) (h.digest (hash_block h (open_at old j).digests))
+                  (closes.above (omega arith)),
+            );
         rooted = next_rooted;
       }
 
 -- a block that isn't full stays open, and nothing more is to be done
-pub growing_at : (k n all j : ℕ) (opens : List Open) (root : Option (List ℕ)) → Settling k n all j opens root → j < length opens → n < all → length (open_at opens j).digests ≢ k → Growing k n opens root
+pub growing_at : (k n all j : ℕ) (opens : List Open) (root : Option (List ℕ)) → Settling k n all j opens root → j < length opens →
+    n < all → length (open_at opens j).digests ≢ k → Growing k n opens root
 growing_at k n all j opens root settling there more short = record {
   order = λ l inside. ⊎_elim (λ less. settling.earlier more l less inside) (λ le. settling.order l le inside) (cases_lt l j);
   room = λ l inside. ⊎_elim
@@ -185,14 +205,16 @@ growing_at k n all j opens root settling there more short = record {
 }
 
 -- above the top level nothing is left to do
-pub growing_end : (k n all j : ℕ) (opens : List Open) (root : Option (List ℕ)) → Settling k n all j opens root → length opens ≤ j → n < all → Growing k n opens root
+pub growing_end : (k n all j : ℕ) (opens : List Open) (root : Option (List ℕ)) → Settling k n all j opens root → length opens ≤ j →
+    n < all → Growing k n opens root
 growing_end k n all j opens root settling end more = record {
   order = λ l inside. settling.earlier more l (omega arith) inside;
   room = λ l inside. settling.room l (λ e. absurd (omega arith)) inside;
   rooted = settling.rooted;
 }
 
-pub grown_end : (k n all j : ℕ) (opens : List Open) (root : Option (List ℕ)) → Settling k n all j opens root → length opens ≤ j → Grown k n opens root
+pub grown_end : (k n all j : ℕ) (opens : List Open) (root : Option (List ℕ)) → Settling k n all j opens root → length opens ≤ j →
+    Grown k n opens root
 grown_end k n all j opens root settling end = record {
   ceil = λ l inside. settling.below l (omega arith) inside;
   rooted = settling.rooted;
@@ -218,7 +240,8 @@ growing_empty k opens root some empty = record {
 pub record Reaches (k n : ℕ) (opens : List Open) : Type 0 where
   pub each : (l : ℕ) → l < length opens → (open_at opens l).index * k < came n opens l + k
 
-pub settling_reaches : (k n all j : ℕ) (opens : List Open) (root : Option (List ℕ)) → 0 < k → Settling k n all j opens root → Reaches k n opens
+pub settling_reaches : (k n all j : ℕ) (opens : List Open) (root : Option (List ℕ)) → 0 < k → Settling k n all j opens root →
+    Reaches k n opens
 settling_reaches k n all j opens root some settling = record {
   each = λ l inside. ⊎_elim
       (λ less. (settling.below l less inside).below)
@@ -233,7 +256,8 @@ pub grown_reaches : (k n : ℕ) (opens : List Open) (root : Option (List ℕ)) �
 grown_reaches k n opens root grown = record { each = λ l inside. (grown.ceil l inside).below }
 
 -- no more comes to a level than there is
-pub came_most : (k n all : ℕ) (opens : List Open) → 0 < k → n ≤ all → Reaches k n opens → (l : ℕ) → l ≤ length opens → came n opens l ≤ row_len k all l
+pub came_most : (k n all : ℕ) (opens : List Open) → 0 < k → n ≤ all → Reaches k n opens → (l : ℕ) → l ≤ length opens →
+    came n opens l ≤ row_len k all l
 came_most k n all opens some few reaches zero within = omega (arith, row_len-zero k all)
 came_most k n all opens some few reaches (suc l) within =
     let i : ℕ = (open_at opens l).index in
@@ -245,7 +269,8 @@ came_most k n all opens some few reaches (suc l) within =
     omega arith
 
 -- the block that is closed is one of its level
-pub index_below : (k n all j : ℕ) (opens : List Open) (root : Option (List ℕ)) → 0 < k → n ≤ all → Settling k n all j opens root → j < length opens → (open_at opens j).index < level_len k all j
+pub index_below : (k n all j : ℕ) (opens : List Open) (root : Option (List ℕ)) → 0 < k → n ≤ all → Settling k n all j opens root →
+    j < length opens → (open_at opens j).index < level_len k all j
 index_below k n all j opens root some few settling there =
     let r : ℕ = row_len k all j in
     let low : came n opens j ≤ r = came_most k n all opens some few (settling_reaches k n all j opens root some settling) j (omega arith) in
@@ -255,18 +280,22 @@ index_below k n all j opens root some few settling there =
     lt_of_mul-lt-mul_right k (omega arith)
 
 -- behind the last data block all has come to the levels that are closed
-came_all : (k all : ℕ) (opens : List Open) → 0 < k → (j : ℕ) → ((l : ℕ) → l < j → IsCeil (came all opens l) k (open_at opens l).index) → came all opens j ≡ row_len k all j
+came_all : (k all : ℕ) (opens : List Open) → 0 < k → (j : ℕ) →
+    ((l : ℕ) → l < j → IsCeil (came all opens l) k (open_at opens l).index) → came all opens j ≡ row_len k all j
 came_all k all opens some zero ceil = sym (row_len-zero k all)
 came_all k all opens some (suc j) ceil =
     let before : came all opens j ≡ row_len k all j = came_all k all opens some j (λ l less. ceil l (omega arith)) in
     let i : ℕ = (open_at opens j).index in
     let P : ℕ → Type 0 = λ c. IsCeil c k i in
-    same_ceil (row_len k all j) k i (div_ceil (row_len k all j) k) (subst P before (ceil j (omega arith))) (IsCeil-div_ceil (row_len k all j) k some)
+    same_ceil (row_len k all j) k i (div_ceil (row_len k all j) k) (subst P before (ceil j (omega arith)))
+    (IsCeil-div_ceil (row_len k all j) k some)
     ∙ sym (row_len-suc k all j some)
 
-pub settling_all : (k all j : ℕ) (opens : List Open) (root : Option (List ℕ)) → 0 < k → Settling k all all j opens root → j ≤ length opens → came all opens j ≡ row_len k all j
+pub settling_all : (k all j : ℕ) (opens : List Open) (root : Option (List ℕ)) → 0 < k → Settling k all all j opens root →
+    j ≤ length opens → came all opens j ≡ row_len k all j
 settling_all k all j opens root some settling within = came_all k all opens some j (λ l less. settling.below l less (omega arith))
 
 -- .. and every level has closed all its blocks
-pub grown_all : (k all : ℕ) (opens : List Open) (root : Option (List ℕ)) → 0 < k → Grown k all opens root → (l : ℕ) → l ≤ length opens → came all opens l ≡ row_len k all l
+pub grown_all : (k all : ℕ) (opens : List Open) (root : Option (List ℕ)) → 0 < k → Grown k all opens root → (l : ℕ) →
+    l ≤ length opens → came all opens l ≡ row_len k all l
 grown_all k all opens root some grown l within = came_all k all opens some l (λ m less. grown.ceil m (omega arith))

@@ -1,8 +1,10 @@
 -- Digests in the slots of a hash block that is being filled.
-use Rattle.std.proofs.Common.{◌≡◌, ℕ, zero, suc, ◌+◌, ◌-◌, ◌*◌, ◌/◌, ◌<◌, ◌≤◌, List, [], ◌∷◌, ◌++◌, length, take, drop, replicate, get_or, ⊎_elim, refl, sym, ap, ◌∙◌, subst, arith}
+use Rattle.std.proofs.Common.{◌≡◌, ℕ, zero, suc, ◌+◌, ◌-◌, ◌*◌, ◌/◌, ◌<◌, ◌≤◌, List, [], ◌∷◌, ◌++◌, length, take, drop, replicate}
+use Rattle.std.proofs.Common.{get_or, ⊎_elim, refl, sym, ap, ◌∙◌, subst, arith}
 use Rattle.std.specs.List.{concat}
 use Rattle.std.proofs.Math.Nat.{suc-mul, zero-mul, mul-le-mul_right, add-mul, div-mul-le_self}
-use Rattle.std.proofs.lemmas.List.{length-append, length-take, length-drop, take-append-drop, take_at, drop_at, drop-drop, append_assoc, append-nil, drop-replicate, get_or_append_left, get_or-append-add}
+use Rattle.std.proofs.lemmas.List.{length-append, length-take, length-drop, take-append-drop, take_at, drop_at, drop-drop}
+use Rattle.std.proofs.lemmas.List.{append_assoc, append-nil, drop-replicate, get_or_append_left, get_or-append-add}
 use Rattle.std.proofs.lemmas.Bool.{cases_lt}
 use Rattle.verity_digest.proofs.Slots.{AreSized, length-concat}
 use Rattle.verity_build.specs.Filled.{slots}
@@ -20,7 +22,8 @@ concat-slots size (suc n) bytes fits =
     let left : n * size ≤ length (drop size bytes) = rw length-drop (omega arith) in
     append_assoc (take size bytes) (concat (slots size n (drop size bytes))) (drop (suc n * size) bytes)
     ∙ ap (λ m. take size bytes ++ (concat (slots size n (drop size bytes)) ++ drop m bytes)) more
-    ∙ ap (λ rest. take size bytes ++ (concat (slots size n (drop size bytes)) ++ rest)) (sym (drop-drop (n * size) size bytes ∙ ap (λ m. drop m bytes) (let e : size + n * size ≡ n * size + size = omega arith in e)))
+    ∙ ap (λ rest. take size bytes ++ (concat (slots size n (drop size bytes)) ++ rest))
+    (sym (drop-drop (n * size) size bytes ∙ ap (λ m. drop m bytes) (let e : size + n * size ≡ n * size + size = omega arith in e)))
     ∙ ap (λ rest. take size bytes ++ rest) (concat-slots size n (drop size bytes) left)
     ∙ take-append-drop size bytes
 
@@ -32,17 +35,22 @@ length-slot size (suc n) bytes (suc j) fits below =
     length-slot size n (drop size bytes) j left (omega arith)
 
 pub AreSized-slots : (size n : ℕ) (bytes : List ℕ) → n * size ≤ length bytes → AreSized size (slots size n bytes)
-AreSized-slots size n bytes fits = record { each = λ j below. length-slot size n bytes j fits (let e = length-slots size n bytes in omega arith) }
+AreSized-slots size n bytes fits = record {
+  each = λ j below. length-slot size n bytes j fits (let e = length-slots size n bytes in
+      omega arith);
+}
 
 -- digests in a row are what the slots hold
-pub slots-concat : (size : ℕ) (digests : List (List ℕ)) (rest : List ℕ) → AreSized size digests → slots size (length digests) (concat digests ++ rest) ≡ digests
+pub slots-concat : (size : ℕ) (digests : List (List ℕ)) (rest : List ℕ) → AreSized size digests →
+    slots size (length digests) (concat digests ++ rest) ≡ digests
 slots-concat size [] rest sized = refl
 slots-concat size (d ∷ digests) rest sized =
     let here : length d ≡ size = sized.each 0 (omega arith) in
     let others : AreSized size digests = record { each = λ i l. sized.each (suc i) (omega arith) } in
     let whole : (d ++ concat digests) ++ rest ≡ d ++ (concat digests ++ rest) = append_assoc d (concat digests) rest in
     ap (λ bytes. take size bytes ∷ slots size (length digests) (drop size bytes)) whole
-    ∙ ap (λ first. first ∷ slots size (length digests) (drop size (d ++ (concat digests ++ rest)))) (take_at d (concat digests ++ rest) size here)
+    ∙ ap (λ first. first ∷ slots size (length digests) (drop size (d ++ (concat digests ++ rest))))
+    (take_at d (concat digests ++ rest) size here)
     ∙ ap (λ bytes. d ∷ slots size (length digests) bytes) (drop_at d (concat digests ++ rest) size here)
     ∙ ap (λ ds. d ∷ ds) (slots-concat size digests rest others)
 
@@ -87,7 +95,12 @@ put_slot size n bytes d len room holds =
     ap (λ bs. bs ++ (d ++ rest)) front ∙ sym (append_assoc (concat ds) d rest) ∙ ap (λ bs. bs ++ rest) (sym (concat-push ds d)) in
     let count : length (ds ++ d ∷ []) ≡ n + 1 = omega (arith, length-append ds (d ∷ []), length-slots size n bytes) in
     let wide : length (concat (ds ++ d ∷ [])) ≡ (n + 1) * size = length-concat size (ds ++ d ∷ []) sized_more ∙ ap (λ m. m * size) count in
-    let same_len : length new ≡ length bytes = ap length whole ∙ (let e : length (concat (ds ++ d ∷ []) ++ rest) ≡ length bytes = omega (arith, length-append (concat (ds ++ d ∷ [])) rest, length-drop (a + length d) bytes) in e) in
+    let same_len : length new ≡ length bytes =
+    ap length whole ∙ (let e : length (concat (ds ++ d ∷ []) ++ rest) ≡ length bytes = omega (
+      arith,
+      length-append (concat (ds ++ d ∷ [])) rest,
+      length-drop (a + length d) bytes,
+    ) in e) in
     record {
       len = same_len;
       holds = record {
@@ -107,10 +120,12 @@ put_slot size n bytes d len room holds =
     }
 
 -- the bytes are the hash block of the digests in the slots
-pub bytes_are : (size n : ℕ) (bytes : List ℕ) → Holds size n bytes → bytes ≡ concat (slots size n bytes) ++ replicate (length bytes - length (concat (slots size n bytes))) 0
+pub bytes_are : (size n : ℕ) (bytes : List ℕ) → Holds size n bytes →
+    bytes ≡ concat (slots size n bytes) ++ replicate (length bytes - length (concat (slots size n bytes))) 0
 bytes_are size n bytes holds =
     let ds : List (List ℕ) = slots size n bytes in
-    let wide : length (concat ds) ≡ n * size = length-concat size ds (AreSized-slots size n bytes holds.within) ∙ ap (λ m. m * size) (length-slots size n bytes) in
+    let wide : length (concat ds) ≡ n * size = length-concat size ds (AreSized-slots size n bytes holds.within)
+    ∙ ap (λ m. m * size) (length-slots size n bytes) in
     sym (concat-slots size n bytes holds.within)
     ∙ ap (λ rest. concat ds ++ rest) holds.zeros
     ∙ ap (λ m. concat ds ++ replicate (length bytes - m) 0) (sym wide)
@@ -127,7 +142,8 @@ pub same_open : (size n index : ℕ) (bytes d new : List ℕ) (old : Open)
     → new ≡ take (n * size) bytes ++ (d ++ drop (n * size + length d) bytes)
     → Put size n bytes d (take (n * size) bytes ++ (d ++ drop (n * size + length d) bytes))
     → record { block_size = length bytes; digest_size = size; digests = slots size n bytes; index = index } ≡ old
-    → record { block_size = length new; digest_size = size; digests = slots size (n + 1) new; index = index } ≡ record old { digests = old.digests ++ d ∷ [] }
+    → record { block_size = length new; digest_size = size; digests = slots size (n + 1) new; index = index } ≡ record old
+    { digests = old.digests ++ d ∷ [] }
 same_open size n index bytes d new old is put view =
     let len : length new ≡ length bytes = ap length is ∙ put.len in
     let held : slots size (n + 1) new ≡ slots size n bytes ++ d ∷ [] = ap (λ bs. slots size (n + 1) bs) is ∙ put.slots in

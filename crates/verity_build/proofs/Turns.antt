@@ -18,7 +18,8 @@ use Rattle.verity_build.proofs.Settles.{index_below, same_index}
 use Rattle.verity_build.proofs.Rightly.{closed_block, right_come, right_close}
 
 -- a tree has one block at its top, seen by the numbers of its shape
-pub top_of_shape : (s : Shape) (salted : Salted) (image : List (List ℕ)) (m : ℕ) → IsShape s → size_of salted.algorithm ≡ s.digest_size → length image ≡ s.blocks → m ≡ levels_of s
+pub top_of_shape : (s : Shape) (salted : Salted) (image : List (List ℕ)) (m : ℕ) → IsShape s →
+    size_of salted.algorithm ≡ s.digest_size → length image ≡ s.blocks → m ≡ levels_of s
     → row_len (per_block (hashing salted s.hash_size)) (length image) m ≡ 1
 top_of_shape s salted image m shaped sized count levels =
     let h : Hashing = hashing salted s.hash_size in
@@ -27,8 +28,10 @@ top_of_shape s salted image m shaped sized count levels =
     let more = some s shaped in
     (λ i. row_len (width i) (count i) (levels i)) ∙ row_len_top (digests_per_block s) s.blocks (omega arith) more
 
-module _ (salted : Salted) (s : Shape) (n j : ℕ) (old : List Open) (old_root : Option (List ℕ)) (shaped : IsShape s) (sized : size_of salted.algorithm ≡ s.digest_size)
-    (levels : length old ≡ levels_of s) (few : n ≤ s.blocks) (settling : Settling (digests_per_block s) n s.blocks j old old_root) (there : j < length old)
+module _ (salted : Salted) (s : Shape) (n j : ℕ) (old : List Open) (old_root : Option (List ℕ)) (shaped : IsShape s)
+    (sized : size_of salted.algorithm ≡ s.digest_size)
+    (levels : length old ≡ levels_of s) (few : n ≤ s.blocks) (settling : Settling (digests_per_block s) n s.blocks j old old_root)
+    (there : j < length old)
     (done : n < s.blocks → length (open_at old j).digests ≡ digests_per_block s) where
   turn_width : per_block (hashing salted s.hash_size) ≡ digests_per_block s
   turn_width = ap (λ d. s.hash_size / d) sized
@@ -49,11 +52,14 @@ module _ (salted : Salted) (s : Shape) (n j : ℕ) (old : List Open) (old_root :
     turn_done : n < length image → length (open_at old j).digests ≡ per_block (hashing salted s.hash_size)
     turn_done less = done (omega arith) ∙ sym turn_width
 
-    turn_block : hash_block (hashing salted s.hash_size) (open_at old j).digests ≡ block_at (hashing salted s.hash_size) image (suc j) (open_at old j).index
-    turn_block = closed_block (hashing salted s.hash_size) image n j old old_root turn_some (omega arith) turn_settling there turn_done right
+    turn_block : hash_block (hashing salted s.hash_size) (open_at old j).digests ≡ block_at (hashing salted s.hash_size) image
+        (suc j) (open_at old j).index
+    turn_block = closed_block (hashing salted s.hash_size) image n j old old_root turn_some (omega arith) turn_settling there
+        turn_done right
 
     -- the block that is closed is the tree's at its place
-    pub turn_tree : hash_block (hashing salted s.hash_size) (open_at old j).digests ≡ get_or (tree (hashing salted s.hash_size) image) (place_of s j (open_at old j).index) []
+    pub turn_tree : hash_block (hashing salted s.hash_size) (open_at old j).digests ≡ get_or
+        (tree (hashing salted s.hash_size) image) (place_of s j (open_at old j).index) []
     turn_tree =
         let h : Hashing = hashing salted s.hash_size in
         let of = IsOfShape-hashing s salted image shaped sized count in
@@ -62,24 +68,30 @@ module _ (salted : Salted) (s : Shape) (n j : ℕ) (old : List Open) (old_root :
         ∙ sym (level_block-row h image j (open_at old j).index of.hashing.branching (omega arith))
         ∙ sym (tree-shape_place s h image j (open_at old j).index of (omega arith) turn_below)
 
-    pub turn_right : (new : List Open) (new_root : Option (List ℕ)) → Closes (hashing salted s.hash_size) j old new old_root new_root → IsRight (hashing salted s.hash_size) image new new_root
+    pub turn_right : (new : List Open) (new_root : Option (List ℕ)) →
+        Closes (hashing salted s.hash_size) j old new old_root new_root → IsRight (hashing salted s.hash_size) image new new_root
     turn_right new new_root closes =
-        right_close (hashing salted s.hash_size) image n j old old_root turn_some (omega arith) turn_settling there turn_done right new new_root closes
+        right_close (hashing salted s.hash_size) image n j old old_root turn_some (omega arith) turn_settling there turn_done right
+        new new_root closes
         (top_of_shape s salted image (length old) shaped sized count levels)
 
 -- a data block's digest comes to level 0
-module _ (salted : Salted) (s : Shape) (n : ℕ) (block : List ℕ) (old new : List Open) (old_root new_root : Option (List ℕ)) (shaped : IsShape s) (sized : size_of salted.algorithm ≡ s.digest_size)
-    (levels : length old ≡ levels_of s) (growing : Growing (digests_per_block s) n old old_root) (comes : Comes 0 (salted_digest salted block) old new old_root new_root) where
+module _ (salted : Salted) (s : Shape) (n : ℕ) (block : List ℕ) (old new : List Open) (old_root new_root : Option (List ℕ))
+    (shaped : IsShape s) (sized : size_of salted.algorithm ≡ s.digest_size)
+    (levels : length old ≡ levels_of s) (growing : Growing (digests_per_block s) n old old_root)
+    (comes : Comes 0 (salted_digest salted block) old new old_root new_root) where
   pub come_right : (image : List (List ℕ)) → length image ≡ s.blocks → n < s.blocks → get_or image n [] ≡ block
       → IsRight (hashing salted s.hash_size) image old old_root → IsRight (hashing salted s.hash_size) image new new_root
   come_right image count below read right =
       let h : Hashing = hashing salted s.hash_size in
       let width : per_block h ≡ digests_per_block s = ap (λ d. s.hash_size / d) sized in
       let P : ℕ → Type 0 = λ k. Growing k n old old_root in
-      right_come h image n (salted_digest salted block) old new old_root new_root (top_of_shape s salted image (length old) shaped sized count levels)
+      right_come h image n (salted_digest salted block) old new old_root new_root (top_of_shape s salted image (length old) shaped
+      sized count levels)
       (subst P (sym width) growing) comes (omega arith) (ap (salted_digest salted) (sym read)) right
 
-  pub come_stored : (start : ℕ) (blocks content : List (List ℕ)) → AreStored s start blocks old content → AreStored s start blocks new content
+  pub come_stored : (start : ℕ) (blocks content : List (List ℕ)) → AreStored s start blocks old content →
+      AreStored s start blocks new content
   come_stored start blocks content stored l i there below =
       let inside : l < length old = (let len = comes.len in omega arith) in
       let index = same_index (digests_per_block s) n (salted_digest salted block) old new old_root new_root growing comes l inside in

@@ -16,7 +16,8 @@ use Rattle.verity_build.specs.Device.{AreStored, WritesFrom}
 pub writes_none : {S : Type 0} (facts : store.Ghosts S) (start : ℕ) (s : S) → WritesFrom facts start s s
 writes_none facts start s = record { len = refl; front = λ q below. refl; reads = refl; room = refl; later = later_same facts s }
 
-pub writes_then : {S : Type 0} (facts : store.Ghosts S) (start : ℕ) (old now new : S) → WritesFrom facts start old now → WritesFrom facts start now new → WritesFrom facts start old new
+pub writes_then : {S : Type 0} (facts : store.Ghosts S) (start : ℕ) (old now new : S) → WritesFrom facts start old now →
+    WritesFrom facts start now new → WritesFrom facts start old new
 writes_then facts start old now new first second = record {
   len = second.len ∙ first.len;
   front = λ q below. second.front q below ∙ first.front q below;
@@ -25,7 +26,8 @@ writes_then facts start old now new first second = record {
   later = later_then facts old now new first.later second.later;
 }
 
-pub writes_one : {S : Type 0} (facts : store.Ghosts S) (start at : ℕ) (old new : S) → start ≤ at → ChangesAt at (facts.content old) (facts.content new)
+pub writes_one : {S : Type 0} (facts : store.Ghosts S) (start at : ℕ) (old new : S) → start ≤ at →
+    ChangesAt at (facts.content old) (facts.content new)
     → facts.reads new ≡ facts.reads old → facts.room new ≡ facts.room old → IsLater facts old new → WritesFrom facts start old new
 writes_one facts start at old new behind others reads room later = record {
   len = others.0;
@@ -47,14 +49,16 @@ closed_before h j old new old_root new_root closes l i there below apart =
     ⊎_elim (λ less. less) (λ le. absurd (ne (omega arith))) (cases_lt i (open_at old l).index))
     (λ other.
     let index : (open_at new l).index ≡ (open_at old l).index = ⊎_elim
-    (λ next. ap (λ m. (open_at new m).index) next ∙ ap (λ o. o.index) (closes.above (omega arith)) ∙ ap (λ m. (open_at old m).index) (sym next))
+    (λ next. ap (λ m. (open_at new m).index) next ∙ ap (λ o. o.index) (closes.above (omega arith))
+    ∙ ap (λ m. (open_at old m).index) (sym next))
     (λ later. ap (λ o. o.index) (closes.others l other later))
     (cases_eq l (suc j)) in
     omega arith)
     (cases_eq l j)
 
 -- the block that is closed is written at its place
-pub stored_next : (h : Hashing) (s : Shape) (start j : ℕ) (blocks : List (List ℕ)) (old new : List Open) (old_root new_root : Option (List ℕ)) (content : List (List ℕ)) (block : List ℕ)
+pub stored_next : (h : Hashing) (s : Shape) (start j : ℕ) (blocks : List (List ℕ)) (old new : List Open)
+    (old_root new_root : Option (List ℕ)) (content : List (List ℕ)) (block : List ℕ)
     → Closes h j old new old_root new_root → start + place_of s j (open_at old j).index < length content
     → block ≡ get_or blocks (place_of s j (open_at old j).index) []
     → AreStored s start blocks old content → AreStored s start blocks new (set content (start + place_of s j (open_at old j).index) block)
@@ -68,5 +72,6 @@ stored_next h s start j blocks old new old_root new_root content block closes wi
     (λ apart.
     get_or-set_other content (start + p) (start + q) block [] (λ e. apart (omega arith))
     ∙ stored l i (let len = closes.len in omega arith)
-    (closed_before h j old new old_root new_root closes l i (let len = closes.len in omega arith) below (λ e f. apart (λ t. place_of s (e t) (f t)))))
+    (closed_before h j old new old_root new_root closes l i (let len = closes.len in
+    omega arith) below (λ e f. apart (λ t. place_of s (e t) (f t)))))
     (cases_eq q p)

@@ -4,7 +4,8 @@ use Rattle.verity_digest.specs.Hash.{Salted, size_of, salted_digest}
 use Rattle.verity_store.specs.declared.store.BlockStore as store
 
 -- of these digests those from `taken` to before `held` are those of the store's blocks from n on
-pub record AreAhead {S : Type 0} (facts : store.Ghosts S) (salted : Salted) (n : ℕ) (s : S) (digests : List (List ℕ)) (taken held : ℕ) : Type 0 where
+pub record AreAhead {S : Type 0} (facts : store.Ghosts S) (salted : Salted) (n : ℕ) (s : S) (digests : List (List ℕ))
+    (taken held : ℕ) : Type 0 where
   pub order : taken ≤ held
   pub within : n + (held - taken) ≤ length (facts.content s)
   pub sized : (j : ℕ) → j < held - taken → length (slice_index_or digests (taken + j) []) ≡ size_of salted.algorithm

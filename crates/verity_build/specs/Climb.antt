@@ -17,7 +17,8 @@ open_at opens level = slice_index_or opens level nothing_open
 
 -- each open block has the sizes of this volume
 abbrev pub AreAlike : Shape → List Open → Type 0
-AreAlike s opens = (l : ℕ) → l < length opens → ((open_at opens l).block_size ≡ s.hash_size) × ((open_at opens l).digest_size ≡ s.digest_size)
+AreAlike s opens = (l : ℕ) → l < length opens → ((open_at opens l).block_size ≡ s.hash_size) ×
+    ((open_at opens l).digest_size ≡ s.digest_size)
 
 -- no digest has come to any level
 abbrev pub AreEmpty : List Open → Type 0
@@ -36,7 +37,10 @@ pub record Closes (h : Hashing) (level : ℕ) (old new : List Open) (old_root ne
   pub len : length new ≡ length old
   pub here : open_at new level ≡ record (open_at old level) { digests = []; index = (open_at old level).index + 1 }
   pub above : suc level < length old → open_at new (suc level)
-      ≡ record (open_at old (suc level)) { digests = (open_at old (suc level)).digests ++ h.digest (hash_block h (open_at old level).digests) ∷ [] }
+      ≡ record (open_at old (suc level)) {
+        digests = (open_at old (suc level)).digests ++ h.digest
+            (hash_block h (open_at old level).digests) ∷ [];
+      }
   pub others : (l : ℕ) → l ≢ level → l ≢ suc level → open_at new l ≡ open_at old l
   pub kept : suc level < length old → new_root ≡ old_root
   pub root : length old ≤ suc level → new_root ≡ Some (h.digest (hash_block h (open_at old level).digests))

@@ -23,9 +23,11 @@ pub record WritesFrom {S : Type 0} (facts : store.Ghosts S) (start : ℕ) (old n
 
 -- whatever the image is: where the open blocks were right, they still are
 abbrev pub StaysRight : Hashing → ℕ → List Open → Option (List ℕ) → List Open → Option (List ℕ) → Type 0
-StaysRight h blocks old old_root new new_root = (image : List (List ℕ)) → length image ≡ blocks → IsRight h image old old_root → IsRight h image new new_root
+StaysRight h blocks old old_root new new_root = (image : List (List ℕ)) → length image ≡ blocks → IsRight h image old old_root →
+    IsRight h image new new_root
 
 -- .. and where the closed blocks were stored, they still are
 abbrev pub StaysStored : Hashing → Shape → ℕ → List Open → Option (List ℕ) → List (List ℕ) → List Open → List (List ℕ) → Type 0
-StaysStored h s start old old_root old_content new new_content = (image : List (List ℕ)) → length image ≡ s.blocks → IsRight h image old old_root
+StaysStored h s start old old_root old_content new new_content = (image : List (List ℕ)) → length image ≡ s.blocks →
+    IsRight h image old old_root
     → AreStored s start (tree h image) old old_content → AreStored s start (tree h image) new new_content

@@ -1,6 +1,7 @@
 -- What a comparison of a hash store with a tree finds. The block that a store has at a place past its
 -- end is the empty list, which no hash block is.
-use Rattle.std.specs.Prelude.{◌≡◌, ◌≢◌, ℕ, ◌+◌, ◌<◌, List, [], length, take, drop, slice_index_or, nat_lt, if◌then◌else◌, Option, None, Some, ⊤}
+use Rattle.std.specs.Prelude.{◌≡◌, ◌≢◌, ℕ, ◌+◌, ◌<◌, List, [], length, take, drop, slice_index_or, nat_lt, if◌then◌else◌, Option}
+use Rattle.std.specs.Prelude.{None, Some, ⊤}
 use Rattle.verity_digest.specs.Tree.{Hashing, root, tree}
 use Rattle.verity_geometry.specs.Geometry.{Shape, levels_of, len_of, place_of}
 use Rattle.verity_build.specs.Open.{Open}
@@ -35,17 +36,21 @@ ComesBefore s p (Some found) = p < place_of s found.level found.index
 abbrev pub Found : Shape → ℕ → List (List ℕ) → List Open → List (List ℕ) → Option Place → Type 0
 Found s start blocks opens content None = ⊤
 Found s start blocks opens content (Some found) = (found.level < length opens) × (found.index < (open_at opens found.level).index)
-    × (slice_index_or content (start + place_of s found.level found.index) [] ≢ slice_index_or blocks (place_of s found.level found.index) [])
+    × (slice_index_or content (start + place_of s found.level found.index) [] ≢ slice_index_or blocks
+    (place_of s found.level found.index) [])
 
 -- of the blocks that were closed, the place that was found is the first that differs
-pub record AreCompared (s : Shape) (start : ℕ) (blocks : List (List ℕ)) (opens : List Open) (content : List (List ℕ)) (found : Option Place) : Type 0 where
+pub record AreCompared (s : Shape) (start : ℕ) (blocks : List (List ℕ)) (opens : List Open) (content : List (List ℕ))
+    (found : Option Place) : Type 0 where
   pub same : (l i : ℕ) → l < length opens → i < (open_at opens l).index → ComesBefore s (place_of s l i) found
       → slice_index_or content (start + place_of s l i) [] ≡ slice_index_or blocks (place_of s l i) []
   pub met : Found s start blocks opens content found
 
 -- whatever the image is: where the closed blocks were compared, they still are
-abbrev pub StaysCompared : Hashing → Shape → ℕ → List (List ℕ) → List Open → Option (List ℕ) → Option Place → List Open → Option Place → Type 0
-StaysCompared h s start content old old_root old_found new new_found = (image : List (List ℕ)) → length image ≡ s.blocks → IsRight h image old old_root
+abbrev pub StaysCompared : Hashing → Shape → ℕ → List (List ℕ) → List Open → Option (List ℕ) → Option Place → List Open →
+    Option Place → Type 0
+StaysCompared h s start content old old_root old_found new new_found = (image : List (List ℕ)) → length image ≡ s.blocks →
+    IsRight h image old old_root
     → AreCompared s start (tree h image) old content old_found → AreCompared s start (tree h image) new content new_found
 
 -- of what was found and a new difference, the one on the higher level; on one level the one found first

@@ -22,4 +22,5 @@ abbrev pub Explains : ℕ → ℕ → ℕ → Type 0 → Type 0 → BuildFault �
 Explains blocks offset hash_size data_failed hash_failed (Geometry fault) = (fault ≡ BadCount) × ¬ (IsBlockCount blocks)
 Explains blocks offset hash_size data_failed hash_failed Offset = IsBlockCount blocks × ¬ (CanBegin offset hash_size)
 Explains blocks offset hash_size data_failed hash_failed NoMemory = CanBuild blocks offset hash_size
-Explains blocks offset hash_size data_failed hash_failed (Store store) = CanBuild blocks offset hash_size × HasFailed data_failed hash_failed store
+Explains blocks offset hash_size data_failed hash_failed (Store store) = CanBuild blocks offset hash_size ×
+    HasFailed data_failed hash_failed store

@@ -10,7 +10,12 @@ slots size (suc count) bytes = take size bytes ∷ slots size count (drop size b
 
 -- the block of these fields
 abbrev pub open_of : {Z : Type 0} → Inside Z → Open
-open_of b = record { block_size = length b.bytes.items; digest_size = b.digest_size; digests = slots b.digest_size b.filled b.bytes.items; index = b.index }
+open_of b = record {
+  block_size = length b.bytes.items;
+  digest_size = b.digest_size;
+  digests = slots b.digest_size b.filled b.bytes.items;
+  index = b.index;
+}
 
 -- the digests fit in, and behind them are zeros
 pub record IsFilled {Z : Type 0} (b : Inside Z) : Type 0 where

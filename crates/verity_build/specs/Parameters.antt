@@ -17,11 +17,22 @@ salted_by p = record { algorithm = p.algorithm; salt = p.salt }
 
 -- the parameters of the volume over stores with these block sizes
 abbrev pub volume : Parameters → ℕ → ℕ → Params
-volume p data_size hash_size = record { algorithm = p.algorithm; data_block_size = data_size; hash_block_size = hash_size; salt = p.salt; uuid = p.uuid }
+volume p data_size hash_size = record {
+  algorithm = p.algorithm;
+  data_block_size = data_size;
+  hash_block_size = hash_size;
+  salt = p.salt;
+  uuid = p.uuid;
+}
 
 -- the shape of its tree over so many data blocks
 abbrev pub shape_over : Parameters → ℕ → ℕ → ℕ → Shape
-shape_over p data_size hash_size blocks = record { data_size = data_size; hash_size = hash_size; digest_size = size_of p.algorithm; blocks = blocks }
+shape_over p data_size hash_size blocks = record {
+  data_size = data_size;
+  hash_size = hash_size;
+  digest_size = size_of p.algorithm;
+  blocks = blocks;
+}
 
 -- the blocks in front of a superblock at this byte offset: the first ones of a store's content, and
 -- zero blocks where it is shorter

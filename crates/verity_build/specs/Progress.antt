@@ -46,7 +46,8 @@ pub record Settling (k n all level : ℕ) (opens : List Open) (root : Option (Li
 -- behind the ones in the blocks before; and the root is the digest of the top
 pub record IsRight (h : Hashing) (image : List (List ℕ)) (opens : List Open) (root : Option (List ℕ)) : Type 0 where
   pub holds : (l : ℕ) → l < length opens
-      → (open_at opens l).digests ≡ take (length (open_at opens l).digests) (drop ((open_at opens l).index * per_block h) (map h.digest (row h image l)))
+      → (open_at opens l).digests ≡ take (length (open_at opens l).digests)
+      (drop ((open_at opens l).index * per_block h) (map h.digest (row h image l)))
   pub rooted : (digest : List ℕ) → root ≡ Some digest → digest ≡ h.digest (block_at h image (length opens) 0)
 
 -- how many hash blocks were closed so far, of all levels

@@ -60,7 +60,8 @@ impl Leaves {
         requires blocks { length (D.content data_store.old) ≡ tree.old.geometry.blocks }
         requires size { D.size data_store.old ≡ tree.old.geometry.data_size }
         requires room { tree.old.geometry.data_size ≤ length buffer.old }
-        ensures ahead { OnOk result (AreAhead D.BlockStore tree.old.hasher.salted n data_store.new self.new.digests self.new.taken self.new.held) }
+        ensures ahead { OnOk result (AreAhead D.BlockStore tree.old.hasher.salted n data_store.new self.new.digests self.new.taken
+            self.new.held) }
         ensures some { OnOk result (self.new.taken < self.new.held) }
         ensures reads { OnOk result (D.reads data_store.new ≡ D.reads data_store.old + (self.new.held - self.new.taken)) }
         ensures reads_most { D.reads data_store.new + n ≤ D.reads data_store.old + tree.old.geometry.blocks }
@@ -102,9 +103,12 @@ impl Leaves {
         ensures sized { IfOk result (λ digest. length digest ≡ size_of tree.old.hasher.salted.algorithm) }
         ensures right { IfOk result (λ digest. D.tells data_store.old ≡ true
             → digest ≡ salted_digest tree.old.hasher.salted (slice_index_or (D.content data_store.old) n [])) }
-        ensures ahead { OnOk result (AreAhead D.BlockStore tree.old.hasher.salted (n + 1) data_store.new self.new.digests self.new.taken self.new.held) }
-        ensures reads { OnOk result (D.reads data_store.new + (self.old.held - self.old.taken) ≡ D.reads data_store.old + 1 + (self.new.held - self.new.taken)) }
-        ensures reads_most { D.reads data_store.new + n + (self.old.held - self.old.taken) ≤ D.reads data_store.old + tree.old.geometry.blocks }
+        ensures ahead { OnOk result (AreAhead D.BlockStore tree.old.hasher.salted (n + 1) data_store.new self.new.digests self.new.taken
+            self.new.held) }
+        ensures reads { OnOk result (D.reads data_store.new + (self.old.held - self.old.taken) ≡ D.reads data_store.old + 1 +
+            (self.new.held - self.new.taken)) }
+        ensures reads_most { D.reads data_store.new + n + (self.old.held - self.old.taken) ≤ D.reads data_store.old +
+            tree.old.geometry.blocks }
         ensures read { IsOnlyRead D.BlockStore data_store.old data_store.new }
         ensures failed { OnErr result (D.failures data_store.old < D.failures data_store.new) }
         ensures unfailed { OnOk result (D.failures data_store.new ≡ D.failures data_store.old) }

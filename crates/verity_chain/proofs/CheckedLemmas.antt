@@ -1,5 +1,6 @@
 -- What reads leave of a checked store.
-use Rattle.std.proofs.Common.{ℕ, suc, ◌+◌, ◌<◌, ◌≤◌, ◌≡◌, ◌++◌, List, [], ◌∷◌, length, Contains, Option, None, Some, sym, ap, ◌∙◌, subst, inl, inr, ⊎_elim, arith, refl}
+use Rattle.std.proofs.Common.{ℕ, suc, ◌+◌, ◌<◌, ◌≤◌, ◌≡◌, ◌++◌, List, [], ◌∷◌, length, Contains, Option, None, Some, sym, ap, ◌∙◌}
+use Rattle.std.proofs.Common.{subst, inl, inr, ⊎_elim, arith, refl}
 use Rattle.std.specs.Prelude.{IfSome, IsSome}
 use Rattle.std.proofs.lemmas.List.Elements.{Contains-push_cases}
 use Rattle.verity_store.specs.Stores.{IsOnlyRead}
@@ -21,17 +22,20 @@ if_some None P Q f h = tt
 if_some (Some x) P Q f h = f x h
 
 -- the store of a table line stays so
-store_later : {H : Type 0} (hash : store.Ghosts H) (t : Table) (old new : H) → IsOnlyRead hash old new → IsHashStoreOf hash t old → IsHashStoreOf hash t new
+store_later : {H : Type 0} (hash : store.Ghosts H) (t : Table) (old new : H) → IsOnlyRead hash old new → IsHashStoreOf hash t old →
+    IsHashStoreOf hash t new
 store_later hash t old new read h = record {
   size = read.later.size ∙ h.size;
   tree = λ some. subst (λ content. t.hash_start_block + tree_len t ≤ length content) (sym read.content) (h.tree some);
 }
 
 -- an answer stays one
-answer_kept : (t : Table) (old new : List Note) (n : ℕ) (block : List ℕ) → KeepsNotes old new → IsAnswer t old n block → IsAnswer t new n block
+answer_kept : (t : Table) (old new : List Note) (n : ℕ) (block : List ℕ) → KeepsNotes old new → IsAnswer t old n block →
+    IsAnswer t new n block
 answer_kept t old new n block keeps = ⊎_elim inl (λ has. inr (keeps (record { number = n; block = block }) has))
 
-module _ {H : Type 0} (hash : store.Ghosts H) (c : Checking H) (new : H) (notes : List Note) (is : IsChecking hash c) (read : IsOnlyRead hash c.hash_store new)
+module _ {H : Type 0} (hash : store.Ghosts H) (c : Checking H) (new : H) (notes : List Note) (is : IsChecking hash c)
+    (read : IsOnlyRead hash c.hash_store new)
     (checked : AreChecked c.table notes) (noted : WereGiven hash c.since new notes) (keeps : KeepsNotes c.notes notes) where
   since_later : c.since ≤ length (hash.given new)
   since_later = let old = is.since in let more = goes_on_len (hash.given c.hash_store) (hash.given new) read.later.gave in omega arith
@@ -40,7 +44,8 @@ module _ {H : Type 0} (hash : store.Ghosts H) (c : Checking H) (new : H) (notes 
   failed_later = let old = is.failed in let more = read.later.failures in omega arith
 
   -- a read that was answered
-  pub checking_answered : (given : List (ℕ × List ℕ)) (asked n : ℕ) (block : List ℕ) → given ≡ c.given ++ (n, block) ∷ [] → IsAnswer c.table notes n block → hash.failures new ≡ hash.failures c.hash_store
+  pub checking_answered : (given : List (ℕ × List ℕ)) (asked n : ℕ) (block : List ℕ) → given ≡ c.given ++ (n, block) ∷ [] →
+      IsAnswer c.table notes n block → hash.failures new ≡ hash.failures c.hash_store
       → IsChecking hash (record c { hash_store = new; notes = notes; given = given; asked = asked })
   checking_answered given asked n block added answer unfailed = record {
     store = store_later hash c.table c.hash_store new read is.store;

@@ -10,7 +10,8 @@ use Rattle.verity_chain.specs.declared.notes.ReadRefused.{ReadRefused}
 
 -- what is read of a block: a noted one, or zeros in front of the tree
 abbrev pub IsAnswer : Table → List Note → ℕ → List ℕ → Type 0
-IsAnswer t notes n block = ((n < t.hash_start_block) × (block ≡ zero_block t.hash_block_size)) ⊎ Contains notes (record { number = n; block = block })
+IsAnswer t notes n block = ((n < t.hash_start_block) × (block ≡ zero_block t.hash_block_size)) ⊎
+    Contains notes (record { number = n; block = block })
 
 -- the table line; the store below; the blocks that were read of it; those that were given; how many reads were asked for, and how
 -- many refused; why the last of these was; how many blocks there are; and how many blocks the store below had given, and how
@@ -41,7 +42,8 @@ pub record IsChecking {H : Type 0} (hash : store.Ghosts H) (c : Checking H) : Ty
   pub checked : AreChecked c.table c.notes
   pub noted : WereGiven hash c.since c.hash_store c.notes
   pub answers : (n : ℕ) (block : List ℕ) → Contains c.given (n, block) → IsAnswer c.table c.notes n block
-  pub refusal : IfSome c.refusal (ExplainsUnread c.table (hash_given hash c.table c.since c.hash_store) (c.failed < hash.failures c.hash_store))
+  pub refusal : IfSome c.refusal (ExplainsUnread c.table (hash_given hash c.table c.since c.hash_store)
+      (c.failed < hash.failures c.hash_store))
   pub unrefused : c.refusal ≡ None → c.refused ≡ 0
   pub unfailed : c.refused ≡ 0 → hash.failures c.hash_store ≡ c.failed
 

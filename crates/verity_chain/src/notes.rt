@@ -103,7 +103,8 @@ fn take<H: BlockStore, A: Allocator + Copy + Drop>(
     ensures checked { AreChecked tree.old notes.new.items }
     ensures given { WereGiven H.BlockStore since.now.steps store.new notes.new.items }
     ensures kept { KeepsNotes notes.old.items notes.new.items }
-    ensures err { IfErr result (ExplainsUnread tree.old (hash_given H.BlockStore tree.old since.now.steps store.new) (H.failures store.old < H.failures store.new)) }
+    ensures err { IfErr result (ExplainsUnread tree.old (hash_given H.BlockStore tree.old since.now.steps store.new)
+        (H.failures store.old < H.failures store.new)) }
     ensures unfailed { OnOk result (H.failures store.new ≡ H.failures store.old) }
     ensures keeps { IsOnlyRead H.BlockStore store.old store.new }
     ensures reads { H.reads store.new + length notes.old.items ≤ H.reads store.old + length notes.new.items + 1 }
@@ -153,7 +154,8 @@ pub fn fetch<H: BlockStore, A: Allocator + Copy + Drop>(
     ensures checked { AreChecked tree.old notes.new.items }
     ensures given { WereGiven H.BlockStore since.now.steps store.new notes.new.items }
     ensures kept { KeepsNotes notes.old.items notes.new.items }
-    ensures err { IfErr result (ExplainsUnread tree.old (hash_given H.BlockStore tree.old since.now.steps store.new) (H.failures store.old < H.failures store.new)) }
+    ensures err { IfErr result (ExplainsUnread tree.old (hash_given H.BlockStore tree.old since.now.steps store.new)
+        (H.failures store.old < H.failures store.new)) }
     ensures unfailed { OnOk result (H.failures store.new ≡ H.failures store.old) }
     ensures keeps { IsOnlyRead H.BlockStore store.old store.new }
     ensures reads { H.reads store.new + length notes.old.items ≤ H.reads store.old + length notes.new.items + 1 }

@@ -22,7 +22,8 @@ use verity_store::BlockStore;
 pub fn chain_is_right<D: BlockStore, H: BlockStore>()
     ensures { (t : Table) (marks : Marks) (d : _) (h : _) (image : List (List ℕ)) (n : ℕ) (block : List ℕ) → IsTable t
         → IsDataStoreOf D.BlockStore t d → IsHashStoreOf H.BlockStore t h → Fits t image → n < t.data_blocks
-        → EndsChain t (given_in D.BlockStore H.BlockStore t marks d h) 0 n block → IsRight t (given_in D.BlockStore H.BlockStore t marks d h) image n block }
+        → EndsChain t (given_in D.BlockStore H.BlockStore t marks d h) 0 n block
+        → IsRight t (given_in D.BlockStore H.BlockStore t marks d h) image n block }
 {}
 
 /// So the bytes of a range that was served are the image's, or there is such a clash.
@@ -38,10 +39,12 @@ pub fn bytes_are_right<D: BlockStore, H: BlockStore>()
 pub fn chained_is_good<D: BlockStore, H: BlockStore>()
     ensures chained { (t : Table) (marks : Marks) (d : _) (h : _) (row index : ℕ) (block : List ℕ) → BothTell D.BlockStore H.BlockStore d h
         → EndsChain t (given_in D.BlockStore H.BlockStore t marks d h) row index block
-        → (finding t (held_in D.BlockStore H.BlockStore t d h) [] row index ≡ Good) × (block ≡ held_in D.BlockStore H.BlockStore t d h row index) }
+        → (finding t (held_in D.BlockStore H.BlockStore t d h) [] row index ≡ Good)
+        × (block ≡ held_in D.BlockStore H.BlockStore t d h row index) }
     ensures cached { (t : Table) (marks : Marks) (d : _) (h : _) (level index : ℕ) (block : List ℕ) → BothTell D.BlockStore H.BlockStore d h
         → EndsChain t (hash_given H.BlockStore t marks.of_hash h) (suc level) index block
-        → (finding t (held_in D.BlockStore H.BlockStore t d h) [] (suc level) index ≡ Good) × (block ≡ held_in D.BlockStore H.BlockStore t d h (suc level) index) }
+        → (finding t (held_in D.BlockStore H.BlockStore t d h) [] (suc level) index ≡ Good)
+        × (block ≡ held_in D.BlockStore H.BlockStore t d h (suc level) index) }
 {}
 
 /// Where the stores hold the image and its tree, nothing wrong was given, and what was served is the image's.

@@ -42,7 +42,10 @@ row_len_top k n two some =
     let L : ℕ = level_count k n in
     let counted = IsLevelCount-level_count k n two in
     let w : 0 < k ^ L = one-le-pow L k (omega arith) in
-    same_ceil n (k ^ L) (row_len k n L) 1 (IsCeil-row_len k n L (omega arith)) (record { above = omega (arith, counted.enough); below = omega arith })
+    same_ceil n (k ^ L) (row_len k n L) 1 (IsCeil-row_len k n L (omega arith)) (record {
+      above = omega (arith, counted.enough);
+      below = omega arith;
+    })
 
 some_from_ceil : (n w c : ℕ) → 0 < n → IsCeil n w c → 0 < c
 some_from_ceil n w zero more up = absurd (omega (arith, up.above))
@@ -79,7 +82,8 @@ blocks_of_levels-le k n (suc l) m =
     subst Q at (subst P same (omega arith))
 
 first_levels_le : (k n t m L : ℕ) → m + t ≡ L → blocks_of_levels k n 0 m ≤ blocks_of_levels k n 0 L
-first_levels_le k n zero m L e = (let same : m ≡ L = omega arith in let P : ℕ → Type 0 = λ j. blocks_of_levels k n 0 m ≤ blocks_of_levels k n 0 j in subst P same (omega arith))
+first_levels_le k n zero m L e = (let same : m ≡ L = omega arith in let P : ℕ →
+    Type 0 = λ j. blocks_of_levels k n 0 m ≤ blocks_of_levels k n 0 j in subst P same (omega arith))
 first_levels_le k n (suc t) m L e =
     let next : blocks_of_levels k n 0 (m + 1) ≤ blocks_of_levels k n 0 L = first_levels_le k n t (m + 1) L (omega arith) in
     omega (arith, blocks_of_levels-more k n 0 m)
@@ -90,7 +94,8 @@ next_start k n l below =
     let m : ℕ = level_count k n - suc (suc l) in
     let count : suc m ≡ level_count k n - suc l = omega arith in
     let at : suc l + 1 ≡ suc (suc l) = omega arith in
-    let first : blocks_of_levels k n (suc l) (suc m) ≡ level_len k n (suc l) + blocks_of_levels k n (suc l + 1) m = blocks_of_levels-first k n (suc l) m in
+    let first : blocks_of_levels k n (suc l) (suc m) ≡ level_len k n (suc l) + blocks_of_levels k n (suc l + 1) m =
+    blocks_of_levels-first k n (suc l) m in
     let whole : blocks_of_levels k n (suc l) (suc m) ≡ level_start k n l = ap (λ e. blocks_of_levels k n (suc l) e) count in
     let behind : blocks_of_levels k n (suc l + 1) m ≡ level_start k n (suc l) = ap (λ e. blocks_of_levels k n e m) at in
     omega arith
@@ -105,18 +110,21 @@ top_start k n l top =
 pub last_end : (k n : ℕ) → 0 < level_count k n → level_start k n 0 + level_len k n 0 ≡ total k n
 last_end k n some =
     let count : suc (level_count k n - 1) ≡ level_count k n = omega arith in
-    let first : blocks_of_levels k n 0 (suc (level_count k n - 1)) ≡ level_len k n 0 + blocks_of_levels k n (0 + 1) (level_count k n - 1) = blocks_of_levels-first k n 0 (level_count k n - 1) in
+    let first : blocks_of_levels k n 0 (suc (level_count k n - 1)) ≡ level_len k n 0 + blocks_of_levels k n (0 + 1)
+    (level_count k n - 1) = blocks_of_levels-first k n 0 (level_count k n - 1) in
     let whole : blocks_of_levels k n 0 (suc (level_count k n - 1)) ≡ total k n = ap (λ m. blocks_of_levels k n 0 m) count in
     omega arith
 
-starts_in_order_by : (k n t l : ℕ) → suc l + t < level_count k n → level_start k n (suc l + t) + level_len k n (suc l + t) ≤ level_start k n l
+starts_in_order_by : (k n t l : ℕ) → suc l + t < level_count k n →
+    level_start k n (suc l + t) + level_len k n (suc l + t) ≤ level_start k n l
 starts_in_order_by k n zero l below =
     let at : suc l + 0 ≡ suc l = omega arith in
     let Q : ℕ → Type 0 = λ m. level_start k n m + level_len k n m ≤ level_start k n l in
     let next = next_start k n l (omega arith) in
     subst Q (sym at) (omega arith)
 starts_in_order_by k n (suc t) l below =
-    let nearer : level_start k n (suc (suc l) + t) + level_len k n (suc (suc l) + t) ≤ level_start k n (suc l) = starts_in_order_by k n t (suc l) (omega arith) in
+    let nearer : level_start k n (suc (suc l) + t) + level_len k n (suc (suc l) + t) ≤ level_start k n (suc l) =
+    starts_in_order_by k n t (suc l) (omega arith) in
     let next = next_start k n l (omega arith) in
     let at : suc (suc l) + t ≡ suc l + suc t = omega arith in
     let Q : ℕ → Type 0 = λ m. level_start k n m + level_len k n m ≤ level_start k n l in
@@ -188,7 +196,8 @@ row_len_two k n r two below = two_from_ceil n (k ^ r) (row_len k n r) (level_bel
 pub row_len-half : (k n r : ℕ) → 8 ≤ k → r < level_count k n → row_len k n (suc r) * 2 ≤ row_len k n r
 row_len-half k n r wide below =
     let some : 0 < k = omega arith in
-    rw (row_len-suc k n r some) (half k (row_len k n r) (div_ceil (row_len k n r) k) wide (row_len_two k n r (omega arith) below) (IsCeil-div_ceil (row_len k n r) k (omega arith)))
+    rw (row_len-suc k n r some) (half k (row_len k n r) (div_ceil (row_len k n r) k) wide (row_len_two k n r (omega arith) below)
+    (IsCeil-div_ceil (row_len k n r) k (omega arith)))
 
 -- the levels from l on have at most twice the blocks of level l
 blocks_from_le : (k n t l : ℕ) → 8 ≤ k → l + suc t ≡ level_count k n → blocks_of_levels k n l (suc t) ≤ level_len k n l * 2
@@ -215,5 +224,6 @@ total_most k n wide = total_by k n (level_count k n) wide refl
 pub part_most : (k n l m : ℕ) → 8 ≤ k → l + m ≤ level_count k n → blocks_of_levels k n l m ≤ n
 part_most k n l m wide within =
     let wider : blocks_of_levels k n l m ≤ blocks_of_levels k n 0 (l + m) = blocks_of_levels-le k n l m in
-    let longer : blocks_of_levels k n 0 (l + m) ≤ total k n = first_levels_le k n (level_count k n - (l + m)) (l + m) (level_count k n) (omega arith) in
+    let longer : blocks_of_levels k n 0 (l + m) ≤ total k n =
+    first_levels_le k n (level_count k n - (l + m)) (l + m) (level_count k n) (omega arith) in
     omega (arith, total_most k n wide)

@@ -5,7 +5,8 @@ use Rattle.std.proofs.Math.Nat.{mul-le-mul_left}
 use Rattle.std.specs.Fork.{slice_chunk}
 
 -- a block of a group
-pub block_in_group : (blocks : List ℕ) (size at j n k : ℕ) → j < n → at ≡ k * size → slice_chunk (take (n * size) (drop at blocks)) size j ≡ slice_chunk blocks size (k + j)
+pub block_in_group : (blocks : List ℕ) (size at j n k : ℕ) → j < n → at ≡ k * size →
+    slice_chunk (take (n * size) (drop at blocks)) size j ≡ slice_chunk blocks size (k + j)
 block_in_group blocks size at j n k lt e =
     let next : j + 1 ≤ n = omega arith in
     let fits : size * (j + 1) ≤ size * n = mul-le-mul_left size next in

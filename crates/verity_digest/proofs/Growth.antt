@@ -15,7 +15,8 @@ ceil_le n m w a b le p q =
     omega arith
 
 pub row_len-mono : (k n m r : ℕ) → 0 < k → n ≤ m → row_len k n r ≤ row_len k m r
-row_len-mono k n m r some le = ceil_le n m (k ^ r) (row_len k n r) (row_len k m r) le (IsCeil-row_len k n r some) (IsCeil-row_len k m r some)
+row_len-mono k n m r some le = ceil_le n m (k ^ r) (row_len k n r) (row_len k m r) le (IsCeil-row_len k n r some)
+    (IsCeil-row_len k m r some)
 
 pub level_count-mono : (k n m : ℕ) → 2 ≤ k → n ≤ m → level_count k n ≤ level_count k m
 level_count-mono k n m two le =
@@ -30,11 +31,18 @@ sum_by-le : (f g : ℕ → ℕ) → ((i : ℕ) → f i ≤ g i) → (m n a : ℕ
 sum_by-le f g each zero n a le = omega arith
 sum_by-le f g each (suc m) zero a le = absurd (omega arith)
 sum_by-le f g each (suc m) (suc n) a le =
-    omega (arith, sum_by-cons f a (range_with_len (a + 1) m), sum_by-cons g a (range_with_len (a + 1) n), each a, sum_by-le f g each m n (a + 1) (omega arith))
+    omega (
+      arith,
+      sum_by-cons f a (range_with_len (a + 1) m),
+      sum_by-cons g a (range_with_len (a + 1) n),
+      each a,
+      sum_by-le f g each m n (a + 1) (omega arith),
+    )
 
 pub blocks_of_levels-mono : (k n m l a b : ℕ) → 0 < k → n ≤ m → a ≤ b → blocks_of_levels k n l a ≤ blocks_of_levels k m l b
 unfolding blocks_of_levels
-blocks_of_levels-mono k n m l a b some le order = sum_by-le (level_len k n) (level_len k m) (λ i. row_len-mono k n m (suc i) some le) a b l order
+blocks_of_levels-mono k n m l a b some le order =
+    sum_by-le (level_len k n) (level_len k m) (λ i. row_len-mono k n m (suc i) some le) a b l order
 
 pub level_start-mono : (k n m l : ℕ) → 2 ≤ k → n ≤ m → level_start k n l ≤ level_start k m l
 level_start-mono k n m l two le =

@@ -45,7 +45,8 @@ level_below k n l two below = let counted = IsLevelCount-level_count k n two in 
 -- the number of levels, from the two powers about the count
 pub level_count_between : (k n L : ℕ) → 2 ≤ k → k ^ L < n → n ≤ k ^ suc L → level_count k n ≡ suc L
 level_count_between k n L two low high =
-    let least : (l : ℕ) → l < suc L → k ^ l < n = λ l below. let order : k ^ l ≤ k ^ L = pow-le-pow_right (omega arith) (omega arith) in omega arith in
+    let least : (l : ℕ) → l < suc L → k ^ l < n = λ l below. let order : k ^ l ≤ k ^ L =
+    pow-le-pow_right (omega arith) (omega arith) in omega arith in
     sym (level_count_is k n (suc L) two (record { enough = high; least = least }))
 
 -- a power of a larger base below a power has a smaller exponent

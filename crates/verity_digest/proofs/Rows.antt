@@ -1,8 +1,10 @@
 -- The rows of an image and its hash tree, and the levels of its rounds.
 -- For the layers above: `length-row`, `slot-row` (the digest that a block holds), `root-row`; `length-levels`, `level-row`
 -- and `level_block-row` (a level is a row), `length-level_of`, `length-tree`, `tree-place` (where the blocks of the tree
--- stand), `tree_by_places` (what is the tree), `digests_at-row`, `length-digests_at-row`, `block_at-run` (a hash block by the digests that it holds).
-use Rattle.std.proofs.Common.{◌≡◌, ℕ, zero, suc, ◌+◌, ◌-◌, ◌/◌, ◌%◌, ◌<◌, ◌≤◌, List, [], length, map, drop, get_or, ⊎_elim, refl, sym, ap, ◌∙◌, subst, arith}
+-- stand), `tree_by_places` (what is the tree), `digests_at-row`, `length-digests_at-row`, `block_at-run` (a hash block by the
+-- digests that it holds).
+use Rattle.std.proofs.Common.{◌≡◌, ℕ, zero, suc, ◌+◌, ◌-◌, ◌/◌, ◌%◌, ◌<◌, ◌≤◌, List, [], length, map, drop, get_or, ⊎_elim, refl}
+use Rattle.std.proofs.Common.{sym, ap, ◌∙◌, subst, arith}
 use Rattle.std.specs.Int.{div_ceil}
 use Rattle.std.specs.Fork.{slice_chunk}
 use Rattle.std.proofs.lemmas.Bool.{cases_lt}
@@ -18,7 +20,8 @@ use Rattle.verity_digest.proofs.Places.{joined_from_last, get_or-joined_from_las
 use Rattle.verity_digest.proofs.Numbers.{level_count_is}
 use Rattle.verity_digest.proofs.Counts.{row_len-zero, row_len-suc, row_len_top, placed}
 
-pub length-row : (h : Hashing) (image : List (List ℕ)) (r : ℕ) → 0 < per_block h → length (row h image r) ≡ row_len (per_block h) (length image) r
+pub length-row : (h : Hashing) (image : List (List ℕ)) (r : ℕ) → 0 < per_block h →
+    length (row h image r) ≡ row_len (per_block h) (length image) r
 length-row h image zero some = sym (row_len-zero (per_block h) (length image))
 length-row h image (suc r) some =
     length-pack h (map h.digest (row h image r))
@@ -33,13 +36,15 @@ digests_at-row h image (suc l) = digests_at-suc h l (map h.digest image) ∙ ap 
 
 pub length-digests_at-row : (h : Hashing) (image : List (List ℕ)) (l : ℕ) → 0 < per_block h
     → length (digests_at h l (map h.digest image)) ≡ row_len (per_block h) (length image) l
-length-digests_at-row h image l some = ap length (digests_at-row h image l) ∙ length-map (row h image l) h.digest ∙ length-row h image l some
+length-digests_at-row h image l some = ap length (digests_at-row h image l) ∙ length-map (row h image l) h.digest
+    ∙ length-row h image l some
 
 -- block i of the next row holds the digests from block i * k of this row on
 pub block_at-run : (h : Hashing) (image : List (List ℕ)) (r i : ℕ) → 0 < per_block h → i < row_len (per_block h) (length image) (suc r)
     → block_at h image (suc r) i ≡ hash_block h (slice_chunk (map h.digest (row h image r)) (per_block h) i)
 block_at-run h image r i some below =
-    let long : length (pack h (map h.digest (row h image r))) ≡ row_len (per_block h) (length image) (suc r) = length-row h image (suc r) some in
+    let long : length (pack h (map h.digest (row h image r))) ≡ row_len (per_block h) (length image) (suc r) =
+    length-row h image (suc r) some in
     get_or-pack h (map h.digest (row h image r)) i (omega (arith, length-pack h (map h.digest (row h image r))))
 
 -- the digest of block i of a row stands in block i / k of the next row, slot i % k
@@ -53,7 +58,8 @@ none_counted : (h : Hashing) (image : List (List ℕ)) → 2 ≤ per_block h →
 none_counted h image two none = ap length (rounds-few h (map h.digest image) (rw length-map (omega arith)))
 
 -- as many levels as it takes
-pub IsLevelCount-levels : (h : Hashing) (image : List (List ℕ)) → 2 ≤ per_block h → IsLevelCount (per_block h) (length image) (length (tree_levels h image))
+pub IsLevelCount-levels : (h : Hashing) (image : List (List ℕ)) → 2 ≤ per_block h →
+    IsLevelCount (per_block h) (length image) (length (tree_levels h image))
 IsLevelCount-levels h image two =
     let P : ℕ → Type 0 = λ n. IsLevelCount (per_block h) n (length (tree_levels h image)) in
     ⊎_elim
@@ -64,7 +70,8 @@ IsLevelCount-levels h image two =
     record { enough = omega arith; least = λ l below. absurd (omega arith) })
     (cases_lt 0 (length image))
 
-pub length-levels : (h : Hashing) (image : List (List ℕ)) → 2 ≤ per_block h → length (tree_levels h image) ≡ level_count (per_block h) (length image)
+pub length-levels : (h : Hashing) (image : List (List ℕ)) → 2 ≤ per_block h →
+    length (tree_levels h image) ≡ level_count (per_block h) (length image)
 length-levels h image two = level_count_is (per_block h) (length image) (length (tree_levels h image)) two (IsLevelCount-levels h image two)
 
 -- level l is row l + 1
@@ -83,7 +90,8 @@ pub length-level_of : (h : Hashing) (image : List (List ℕ)) (l : ℕ) → 2 �
 length-level_of h image l two below = ap length (level-row h image l two below) ∙ length-row h image (suc l) (omega arith)
 
 part_len : (h : Hashing) (image : List (List ℕ)) (l : ℕ) → 2 ≤ per_block h → l ≤ level_count (per_block h) (length image)
-    → length (joined_from_last (drop l (tree_levels h image))) ≡ blocks_of_levels (per_block h) (length image) l (level_count (per_block h) (length image) - l)
+    → length (joined_from_last (drop l (tree_levels h image))) ≡ blocks_of_levels (per_block h) (length image) l
+    (level_count (per_block h) (length image) - l)
 unfolding blocks_of_levels
 part_len h image l two within =
     let k : ℕ = per_block h in
@@ -100,7 +108,8 @@ length-tree h image two =
 
 -- where block i of level l stands in the tree
 pub tree-place : (h : Hashing) (image : List (List ℕ)) (l i : ℕ) → 2 ≤ per_block h → l < level_count (per_block h) (length image)
-    → i < level_len (per_block h) (length image) l → get_or (tree h image) (place (per_block h) (length image) l i) [] ≡ level_block h image l i
+    → i < level_len (per_block h) (length image) l → get_or (tree h image) (place (per_block h) (length image) l i) [] ≡ level_block
+    h image l i
 tree-place h image l i two below inside =
     let levels : List (List (List ℕ)) = tree_levels h image in
     let count = length-levels h image two in

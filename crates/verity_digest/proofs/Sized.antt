@@ -1,6 +1,7 @@
 -- The size of hash blocks, and what they leave free.
 -- For the layers above: `AllSized-row`, `AllSized-tree`, `AllSized-tree_above`, `drop-held` (zeros).
-use Rattle.std.proofs.Common.{◌≡◌, ℕ, zero, suc, ◌-◌, ◌*◌, ◌<◌, min, List, [], ◌∷◌, ◌++◌, length, map, drop, replicate, get_or, sym, ap, ◌∙◌, subst, arith}
+use Rattle.std.proofs.Common.{◌≡◌, ℕ, zero, suc, ◌-◌, ◌*◌, ◌<◌, min, List, [], ◌∷◌, ◌++◌, length, map, drop, replicate, get_or, sym}
+use Rattle.std.proofs.Common.{ap, ◌∙◌, subst, arith}
 use Rattle.std.specs.Prelude.{All}
 use Rattle.std.specs.Fork.{slice_chunk}
 use Rattle.std.proofs.lemmas.List.{length-map, length-take, length-drop}
@@ -21,7 +22,8 @@ AreSized-All size digests all = record { each = λ i below. All-get_or (λ d. le
 pub length-run : {X : Type 0} (xs : List X) (w i : ℕ) → length (slice_chunk xs w i) ≡ min w (length xs - i * w)
 length-run xs w i = length-take w (drop (i * w) xs) ∙ ap (λ n. min w n) (length-drop (i * w) xs)
 
-pub AllSized-pack : (h : Hashing) (digests : List (List ℕ)) → AreSized h.digest_size digests → All (λ b. length b ≡ h.block_size) (pack h digests)
+pub AllSized-pack : (h : Hashing) (digests : List (List ℕ)) → AreSized h.digest_size digests →
+    All (λ b. length b ≡ h.block_size) (pack h digests)
 AllSized-pack h digests sized = All-from_get_or (λ b. length b ≡ h.block_size) (pack h digests) []
     (λ i below.
     let w : ℕ = per_block h in
@@ -33,14 +35,16 @@ AllSized-pack h digests sized = All-from_get_or (λ b. length b ≡ h.block_size
 pub AllSized-row : (h : Hashing) (image : List (List ℕ)) (r : ℕ) → IsHashing h → All (λ b. length b ≡ h.block_size) (row h image (suc r))
 AllSized-row h image r ok = AllSized-pack h (map h.digest (row h image r)) (AreSized-digests h (row h image r) ok)
 
-AreSized-digests_at : (h : Hashing) (digests : List (List ℕ)) (l : ℕ) → IsHashing h → AreSized h.digest_size digests → AreSized h.digest_size (digests_at h l digests)
+AreSized-digests_at : (h : Hashing) (digests : List (List ℕ)) (l : ℕ) → IsHashing h → AreSized h.digest_size digests →
+    AreSized h.digest_size (digests_at h l digests)
 unfolding digests_at
 AreSized-digests_at h digests zero ok sized = sized
 AreSized-digests_at h digests (suc l) ok sized =
     let P : List (List ℕ) → Type 0 = λ ds. AreSized h.digest_size ds in
     subst P (sym (digests_at-suc h l digests)) (AreSized-digests h (pack h (digests_at h l digests)) ok)
 
-pub All-joined_from_last : (P : List ℕ → Type 0) (levels : List (List (List ℕ))) → All (λ level. All P level) levels → All P (joined_from_last levels)
+pub All-joined_from_last : (P : List ℕ → Type 0) (levels : List (List (List ℕ))) → All (λ level. All P level) levels →
+    All P (joined_from_last levels)
 All-joined_from_last P [] all = All-nil P
 All-joined_from_last P (x ∷ levels) all =
     All-same P (joined_from_last (x ∷ levels)) (joined_from_last levels ++ (x ++ [])) (joined_from_last-append (x ∷ []) levels)
@@ -57,8 +61,10 @@ AllSized-rounds h digests ok sized =
     (AllSized-pack h (digests_at h l digests) (AreSized-digests_at h digests l ok sized)))
 
 -- each block of the tree above these digests has the block size
-pub AllSized-tree_above : (h : Hashing) (digests : List (List ℕ)) → IsHashing h → AreSized h.digest_size digests → All (λ b. length b ≡ h.block_size) (tree_above h digests)
-AllSized-tree_above h digests ok sized = All-joined_from_last (λ b. length b ≡ h.block_size) (rounds h digests) (AllSized-rounds h digests ok sized)
+pub AllSized-tree_above : (h : Hashing) (digests : List (List ℕ)) → IsHashing h → AreSized h.digest_size digests →
+    All (λ b. length b ≡ h.block_size) (tree_above h digests)
+AllSized-tree_above h digests ok sized =
+    All-joined_from_last (λ b. length b ≡ h.block_size) (rounds h digests) (AllSized-rounds h digests ok sized)
 
 pub AllSized-tree : (h : Hashing) (image : List (List ℕ)) → IsHashing h → All (λ b. length b ≡ h.block_size) (tree h image)
 AllSized-tree h image ok = AllSized-tree_above h (map h.digest image) ok (AreSized-digests h image ok)

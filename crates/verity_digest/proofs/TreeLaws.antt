@@ -1,6 +1,7 @@
 -- The laws of hash trees, put together.
 use Rattle.std.proofs.Common.{◌≡◌, ℕ, suc, ◌*◌, ◌/◌, ◌%◌, ◌^◌, ◌<◌, ◌≤◌, List, [], ◌∷◌, length, map, drop, sym, ap, ◌∙◌, arith}
-use Rattle.verity_digest.specs.Laws.{UnfoldsRounds, HasNoLevel, CountsBlocks, PlacesBlocks, OrdersLevels, NamesDigests, FillsBlocks, GoesByRows, NamesByRows, HashesAll, GrowsWithCount, LiesAbove}
+use Rattle.verity_digest.specs.Laws.{UnfoldsRounds, HasNoLevel, CountsBlocks, PlacesBlocks, OrdersLevels, NamesDigests, FillsBlocks}
+use Rattle.verity_digest.specs.Laws.{GoesByRows, NamesByRows, HashesAll, GrowsWithCount, LiesAbove}
 use Rattle.verity_digest.specs.Tree.{Hashing, per_block, slot, IsHashing}
 use Rattle.verity_digest.specs.Shape.{level_count, row_len, held}
 use Rattle.verity_digest.specs.Rows.{tree_levels, block_at}
@@ -13,7 +14,8 @@ use Rattle.verity_digest.proofs.Sha.{length-digest_of, IsHashing-hashing}
 use Rattle.verity_digest.proofs.Numbers.{level_below}
 use Rattle.verity_digest.proofs.Counts.{row_len_top, top_start, next_start, last_end, placed}
 use Rattle.verity_digest.proofs.Growth.{level_count-mono, row_len-mono, level_start-mono, total-mono, above_within, above-zero, above-suc}
-use Rattle.verity_digest.proofs.Rows.{IsLevelCount-levels, length-levels, length-level_of, length-tree, tree-place, level-row, level_block-row, length-row, digests_at-row, root-row, slot-row}
+use Rattle.verity_digest.proofs.Rows.{IsLevelCount-levels, length-levels, length-level_of, length-tree, tree-place, level-row}
+use Rattle.verity_digest.proofs.Rows.{level_block-row, length-row, digests_at-row, root-row, slot-row}
 use Rattle.verity_digest.proofs.Sized.{AllSized-rounds, AllSized-tree, drop-held}
 
 pub unfolds_rounds : (h : Hashing) → 2 ≤ per_block h → UnfoldsRounds h
@@ -26,7 +28,11 @@ unfolds_rounds h two = record {
 pub has_no_level : (h : Hashing) (block : List ℕ) → HasNoLevel h block
 has_no_level h block =
     let none : tree_levels h (block ∷ []) ≡ [] = rounds-few h (h.digest block ∷ []) (omega arith) in
-    record { levels = none; tree = ap (λ levels. joined_from_last levels) none; root = root_above-one h (h.digest block ∷ []) (omega arith) }
+    record {
+      levels = none;
+      tree = ap (λ levels. joined_from_last levels) none;
+      root = root_above-one h (h.digest block ∷ []) (omega arith);
+    }
 
 pub counts_blocks : (h : Hashing) (image : List (List ℕ)) → 2 ≤ per_block h → CountsBlocks h image
 counts_blocks h image two = record {

@@ -1,5 +1,6 @@
 -- Laws of hash trees. In all of them k is `per_block h` and n is `length image`.
-use Rattle.std.specs.Prelude.{◌≡◌, ℕ, suc, ◌+◌, ◌-◌, ◌*◌, ◌/◌, ◌%◌, ◌<◌, ◌≤◌, List, [], ◌∷◌, length, map, drop, replicate, slice_index_or, All}
+use Rattle.std.specs.Prelude.{◌≡◌, ℕ, suc, ◌+◌, ◌-◌, ◌*◌, ◌/◌, ◌%◌, ◌<◌, ◌≤◌, List, [], ◌∷◌, length, map, drop, replicate}
+use Rattle.std.specs.Prelude.{slice_index_or, All}
 use Rattle.verity_digest.specs.declared.algorithm.Algorithm.{Algorithm}
 use Rattle.verity_digest.specs.Tree.{Hashing, per_block, pack, rounds, last_digests, digests_at, slot, root, tree, IsHashing, IsLevelCount}
 use Rattle.verity_digest.specs.Hash.{Salted, hashing, digest_of, size_of}

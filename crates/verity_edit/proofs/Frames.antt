@@ -6,7 +6,8 @@ use Rattle.verity_store.specs.Stores.{IsLater, StaysStore, IsOnlyWritten, IsKept
 use Rattle.verity_store.specs.declared.store.BlockStore as store
 use Rattle.verity_store.proofs.StoreLemmas.{later_same, later_then}
 
-pub stays_then : {S : Type 0} (facts : store.Ghosts S) (old now new : S) → StaysStore facts old now → StaysStore facts now new → StaysStore facts old new
+pub stays_then : {S : Type 0} (facts : store.Ghosts S) (old now new : S) → StaysStore facts old now → StaysStore facts now new →
+    StaysStore facts old new
 stays_then facts old now new first second =
     record {
       tells = second.tells ∙ first.tells;
@@ -18,24 +19,49 @@ stays_then facts old now new first second =
     }
 
 pub stays_of : {S : Type 0} (facts : store.Ghosts S) (old new : S) → IsLater facts old new → StaysStore facts old new
-stays_of facts old new later = record { tells = later.tells; size = later.size; fixed = later.fixed; gave = later.gave; failures = later.failures; room = later.room }
+stays_of facts old new later = record {
+  tells = later.tells;
+  size = later.size;
+  fixed = later.fixed;
+  gave = later.gave;
+  failures = later.failures;
+  room = later.room;
+}
 
 pub written_same : {S : Type 0} (facts : store.Ghosts S) (s : S) → IsOnlyWritten facts s s
 written_same facts s = record { reads = refl; later = later_same facts s }
 
-pub written_then : {S : Type 0} (facts : store.Ghosts S) (old now new : S) → IsOnlyWritten facts old now → IsOnlyWritten facts now new → IsOnlyWritten facts old new
-written_then facts old now new first second = record { reads = second.reads ∙ first.reads; later = later_then facts old now new first.later second.later }
+pub written_then : {S : Type 0} (facts : store.Ghosts S) (old now new : S) → IsOnlyWritten facts old now →
+    IsOnlyWritten facts now new → IsOnlyWritten facts old new
+written_then facts old now new first second =
+    record { reads = second.reads ∙ first.reads; later = later_then facts old now new first.later second.later }
 
 pub kept_then : {S : Type 0} (facts : store.Ghosts S) (old now new : S) → IsKept facts old now → IsKept facts now new → IsKept facts old new
 kept_then facts old now new first second =
-    record { content = second.content ∙ first.content; reads = second.reads ∙ first.reads; later = later_then facts old now new first.later second.later }
+    record {
+      content = second.content ∙ first.content;
+      reads = second.reads ∙ first.reads;
+      later = later_then facts old now new first.later second.later;
+    }
 
 -- a call that reads nothing, after others
-pub wrote : {S : Type 0} (facts : store.Ghosts S) (old now new : S) → IsOnlyWritten facts old now → facts.tells new ≡ facts.tells now → facts.size new ≡ facts.size now → facts.fixed new ≡ facts.fixed now
+pub wrote : {S : Type 0} (facts : store.Ghosts S) (old now new : S) → IsOnlyWritten facts old now →
+    facts.tells new ≡ facts.tells now → facts.size new ≡ facts.size now → facts.fixed new ≡ facts.fixed now
     → GoesOn (facts.given now) (facts.given new) → facts.failures now ≤ facts.failures new → facts.reads new ≡ facts.reads now
     → facts.room now ≤ facts.room new → IsOnlyWritten facts old new
 wrote facts old now new first tells size fixed gave failures reads room =
-    written_then facts old now new first (record { reads = reads; later = record { tells = tells; size = size; fixed = fixed; gave = gave; failures = failures; reads = omega arith; room = room } })
+    written_then facts old now new first (record {
+      reads = reads;
+      later = record {
+        tells = tells;
+        size = size;
+        fixed = fixed;
+        gave = gave;
+        failures = failures;
+        reads = omega arith;
+        room = room;
+      };
+    })
 
 pub stays_same : {S : Type 0} (facts : store.Ghosts S) (s : S) → StaysStore facts s s
 stays_same facts s = stays_of facts s s (later_same facts s)

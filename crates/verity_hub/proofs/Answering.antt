@@ -15,7 +15,8 @@ ok_answer (Err check.Lengths) P Q f h = tt
 ok_answer (Err check.CacheSize) P Q f h = tt
 
 -- Io comes of another refusal than want of memory
-pub io_answer : (a : Result (Unit {0}) CheckFault) (P Q : CheckFault → Type 0) (R : Type 0) → ((fault : CheckFault) → fault ≢ check.NoMemory → P fault → Q fault → R)
+pub io_answer : (a : Result (Unit {0}) CheckFault) (P Q : CheckFault → Type 0) (R : Type 0) →
+    ((fault : CheckFault) → fault ≢ check.NoMemory → P fault → Q fault → R)
     → IfErr a P → IfErr a Q → IsErrOf (answer_of a) export.Io → R
 io_answer (Ok x) P Q R f p q is = absurd (let no : ⊥ = cc in no)
 io_answer (Err check.NoMemory) P Q R f p q is = absurd (let no : ⊥ = cc in no)
@@ -25,7 +26,8 @@ io_answer (Err check.Lengths) P Q R f p q is = f check.Lengths (λ e. let no : �
 io_answer (Err check.CacheSize) P Q R f p q is = f check.CacheSize (λ e. let no : ⊥ = cc in no) p q
 
 -- NoMemory comes of want of memory alone
-pub lack_answer : (a : Result (Unit {0}) CheckFault) (R : Type 0) → IfErr a (λ fault. fault ≡ check.NoMemory → R) → IsErrOf (answer_of a) export.NoMemory → R
+pub lack_answer : (a : Result (Unit {0}) CheckFault) (R : Type 0) → IfErr a (λ fault. fault ≡ check.NoMemory → R) →
+    IsErrOf (answer_of a) export.NoMemory → R
 lack_answer (Ok x) R f is = absurd (let no : ⊥ = cc in no)
 lack_answer (Err check.NoMemory) R f is = f refl
 lack_answer (Err (check.Mismatch place)) R f is = absurd (let no : ⊥ = cc in no)

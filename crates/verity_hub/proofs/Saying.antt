@@ -15,8 +15,10 @@ use Rattle.verity_hub.specs.Volume.{HoldsFor, facts_of, IsExactFor, IsRightFor, 
 use Rattle.verity_hub.proofs.VolumeLaws.{given_right}
 
 module _ {D H : Type 0} (data_facts : store.Ghosts D) (hash_facts : store.Ghosts H) where
-  pub says_right : (v w : Verifying D H) → IsVerifier data_facts hash_facts w → (image : List (List ℕ)) → Fits w.table image → (offer : Offer) (input said : List ℕ)
-      → Talked (facts_of data_facts hash_facts v) (facts_of data_facts hash_facts w) offer input said → SaysRight data_facts hash_facts w image offer input said
+  pub says_right : (v w : Verifying D H) → IsVerifier data_facts hash_facts w → (image : List (List ℕ)) → Fits w.table image →
+      (offer : Offer) (input said : List ℕ)
+      → Talked (facts_of data_facts hash_facts v) (facts_of data_facts hash_facts w) offer input said →
+      SaysRight data_facts hash_facts w image offer input said
   says_right v w ok image fits offer input said t =
       let a = facts_of data_facts hash_facts v in
       let b = facts_of data_facts hash_facts w in
@@ -33,11 +35,14 @@ module _ {D H : Type 0} (data_facts : store.Ghosts D) (hash_facts : store.Ghosts
   fair_exact v w image h offset len (Refused error) (inl e) = inl e.0
   fair_exact v w image h offset len (Refused error) (inr e) = inr e.0
 
-  pub says_exact : (v w : Verifying D H) (image : List (List ℕ)) → HoldsFor data_facts hash_facts v image → (offer : Offer) (input said : List ℕ)
-      → Talked (facts_of data_facts hash_facts v) (facts_of data_facts hash_facts w) offer input said → SaysExact data_facts hash_facts v w image offer input said
+  pub says_exact : (v w : Verifying D H) (image : List (List ℕ)) → HoldsFor data_facts hash_facts v image →
+      (offer : Offer) (input said : List ℕ)
+      → Talked (facts_of data_facts hash_facts v) (facts_of data_facts hash_facts w) offer input said →
+      SaysExact data_facts hash_facts v w image offer input said
   says_exact v w image h offer input said t = record {
     verdicts = t.verdicts;
-    judged = Judged-weaker (Fair (facts_of data_facts hash_facts v) (facts_of data_facts hash_facts w)) (IsExactFor image) (hear offer Flags input).answers t.verdicts (fair_exact v w image h) t.judged;
+    judged = Judged-weaker (Fair (facts_of data_facts hash_facts v) (facts_of data_facts hash_facts w)) (IsExactFor image)
+        (hear offer Flags input).answers t.verdicts (fair_exact v w image h) t.judged;
     counted = t.counted (concat image) (image, h, refl);
     exact = t.exact;
   }

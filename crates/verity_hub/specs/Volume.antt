@@ -29,7 +29,8 @@ IsExactFor image offset len (Refused error) = (error ≡ nbd_enomem) ⊎ (error 
 module _ {D H : Type 0} (data_facts : store.Ghosts D) (hash_facts : store.Ghosts H) where
   -- both stores tell, and hold the image and its tree under the table line
   abbrev pub HoldsFor : Verifying D H → (image : List (List ℕ)) → Type 0
-  HoldsFor v image = Holds v.table (data_facts.tells v.data_store) (data_facts.content v.data_store) (hash_facts.tells v.hash_store) (hash_facts.content v.hash_store) image
+  HoldsFor v image = Holds v.table (data_facts.tells v.data_store) (data_facts.content v.data_store) (hash_facts.tells v.hash_store)
+      (hash_facts.content v.hash_store) image
 
   -- the whole volume is these bytes, and its stores tell
   abbrev pub IsContent : Verifying D H → (content : List ℕ) → Type 0
@@ -60,7 +61,8 @@ module _ {D H : Type 0} (data_facts : store.Ghosts D) (hash_facts : store.Ghosts
   -- The verdict is right for an image: its bytes, unless a store gave a block that clashes with it; or want of memory; or
   -- EIO where the verifier may refuse the range.
   abbrev pub IsRightFor : Verifying D H → (image : List (List ℕ)) → (offset len : ℕ) → Verdict → Type 0
-  IsRightFor v image offset len (Bytes bytes) = (length bytes ≡ len) × AreRight v.table (given_to data_facts hash_facts v) image offset len bytes
+  IsRightFor v image offset len (Bytes bytes) = (length bytes ≡ len) ×
+      AreRight v.table (given_to data_facts hash_facts v) image offset len bytes
   IsRightFor v image offset len (Refused error) = (error ≡ nbd_enomem) ⊎ ((error ≡ nbd_eio) × MayRefuse data_facts hash_facts v offset len)
 
   -- This was said for an input, by verdicts that are right for an image.

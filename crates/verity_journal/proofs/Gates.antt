@@ -1,5 +1,6 @@
 -- What a stop leaves while a gate is opened or closed, and while a plan's changes are made.
-use Rattle.std.proofs.Common.{◌≡◌, ◌≢◌, ◌⊎◌, inl, inr, ⊎_elim, refl, ℕ, ◌+◌, ◌-◌, ◌≤◌, List, [], ◌∷◌, ◌++◌, length, get_or, take, drop, Option, None, Some, sym, ap, ◌∙◌, subst, arith}
+use Rattle.std.proofs.Common.{◌≡◌, ◌≢◌, ◌⊎◌, inl, inr, ⊎_elim, refl, ℕ, ◌+◌, ◌-◌, ◌≤◌, List, [], ◌∷◌, ◌++◌, length, get_or, take}
+use Rattle.std.proofs.Common.{drop, Option, None, Some, sym, ap, ◌∙◌, subst, arith}
 use Rattle.std.proofs.lemmas.Bool.{cases_eq}
 use Rattle.std.proofs.lemmas.Bool.Decides.{nat_tests}
 use Rattle.std.proofs.lemmas.List.{take_all}
@@ -7,7 +8,8 @@ use Rattle.verity_store.specs.RawFile.{overwritten}
 use Rattle.verity_journal.specs.declared.disks.Device.TheVariants.{Data, Hash, Journal}
 use Rattle.verity_journal.specs.Disks.{Contents, put, Torn, Reached, IsDurable}
 use Rattle.verity_journal.specs.Plan.{Plan, IsSide, IsSmall, Amid, made}
-use Rattle.verity_journal.specs.Journal.{spelled, read_plan, plan_of, Pair, made_pair, under, recovered, pair_of, volume, IsClosed, IsGated, IsOpen, IsReady, IsSettled, IsOldOrNew, IsNew, Suits}
+use Rattle.verity_journal.specs.Journal.{spelled, read_plan, plan_of, Pair, made_pair, under, recovered, pair_of, volume, IsClosed}
+use Rattle.verity_journal.specs.Journal.{IsGated, IsOpen, IsReady, IsSettled, IsOldOrNew, IsNew, Suits}
 use Rattle.verity_journal.proofs.Format.{read_plan-spelled}
 use Rattle.verity_journal.proofs.Parses.{plan_fits}
 use Rattle.verity_journal.proofs.Made.{made_same, made_again, amid_made, amid_self}
@@ -19,12 +21,15 @@ pub is_plan : (gate : ℕ) (rest : List ℕ) → gate ≢ 0 → plan_of (gate �
 is_plan gate rest opened = grind (arith, nat_tests)
 
 pub closed_is_old : (journal : List ℕ) (pair : Pair) → IsClosed journal → recovered journal pair ≡ pair
-closed_is_old journal pair (rest, is) = ap (λ (j : List ℕ). recovered j pair) is ∙ ap (λ (o : Option Plan). under o pair) (is_none 0 rest refl)
+closed_is_old journal pair (rest, is) = ap (λ (j : List ℕ). recovered j pair) is
+    ∙ ap (λ (o : Option Plan). under o pair) (is_none 0 rest refl)
 
 pub open_is_new : (plan : Plan) (journal : List ℕ) (pair : Pair) → IsOpen plan journal → recovered journal pair ≡ made_pair plan pair
-open_is_new plan journal pair (gate, rest, is, reads, opened) = ap (λ (j : List ℕ). recovered j pair) is ∙ ap (λ (o : Option Plan). under o pair) (is_plan gate rest opened ∙ reads)
+open_is_new plan journal pair (gate, rest, is, reads, opened) = ap (λ (j : List ℕ). recovered j pair) is
+    ∙ ap (λ (o : Option Plan). under o pair) (is_plan gate rest opened ∙ reads)
 
-gated_is_one : (plan : Plan) (journal : List ℕ) (pair : Pair) → IsGated plan journal → (recovered journal pair ≡ pair) ⊎ (recovered journal pair ≡ made_pair plan pair)
+gated_is_one : (plan : Plan) (journal : List ℕ) (pair : Pair) → IsGated plan journal → (recovered journal pair ≡ pair) ⊎
+    (recovered journal pair ≡ made_pair plan pair)
 gated_is_one plan journal pair (gate, rest, is, reads) =
     ⊎_elim
     (λ shut. inl (ap (λ (j : List ℕ). recovered j pair) is ∙ ap (λ (o : Option Plan). under o pair) (is_none gate rest shut)))
@@ -39,21 +44,26 @@ torn_closed n old (x ∷ new) (rest, is) torn = (new, ap (λ (l : List ℕ). l +
 -- a write of the gate leaves what stands behind it
 torn_gated : (plan : Plan) (old new : List ℕ) → IsGated plan old → Torn 0 1 old new → IsGated plan new
 torn_gated plan old [] (gate, rest, is, reads) torn = absurd (omega (arith, torn.no_shorter, ap length is))
-torn_gated plan old (x ∷ new) (gate, rest, is, reads) torn = (x, new, refl, ap read_plan (torn.after ∙ ap (λ (l : List ℕ). drop 1 l) is) ∙ reads)
+torn_gated plan old (x ∷ new) (gate, rest, is, reads) torn =
+    (x, new, refl, ap read_plan (torn.after ∙ ap (λ (l : List ℕ). drop 1 l) is) ∙ reads)
 
-pub staged : (plan : Plan) (bytes journal : List ℕ) → IsSide plan.on_data → IsSide plan.on_hash → IsSmall plan.on_data → IsSmall plan.on_hash → bytes ≡ spelled plan → IsClosed journal → IsGated plan (overwritten 1 bytes journal)
+pub staged : (plan : Plan) (bytes journal : List ℕ) → IsSide plan.on_data → IsSide plan.on_hash → IsSmall plan.on_data →
+    IsSmall plan.on_hash → bytes ≡ spelled plan → IsClosed journal → IsGated plan (overwritten 1 bytes journal)
 staged plan bytes journal d h sd sh same (rest, is) =
     let tail = drop (1 + length bytes) journal in
     (0, spelled plan ++ tail, (λ i. take 1 (is i) ++ (same i ++ tail)), read_plan-spelled plan d h sd sh tail)
 
-pub gate_written : (plan : Plan) (gate : ℕ) (journal : List ℕ) → IsGated plan journal → (rest : List ℕ) × (overwritten 0 (gate ∷ []) journal ≡ gate ∷ rest) × (read_plan rest ≡ Some plan)
+pub gate_written : (plan : Plan) (gate : ℕ) (journal : List ℕ) → IsGated plan journal → (rest : List ℕ) ×
+    (overwritten 0 (gate ∷ []) journal ≡ gate ∷ rest) × (read_plan rest ≡ Some plan)
 gate_written plan gate journal (old, rest, is, reads) = (rest, ap (λ (l : List ℕ). gate ∷ drop 1 l) is, reads)
 
-pair_same : (seen : Contents) (may_leave : Contents → Type 0) → IsDurable seen may_leave → (d : Contents) → may_leave d → pair_of d ≡ pair_of seen
+pair_same : (seen : Contents) (may_leave : Contents → Type 0) → IsDurable seen may_leave → (d : Contents) → may_leave d →
+    pair_of d ≡ pair_of seen
 pair_same seen may_leave durable d was = λ i. (durable Data d was i, durable Hash d was i)
 
 -- while a plan is written, the volume is as it was
-pub behind_is_old : (seen : Contents) (may_leave : Contents → Type 0) (n : ℕ) → IsSettled seen may_leave → (c : Contents) → Reached Journal (Torn 1 n) may_leave c → volume c ≡ pair_of seen
+pub behind_is_old : (seen : Contents) (may_leave : Contents → Type 0) (n : ℕ) → IsSettled seen may_leave → (c : Contents) →
+    Reached Journal (Torn 1 n) may_leave c → volume c ≡ pair_of seen
 behind_is_old seen may_leave n settled c (d, was, b, step, is) =
     let shut : IsClosed (d Journal) = (settled.closed.0, settled.durable Journal d was ∙ settled.closed.1) in
     ap volume is ∙ closed_is_old b (pair_of d) (torn_closed n (d Journal) b shut step) ∙ pair_same seen may_leave settled.durable d was
@@ -70,32 +80,53 @@ gate_is_one plan seen may_leave durable gated c (d, was, b, step, is) =
     (gated_is_one plan b (pair_of d) (torn_gated plan (d Journal) b there step))
 
 -- under an open gate, whatever lies amid the changes of both devices stands for the new volume
-amid_is_new : (plan : Plan) (base : Pair) → Suits plan base → (journal x y : List ℕ) → IsOpen plan journal → Amid plan.on_data base.0 x → Amid plan.on_hash base.1 y → recovered journal (x, y) ≡ made_pair plan base
+amid_is_new : (plan : Plan) (base : Pair) → Suits plan base → (journal x y : List ℕ) → IsOpen plan journal →
+    Amid plan.on_data base.0 x → Amid plan.on_hash base.1 y → recovered journal (x, y) ≡ made_pair plan base
 amid_is_new plan base suits journal x y opened on_data on_hash =
     open_is_new plan journal (x, y) opened
-    ∙ (λ i. (made_same plan.on_data suits.on_data base.0 x suits.data_kept on_data i, made_same plan.on_hash suits.on_hash base.1 y suits.hash_kept on_hash i))
+    ∙ (λ i. (
+      made_same plan.on_data suits.on_data base.0 x suits.data_kept on_data i,
+      made_same plan.on_hash suits.on_hash base.1 y suits.hash_kept on_hash i,
+    ))
 
 pub data_is_new : (plan : Plan) (seen : Contents) (may_leave : Contents → Type 0) → IsReady plan seen may_leave → Suits plan (pair_of seen)
     → (c : Contents) → Reached Data (Amid plan.on_data) may_leave c → IsNew plan (pair_of seen) c
 data_is_new plan seen may_leave ready suits c (d, was, b, step, is) =
-    let opened : IsOpen plan (d Journal) = (ready.opened.0, ready.opened.1, ready.durable Journal d was ∙ ready.opened.2, ready.opened.3, ready.opened.4) in
+    let opened : IsOpen plan (d Journal) = (
+      ready.opened.0,
+      ready.opened.1,
+      ready.durable Journal d was ∙ ready.opened.2,
+      ready.opened.3,
+      ready.opened.4,
+    ) in
     let on_data : Amid plan.on_data (seen Data) b = subst (λ (l : List ℕ). Amid plan.on_data l b) (ready.durable Data d was) step in
-    let on_hash : Amid plan.on_hash (seen Hash) (d Hash) = subst (λ (l : List ℕ). Amid plan.on_hash l (d Hash)) (ready.durable Hash d was) (amid_self plan.on_hash (d Hash)) in
+    let on_hash : Amid plan.on_hash (seen Hash) (d Hash) =
+    subst (λ (l : List ℕ). Amid plan.on_hash l (d Hash)) (ready.durable Hash d was) (amid_self plan.on_hash (d Hash)) in
     ap volume is ∙ amid_is_new plan (pair_of seen) suits (d Journal) b (d Hash) opened on_data on_hash
 
-module _ (plan : Plan) (seen one : Contents) (may_leave : Contents → Type 0) (suits : Suits plan (pair_of seen)) (opened : IsOpen plan (seen Journal))
+module _ (plan : Plan) (seen one : Contents) (may_leave : Contents → Type 0) (suits : Suits plan (pair_of seen))
+    (opened : IsOpen plan (seen Journal))
     (durable : IsDurable one may_leave) (data_made : one ≡ put Data (made plan.on_data (seen Data)) seen) where
   pub hash_is_new : (c : Contents) → Reached Hash (Amid plan.on_hash) may_leave c → IsNew plan (pair_of seen) c
   hash_is_new c (d, was, b, step, is) =
       let journal : d Journal ≡ seen Journal = durable Journal d was ∙ ap (λ (f : Contents). f Journal) data_made in
       let data_is : d Data ≡ made plan.on_data (seen Data) = durable Data d was ∙ ap (λ (f : Contents). f Data) data_made in
       let hash_is : d Hash ≡ seen Hash = durable Hash d was ∙ ap (λ (f : Contents). f Hash) data_made in
-      let on_data : Amid plan.on_data (seen Data) (d Data) = subst (λ (l : List ℕ). Amid plan.on_data (seen Data) l) (sym data_is) (amid_made plan.on_data suits.on_data (seen Data)) in
+      let on_data : Amid plan.on_data (seen Data) (d Data) =
+      subst (λ (l : List ℕ). Amid plan.on_data (seen Data) l) (sym data_is) (amid_made plan.on_data suits.on_data (seen Data)) in
       let on_hash : Amid plan.on_hash (seen Hash) b = subst (λ (l : List ℕ). Amid plan.on_hash l b) hash_is step in
-      ap volume is ∙ amid_is_new plan (pair_of seen) suits (d Journal) (d Data) b (opened.0, opened.1, journal ∙ opened.2, opened.3, opened.4) on_data on_hash
+      ap volume is ∙ amid_is_new plan (pair_of seen) suits (d Journal) (d Data) b (
+        opened.0,
+        opened.1,
+        journal ∙ opened.2,
+        opened.3,
+        opened.4,
+      ) on_data on_hash
 
-module _ (plan : Plan) (seen one two : Contents) (may_leave : Contents → Type 0) (suits : Suits plan (pair_of seen)) (opened : IsOpen plan (seen Journal))
-    (durable : IsDurable two may_leave) (data_made : one ≡ put Data (made plan.on_data (seen Data)) seen) (hash_made : two ≡ put Hash (made plan.on_hash (one Hash)) one) where
+module _ (plan : Plan) (seen one two : Contents) (may_leave : Contents → Type 0) (suits : Suits plan (pair_of seen))
+    (opened : IsOpen plan (seen Journal))
+    (durable : IsDurable two may_leave) (data_made : one ≡ put Data (made plan.on_data (seen Data)) seen)
+    (hash_made : two ≡ put Hash (made plan.on_hash (one Hash)) one) where
   pub pair_is_new : pair_of two ≡ made_pair plan (pair_of seen)
   pair_is_new = λ i. (
     (ap (λ (f : Contents). f Data) hash_made ∙ ap (λ (f : Contents). f Data) data_made) i,
@@ -103,13 +134,23 @@ module _ (plan : Plan) (seen one two : Contents) (may_leave : Contents → Type 
   )
 
   pub still_open : IsOpen plan (two Journal)
-  still_open = (opened.0, opened.1, ap (λ (f : Contents). f Journal) hash_made ∙ ap (λ (f : Contents). f Journal) data_made ∙ opened.2, opened.3, opened.4)
+  still_open = (
+    opened.0,
+    opened.1,
+    ap (λ (f : Contents). f Journal) hash_made ∙ ap (λ (f : Contents). f Journal) data_made
+        ∙ opened.2,
+    opened.3,
+    opened.4,
+  )
 
   pub still_gated : IsGated plan (two Journal)
   still_gated = (still_open.0, still_open.1, still_open.2, still_open.3)
 
   again : made_pair plan (made_pair plan (pair_of seen)) ≡ made_pair plan (pair_of seen)
-  again = λ i. (made_again plan.on_data suits.on_data (seen Data) suits.data_kept i, made_again plan.on_hash suits.on_hash (seen Hash) suits.hash_kept i)
+  again = λ i. (
+    made_again plan.on_data suits.on_data (seen Data) suits.data_kept i,
+    made_again plan.on_hash suits.on_hash (seen Hash) suits.hash_kept i,
+  )
 
   pub close_is_new : (c : Contents) → Reached Journal (Torn 0 1) may_leave c → IsNew plan (pair_of seen) c
   close_is_new c reached =
@@ -117,9 +158,11 @@ module _ (plan : Plan) (seen one two : Contents) (may_leave : Contents → Type 
       (gate_is_one plan two may_leave durable still_gated c reached)
 
 -- where a plan is read behind an open gate
-pub opened_is : (journal : List ℕ) (o : Option Plan) → 1 ≤ length journal → get_or journal 0 0 ≢ 0 → read_plan (take (length journal - 1) (drop 1 journal)) ≡ o → plan_of journal ≡ o
+pub opened_is : (journal : List ℕ) (o : Option Plan) → 1 ≤ length journal → get_or journal 0 0 ≢ 0 →
+    read_plan (take (length journal - 1) (drop 1 journal)) ≡ o → plan_of journal ≡ o
 opened_is [] o long opened reads = absurd (omega arith)
-opened_is (gate ∷ rest) o long opened reads = is_plan gate rest opened ∙ sym (ap read_plan (take_all (length (gate ∷ rest) - 1) rest (omega arith))) ∙ reads
+opened_is (gate ∷ rest) o long opened reads = is_plan gate rest opened
+    ∙ sym (ap read_plan (take_all (length (gate ∷ rest) - 1) rest (omega arith))) ∙ reads
 
 none_some : (p : Plan) → ◌≡◌ {A = Option Plan} None (Some p) → ⊥
 none_some p e = cc
@@ -147,12 +190,16 @@ torn_none (gate ∷ rest) (x ∷ new) none open_gate torn =
     let reads : read_plan new ≡ None = ap read_plan torn.after ∙ sym (is_plan gate rest opened) ∙ none in
     ⊎_elim (λ shut. is_none x new shut) (λ still. is_plan x new still ∙ reads) (cases_eq x 0)
 
-pub shutting : (seen : Contents) (may_leave : Contents → Type 0) → IsDurable seen may_leave → plan_of (seen Journal) ≡ None → ¬ IsClosed (seen Journal) → (c : Contents) → Reached Journal (Torn 0 1) may_leave c → volume c ≡ volume seen
+pub shutting : (seen : Contents) (may_leave : Contents → Type 0) → IsDurable seen may_leave → plan_of (seen Journal) ≡ None →
+    ¬ IsClosed (seen Journal) → (c : Contents) → Reached Journal (Torn 0 1) may_leave c → volume c ≡ volume seen
 shutting seen may_leave durable none open_gate c (d, was, b, step, is) =
-    let b_none : plan_of b ≡ None = torn_none (seen Journal) b none open_gate (subst (λ (l : List ℕ). Torn 0 1 l b) (durable Journal d was) step) in
-    ap volume is ∙ ap (λ (o : Option Plan). under o (pair_of d)) b_none ∙ pair_same seen may_leave durable d was ∙ sym (ap (λ (o : Option Plan). under o (pair_of seen)) none)
+    let b_none : plan_of b ≡ None = torn_none (seen Journal) b none open_gate
+    (subst (λ (l : List ℕ). Torn 0 1 l b) (durable Journal d was) step) in
+    ap volume is ∙ ap (λ (o : Option Plan). under o (pair_of d)) b_none ∙ pair_same seen may_leave durable d was
+    ∙ sym (ap (λ (o : Option Plan). under o (pair_of seen)) none)
 
-module _ (plan : Plan) (seen : Contents) (may_leave : Contents → Type 0) (durable : IsDurable seen may_leave) (reads : plan_of (seen Journal) ≡ Some plan)
+module _ (plan : Plan) (seen : Contents) (may_leave : Contents → Type 0) (durable : IsDurable seen may_leave)
+    (reads : plan_of (seen Journal) ≡ Some plan)
     (data_kept : plan.on_data.keep ≤ length (seen Data)) (hash_kept : plan.on_hash.keep ≤ length (seen Hash)) where
   pub is_ready : IsReady plan seen may_leave
   is_ready = record { durable = durable; opened = plan_is_open (seen Journal) plan reads }
@@ -167,5 +214,6 @@ module _ (plan : Plan) (seen : Contents) (may_leave : Contents → Type 0) (dura
   is_volume = sym (open_is_new plan (seen Journal) (pair_of seen) (plan_is_open (seen Journal) plan reads))
 
 -- what is on the devices stands for the volume that is read
-pub same_volume : (seen : Contents) (may_leave : Contents → Type 0) → IsDurable seen may_leave → (c : Contents) → may_leave c → volume c ≡ volume seen
+pub same_volume : (seen : Contents) (may_leave : Contents → Type 0) → IsDurable seen may_leave → (c : Contents) → may_leave c →
+    volume c ≡ volume seen
 same_volume seen may_leave durable c left = λ i. recovered (durable Journal c left i) (durable Data c left i, durable Hash c left i)

@@ -38,7 +38,8 @@ pub put_twice : (device : Device) (a b : List ℕ) (c : Contents) → put device
 put_twice device a b c = λ i other. at_twice device a b c other i
 
 -- of the other devices nothing has changed
-pub put_other : (device : Device) (a b : List ℕ) (c d : Contents) → ((other : Device) → c other ≡ d other) → (other : Device) → put device a c other ≡ put device a d other
+pub put_other : (device : Device) (a b : List ℕ) (c d : Contents) → ((other : Device) → c other ≡ d other) → (other : Device) →
+    put device a c other ≡ put device a d other
 put_other Data a b c d same Data = refl
 put_other Data a b c d same Hash = same Hash
 put_other Data a b c d same Journal = same Journal
@@ -52,11 +53,13 @@ put_other Journal a b c d same Journal = refl
 pub torn_self : (at n : ℕ) (b : List ℕ) → Torn at n b b
 torn_self at n b = record { before = refl; after = refl; no_shorter = omega arith; no_longer = omega arith }
 
-pub reached_self : (device : Device) (step : List ℕ → List ℕ → Type 0) (outcomes : Contents → Type 0) (c : Contents) → step (c device) (c device) → outcomes c → Reached device step outcomes c
+pub reached_self : (device : Device) (step : List ℕ → List ℕ → Type 0) (outcomes : Contents → Type 0) (c : Contents) →
+    step (c device) (c device) → outcomes c → Reached device step outcomes c
 reached_self device step outcomes c still now = (c, now, c device, still, put_self device c)
 
 -- a step more on the same device
-pub reached_more : (device : Device) (step next : List ℕ → List ℕ → Type 0) (first mid : Contents → Type 0) → ((a b c : List ℕ) → step a b → next b c → step a c)
+pub reached_more : (device : Device) (step next : List ℕ → List ℕ → Type 0) (first mid : Contents → Type 0) →
+    ((a b c : List ℕ) → step a b → next b c → step a c)
     → ((d : Contents) → mid d → Reached device step first d) → (c : Contents) → Reached device next mid c → Reached device step first c
 reached_more device step next first mid joins so_far c (d, was, b, stepped, is) =
     let from = so_far d was in
@@ -67,20 +70,24 @@ reached_more device step next first mid joins so_far c (d, was, b, stepped, is) 
 
 module _ {D : Type 0} (moment : D → ℕ) (left_since : D → ℕ → Contents → Type 0) where
   -- before the first call
-  pub started : (old : D) (P : Contents → Type 0) → ((c : Contents) → left_since old (moment old) c → P c) → LeavesOnly moment left_since old old P
+  pub started : (old : D) (P : Contents → Type 0) → ((c : Contents) → left_since old (moment old) c → P c) →
+      LeavesOnly moment left_since old old P
   started old P here = record { later = omega arith; each = here; before = λ t c le left. inl left }
 
   -- one call more, after which a stop leaves what has P
-  pub goes_on : (old mid new : D) (P may_leave : Contents → Type 0) → LeavesOnly moment left_since old mid P → Elapses (moment mid) (moment new) (left_since mid) (left_since new) may_leave
+  pub goes_on : (old mid new : D) (P may_leave : Contents → Type 0) → LeavesOnly moment left_since old mid P →
+      Elapses (moment mid) (moment new) (left_since mid) (left_since new) may_leave
       → ((c : Contents) → may_leave c → P c) → LeavesOnly moment left_since old new P
   goes_on old mid new P may_leave so_far time here = record {
     later = omega (arith, so_far.later, time.later);
     each = λ c left. ⊎_elim (so_far.each c) (here c) (time.nothing_else (moment old) c so_far.later left);
-    before = λ t c le left. ⊎_elim (so_far.before t c le) (λ now. inr (here c now)) (time.nothing_else t c (omega (arith, le, so_far.later)) left);
+    before = λ t c le left. ⊎_elim (so_far.before t c le) (λ now. inr (here c now))
+        (time.nothing_else t c (omega (arith, le, so_far.later)) left);
   }
 
   -- a run more, during which a stop leaves what has Q, and so P
-  pub joined : (old mid new : D) (P Q : Contents → Type 0) → LeavesOnly moment left_since old mid P → LeavesOnly moment left_since mid new Q → ((c : Contents) → Q c → P c) → LeavesOnly moment left_since old new P
+  pub joined : (old mid new : D) (P Q : Contents → Type 0) → LeavesOnly moment left_since old mid P →
+      LeavesOnly moment left_since mid new Q → ((c : Contents) → Q c → P c) → LeavesOnly moment left_since old new P
   joined old mid new P Q so_far more here = record {
     later = omega (arith, so_far.later, more.later);
     each = λ c left. ⊎_elim (so_far.each c) (λ q. here c q) (more.before (moment old) c so_far.later left);
@@ -94,14 +101,19 @@ durable_after device step b seen next old new durable is follows only other c le
     let from = follows c left in
     let d = from.0 in let a = from.2 in
     let whole : c ≡ put device a d = from.4 in
-    let here : a ≡ b = sym (ap (λ (f : Contents). f device) whole ∙ put_here device a d) ∙ only c left ∙ ap (λ (f : Contents). f device) is ∙ put_here device b seen in
+    let here : a ≡ b = sym (ap (λ (f : Contents). f device) whole ∙ put_here device a d) ∙ only c left
+    ∙ ap (λ (f : Contents). f device) is ∙ put_here device b seen in
     ap (λ (f : Contents). f other) whole
     ∙ ap (λ (l : List ℕ). put device l d other) here
     ∙ put_other device b b d seen (λ o. durable o d from.1) other
     ∙ sym (ap (λ (f : Contents). f other) is)
 
 -- each of the three was synced
-pub synced : (a b c d : Contents) (one two three : Contents → Type 0) → b ≡ a → c ≡ b → d ≡ c → Only Data a one → Only Hash b two → Only Journal c three → Stays one two → Stays two three → IsDurable d three
-synced a b c d one two three ba cb dc data_kept hash_kept journal_kept first second Data f left = data_kept f (first f (second f left)) ∙ sym (ap (λ (g : Contents). g Data) (dc ∙ cb ∙ ba))
-synced a b c d one two three ba cb dc data_kept hash_kept journal_kept first second Hash f left = hash_kept f (second f left) ∙ sym (ap (λ (g : Contents). g Hash) (dc ∙ cb))
-synced a b c d one two three ba cb dc data_kept hash_kept journal_kept first second Journal f left = journal_kept f left ∙ sym (ap (λ (g : Contents). g Journal) dc)
+pub synced : (a b c d : Contents) (one two three : Contents → Type 0) → b ≡ a → c ≡ b → d ≡ c → Only Data a one → Only Hash b two →
+    Only Journal c three → Stays one two → Stays two three → IsDurable d three
+synced a b c d one two three ba cb dc data_kept hash_kept journal_kept first second Data f left =
+    data_kept f (first f (second f left)) ∙ sym (ap (λ (g : Contents). g Data) (dc ∙ cb ∙ ba))
+synced a b c d one two three ba cb dc data_kept hash_kept journal_kept first second Hash f left = hash_kept f (second f left)
+    ∙ sym (ap (λ (g : Contents). g Hash) (dc ∙ cb))
+synced a b c d one two three ba cb dc data_kept hash_kept journal_kept first second Journal f left =
+    journal_kept f left ∙ sym (ap (λ (g : Contents). g Journal) dc)

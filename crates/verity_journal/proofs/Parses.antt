@@ -1,5 +1,6 @@
 -- How changes are read one after the other.
-use Rattle.std.proofs.Common.{◌≡◌, refl, ℕ, zero, suc, ◌+◌, ◌≤◌, List, [], ◌∷◌, ◌++◌, length, take, length-take, Bool, true, false, if◌then◌else◌, Option, None, Some, sym, ap, subst, ◌∙◌, arith}
+use Rattle.std.proofs.Common.{◌≡◌, refl, ℕ, zero, suc, ◌+◌, ◌≤◌, List, [], ◌∷◌, ◌++◌, length, take, length-take, Bool, true, false}
+use Rattle.std.proofs.Common.{if◌then◌else◌, Option, None, Some, sym, ap, subst, ◌∙◌, arith}
 use Rattle.std.proofs.lemmas.Bool.{le-leb, leb-true}
 use Rattle.std.proofs.lemmas.List.{append_assoc, append-nil}
 use Rattle.std.specs.Prelude.{nat_le}
@@ -16,7 +17,8 @@ Read = Option (Changes × List ℕ)
 abbrev pub behind : Changes → Read → Read
 behind done left = and_then left (λ r. Some (done ++ r.0, r.1))
 
-more : (done : Changes) (change : ℕ × List ℕ) (left : Read) → behind done (and_then left (λ rest. Some (change ∷ rest.0, rest.1))) ≡ behind (done ++ change ∷ []) left
+more : (done : Changes) (change : ℕ × List ℕ) (left : Read) →
+    behind done (and_then left (λ rest. Some (change ∷ rest.0, rest.1))) ≡ behind (done ++ change ∷ []) left
 more done change None = refl
 more done change (Some r) = ap (λ (l : Changes). Some (l, r.1)) (sym (append_assoc done (change ∷ []) r.0))
 
@@ -29,7 +31,8 @@ given b x y e = ap (λ (t : Bool). if t then x else y) e
 none : {A B : Type 0} (o : Option A) (f : A → Option B) → o ≡ None → and_then o f ≡ None
 none o f e = ap (λ (t : Option _). and_then t f) e
 
-pub parse_more : (whole : Read) (len left next : ℕ) (done all : Changes) (old new : List ℕ) (change : ℕ × List ℕ) → left ≡ suc next → whole ≡ behind done (read_changes len left old)
+pub parse_more : (whole : Read) (len left next : ℕ) (done all : Changes) (old new : List ℕ) (change : ℕ × List ℕ) →
+    left ≡ suc next → whole ≡ behind done (read_changes len left old)
     → read_change len old ≡ Some (change, new) → all ≡ done ++ change ∷ [] → whole ≡ behind all (read_changes len next new)
 parse_more whole len left next done all old new change is so_far reads added =
     so_far ∙ ap (λ (n : ℕ). behind done (read_changes len n old)) is
@@ -37,11 +40,13 @@ parse_more whole len left next done all old new change is so_far reads added =
     ∙ more done change (read_changes len next new)
     ∙ ap (λ (l : Changes). behind l (read_changes len next new)) (sym added)
 
-pub parse_none : (whole : Read) (len left next : ℕ) (done : Changes) (old : List ℕ) → left ≡ suc next → whole ≡ behind done (read_changes len left old) → read_change len old ≡ None → whole ≡ None
+pub parse_none : (whole : Read) (len left next : ℕ) (done : Changes) (old : List ℕ) → left ≡ suc next →
+    whole ≡ behind done (read_changes len left old) → read_change len old ≡ None → whole ≡ None
 parse_none whole len left next done old is so_far reads =
     so_far ∙ ap (λ (n : ℕ). behind done (read_changes len n old)) is ∙ ap (behind done) (none (read_change len old) _ reads)
 
-pub parse_end : (whole : Read) (len left : ℕ) (done : Changes) (old : List ℕ) → left ≡ 0 → whole ≡ behind done (read_changes len left old) → whole ≡ Some (done, old)
+pub parse_end : (whole : Read) (len left : ℕ) (done : Changes) (old : List ℕ) → left ≡ 0 →
+    whole ≡ behind done (read_changes len left old) → whole ≡ Some (done, old)
 parse_end whole len left done old is so_far =
     so_far ∙ ap (λ (n : ℕ). behind done (read_changes len n old)) is ∙ ap (λ (l : Changes). Some (l, old)) (append-nil done)
 
@@ -52,11 +57,13 @@ parse_start len count old = go (read_changes len count old)
     go None = refl
     go (Some r) = refl
 
-pub side_reads : (side : Side) (keep len count : ℕ) (changes : Changes) (a b c d e : List ℕ) → side ≡ record { keep = keep; len = len; changes = changes } → read_number a ≡ Some (keep, b) → read_number b ≡ Some (len, c)
+pub side_reads : (side : Side) (keep len count : ℕ) (changes : Changes) (a b c d e : List ℕ) →
+    side ≡ record { keep = keep; len = len; changes = changes } → read_number a ≡ Some (keep, b) → read_number b ≡ Some (len, c)
     → read_number c ≡ Some (count, d) → keep ≤ len → read_changes len count d ≡ Some (changes, e) → read_side a ≡ Some (side, e)
 side_reads side keep len count changes a b c d e is first second third below reads =
     some (read_number a) (keep, b) _ first ∙ some (read_number b) (len, c) _ second ∙ some (read_number c) (count, d) _ third
-    ∙ given (nat_le keep len) _ None (le-leb keep len below) ∙ some (read_changes len count d) (changes, e) _ reads ∙ ap (λ (s : Side). Some (s, e)) (sym is)
+    ∙ given (nat_le keep len) _ None (le-leb keep len below) ∙ some (read_changes len count d) (changes, e) _ reads
+    ∙ ap (λ (s : Side). Some (s, e)) (sym is)
 
 -- what is read of an option that is there
 was_some : {A B : Type 0} (o : Option A) (f : A → Option B) (y : B) → and_then o f ≡ Some y → (x : A) × (o ≡ Some x) × (f x ≡ Some y)
@@ -70,7 +77,8 @@ was_given false o y e = cc
 two_some : {A : Type 0} (x y : A) → Some x ≡ Some y → x ≡ y
 two_some x y e = cc
 
-change_fits : (len : ℕ) (bytes : List ℕ) (change : ℕ × List ℕ) (rest : List ℕ) → read_change len bytes ≡ Some (change, rest) → change.0 + length change.1 ≤ len
+change_fits : (len : ℕ) (bytes : List ℕ) (change : ℕ × List ℕ) (rest : List ℕ) → read_change len bytes ≡ Some (change, rest) →
+    change.0 + length change.1 ≤ len
 change_fits len bytes change rest e =
     let at = was_some (read_number bytes) _ _ e in
     let size = was_some (read_number at.0.1) _ _ at.2 in
@@ -85,13 +93,17 @@ change_fits len bytes change rest e =
     let got_is : length (take size.0.0 size.0.1) ≡ length new.0.0 = ap (λ (p : List ℕ × List ℕ). length p.0) got in
     omega (arith, leb-true (at.0.0 + size.0.0) len bound.0, at_is, new_is, got_is, long)
 
-changes_fit : (len count : ℕ) (bytes : List ℕ) (changes : Changes) (rest : List ℕ) → read_changes len count bytes ≡ Some (changes, rest) → Fit len changes
+changes_fit : (len count : ℕ) (bytes : List ℕ) (changes : Changes) (rest : List ℕ) →
+    read_changes len count bytes ≡ Some (changes, rest) → Fit len changes
 changes_fit len zero bytes changes rest e = subst (λ (l : Changes). Fit len l) (ap (λ (p : Changes × List ℕ). p.0) (two_some _ _ e)) tt
 changes_fit len (suc count) bytes changes rest e =
     let first = was_some (read_change len bytes) _ _ e in
     let left = was_some (read_changes len count first.0.1) _ _ first.2 in
     let is = ap (λ (p : Changes × List ℕ). p.0) (two_some _ _ left.2) in
-    subst (λ (l : Changes). Fit len l) is (change_fits len bytes first.0.0 first.0.1 first.1, changes_fit len count first.0.1 left.0.0 left.0.1 left.1)
+    subst (λ (l : Changes). Fit len l) is (
+      change_fits len bytes first.0.0 first.0.1 first.1,
+      changes_fit len count first.0.1 left.0.0 left.0.1 left.1,
+    )
 
 side_fits : (bytes : List ℕ) (side : Side) (rest : List ℕ) → read_side bytes ≡ Some (side, rest) → IsSide side
 side_fits bytes side rest e =
@@ -101,12 +113,18 @@ side_fits bytes side rest e =
     let bound = was_given (nat_le keep.0.0 len.0.0) _ _ count.2 in
     let changes = was_some (read_changes len.0.0 count.0.0 count.0.1) _ _ bound.1 in
     let is = ap (λ (p : Side × List ℕ). p.0) (two_some _ _ changes.2) in
-    subst IsSide is (record { kept = leb-true keep.0.0 len.0.0 bound.0; fit = changes_fit len.0.0 count.0.0 count.0.1 changes.0.0 changes.0.1 changes.1 })
+    subst IsSide is (record {
+      kept = leb-true keep.0.0 len.0.0 bound.0;
+      fit = changes_fit len.0.0 count.0.0 count.0.1 changes.0.0
+          changes.0.1 changes.1;
+    })
 
 -- a plan that was read fits
 pub plan_fits : (bytes : List ℕ) (plan : Plan) → read_plan bytes ≡ Some plan → IsSide plan.on_data × IsSide plan.on_hash
 plan_fits bytes plan e =
     let on_data = was_some (read_side bytes) _ _ e in
     let on_hash = was_some (read_side on_data.0.1) _ _ on_data.2 in
-    let is = two_some _ _ on_hash.2 in
-    (subst IsSide (ap (λ (p : Plan). p.on_data) is) (side_fits bytes on_data.0.0 on_data.0.1 on_data.1), subst IsSide (ap (λ (p : Plan). p.on_hash) is) (side_fits on_data.0.1 on_hash.0.0 on_hash.0.1 on_hash.1))
+    let is = two_some _ _ on_hash.2 in (
+      subst IsSide (ap (λ (p : Plan). p.on_data) is) (side_fits bytes on_data.0.0 on_data.0.1 on_data.1),
+      subst IsSide (ap (λ (p : Plan). p.on_hash) is) (side_fits on_data.0.1 on_hash.0.0 on_hash.0.1 on_hash.1),
+    )

@@ -23,12 +23,21 @@ nothing xs = refl
 module _ {D H : Type 0} (data_facts : store.Ghosts D) (hash_facts : store.Ghosts H) (t : Table) (d : D) (h : H) where
   -- the offer of such a verifier is the table line's
   pub same_offer : (v : Verifying D H) → IsMadeOver data_facts hash_facts t d h v → (called : List ℕ)
-      → ◌≡◌ {A = Offer} (record { name = called; size = v.table.data_blocks * v.table.data_block_size; block = v.table.data_block_size }) (offer_of t called)
+      → ◌≡◌ {A = Offer} (record {
+        name = called;
+        size = v.table.data_blocks * v.table.data_block_size;
+        block = v.table.data_block_size;
+      }) (offer_of t called)
   same_offer v over called = ap (λ (x : Table). offer_of x called) over.table
 
-  module _ {A B : Type 0} (called : List ℕ) (events : List (Event B)) (old new added : List (HubReply A)) (v : Verifying D H) (hub hub' : HubState × Verifying D H)
+  module _ {A B : Type 0} (called : List ℕ) (events : List (Event B)) (old new added : List (HubReply A)) (v : Verifying D H)
+      (hub hub' : HubState × Verifying D H)
       (over : IsMadeOver data_facts hash_facts t d h v) (same : hub.1 ≡ v)
-      (offer : hub.0.offer ≡ record { name = called; size = v.table.data_blocks * v.table.data_block_size; block = v.table.data_block_size })
+      (offer : hub.0.offer ≡ record {
+        name = called;
+        size = v.table.data_blocks * v.table.data_block_size;
+        block = v.table.data_block_size;
+      })
       (begins : IsAfter (facts_of data_facts hash_facts v) hub.0 [])
       (reads : IsOnlyReading data_facts hash_facts hub.1 hub'.1)
       (replies : new ≡ old ++ added)
@@ -57,7 +66,8 @@ err_in other (Err e) = e
 err_in other (Ok x) = other
 
 -- the verifier's refusal is answered
-pub named : {T : Type 0} (fault which : CheckFault) (P : Type 0) → IsErrOf {T = T} (Err fault) which ↔ P → IsErrOf {T = Unit {0}} (Err (Check fault)) (Check which) ↔ P
+pub named : {T : Type 0} (fault which : CheckFault) (P : Type 0) → IsErrOf {T = T} (Err fault) which ↔ P →
+    IsErrOf {T = Unit {0}} (Err (Check fault)) (Check which) ↔ P
 named {T = T} fault which P h =
     let inner : CheckFault → Result T CheckFault = λ f. Err f in
     let outer : CheckFault → Result (Unit {0}) AnswerFault = λ f. Err (Check f) in (

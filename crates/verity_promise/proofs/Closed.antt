@@ -1,5 +1,6 @@
 -- A volume that was opened, edited and closed.
-use Rattle.std.proofs.Common.{◌≡◌, ◌/◌, ◌-◌, ◌<◌, ◌≤◌, ℕ, true, false, List, [], ◌∷◌, length, take, drop, ◌++◌, get_or, get_or-take, length-take, inl, refl, sym, ap, ◌∙◌, subst, arith}
+use Rattle.std.proofs.Common.{◌≡◌, ◌/◌, ◌-◌, ◌<◌, ◌≤◌, ℕ, true, false, List, [], ◌∷◌, length, take, drop, ◌++◌, get_or, get_or-take}
+use Rattle.std.proofs.Common.{length-take, inl, refl, sym, ap, ◌∙◌, subst, arith}
 use Rattle.std.specs.List.{concat, list_any, All}
 use Rattle.std.specs.Prelude.{Option, Some, None, IfSome, Result, Ok, Err, OnOk}
 use Rattle.std.proofs.lemmas.List.{take_all, append_assoc}
@@ -45,14 +46,17 @@ concat-append [] ys = refl
 concat-append (x ∷ xs) ys = ap (λ l. x ++ l) (concat-append xs ys) ∙ sym (append_assoc x (concat xs) (concat ys))
 
 -- two lists that agree below n begin with the same n blocks
-same_front : (n : ℕ) (xs ys : List (List ℕ)) → n ≤ length xs → n ≤ length ys → ((q : ℕ) → q < n → get_or ys q [] ≡ get_or xs q []) → take n ys ≡ take n xs
+same_front : (n : ℕ) (xs ys : List (List ℕ)) → n ≤ length xs → n ≤ length ys → ((q : ℕ) → q < n → get_or ys q [] ≡ get_or xs q []) →
+    take n ys ≡ take n xs
 same_front n xs ys short shorter same =
     let len : length (take n xs) ≡ n = simp length-take (omega arith) in
     ap (λ m. take m ys) (sym len)
     ∙ take_same (take n xs) ys (omega arith) (λ k below. let b : k < n = omega arith in same k b ∙ sym (get_or-take n xs k [] b))
 
-module _ {D H : Type 0} (data_facts : store.Ghosts D) (hash_facts : store.Ghosts H) (e : Editing D H) (start : ℕ) (fits : FitsStores data_facts hash_facts e)
-    (begins : start ≡ e.first) (t : TableLine) (line : IsLine data_facts hash_facts e.data_store e.hash_store start e.root e.volume.params.salt t) where
+module _ {D H : Type 0} (data_facts : store.Ghosts D) (hash_facts : store.Ghosts H) (e : Editing D H) (start : ℕ)
+    (fits : FitsStores data_facts hash_facts e)
+    (begins : start ≡ e.first) (t : TableLine) (line : IsLine data_facts hash_facts e.data_store e.hash_store start e.root
+    e.volume.params.salt t) where
   same_algorithm : t.algorithm ≡ e.volume.params.algorithm
   same_algorithm = line.algorithm ∙ algorithm_of-sized e.volume.params.algorithm e.root fits.root_size
 
@@ -82,7 +86,8 @@ module _ {D H : Type 0} (data_facts : store.Ghosts D) (hash_facts : store.Ghosts
 
   -- and hold the committed image, where they tell
   pub holds_closed : data_facts.tells e.data_store ≡ true → hash_facts.tells e.hash_store ≡ true → Stands data_facts hash_facts e
-      → Holds t (data_facts.tells e.data_store) (data_facts.content e.data_store) (hash_facts.tells e.hash_store) (hash_facts.content e.hash_store) (data_facts.content e.data_store)
+      → Holds t (data_facts.tells e.data_store) (data_facts.content e.data_store) (hash_facts.tells e.hash_store)
+      (hash_facts.content e.hash_store) (data_facts.content e.data_store)
   holds_closed data_told hash_told stands =
       let image : List (List ℕ) = data_facts.content e.data_store in
       let content : List (List ℕ) = hash_facts.content e.hash_store in
@@ -95,17 +100,24 @@ module _ {D H : Type 0} (data_facts : store.Ghosts D) (hash_facts : store.Ghosts
           root = ap (λ h. root h image) same_hashing ∙ sym stands.root ∙ sym line.root_is;
         };
         data_begins = take_all (length image) image (omega arith);
-        tree_begins = subst (λ (h : Hashing). take (length (tree h image)) (drop t.hash_start_block content) ≡ tree h image) (sym same_hashing)
-            (subst (λ n. take (length (tree (hashing_in e) image)) (drop n content) ≡ tree (hashing_in e) image) (sym same_start) stands.tree);
+        tree_begins = subst (λ (h : Hashing). take (length (tree h image)) (drop t.hash_start_block content) ≡ tree h image)
+            (sym same_hashing)
+            (subst (λ n. take (length (tree (hashing_in e) image)) (drop n content) ≡ tree (hashing_in e) image) (sym same_start)
+            stands.tree);
       }
 
-module _ {D H A C : Type 0} (data_facts : store.Ghosts D) (hash_facts : store.Ghosts H) (d : D) (h : H) (offset : ℕ) (commands : List (Command C)) (count start : ℕ) (old_replies new_replies : List Reply)
-    (opened closed : Editing D H) (opens : IsOpened data_facts hash_facts d h offset opened) (runs : AreAnswered data_facts hash_facts commands count opened closed old_replies new_replies)
-    (left : Edited D H A) (data_is : left.data_store ≡ closed.data_store) (hash_is : left.hash_store ≡ closed.hash_store) (root_is : left.root ≡ closed.root)
+module _ {D H A C : Type 0} (data_facts : store.Ghosts D) (hash_facts : store.Ghosts H) (d : D) (h : H) (offset : ℕ)
+    (commands : List (Command C)) (count start : ℕ) (old_replies new_replies : List Reply)
+    (opened closed : Editing D H) (opens : IsOpened data_facts hash_facts d h offset opened)
+    (runs : AreAnswered data_facts hash_facts commands count opened closed old_replies new_replies)
+    (left : Edited D H A) (data_is : left.data_store ≡ closed.data_store) (hash_is : left.hash_store ≡ closed.hash_store)
+    (root_is : left.root ≡ closed.root)
     (fits : closed.broken ≡ false → FitsStores data_facts hash_facts closed)
-    (stands : closed.broken ≡ false → data_facts.tells closed.data_store ≡ true → hash_facts.tells closed.hash_store ≡ true → Stands data_facts hash_facts closed)
+    (stands : closed.broken ≡ false → data_facts.tells closed.data_store ≡ true → hash_facts.tells closed.hash_store ≡ true →
+    Stands data_facts hash_facts closed)
     (begins : start ≡ start_behind offset (hash_facts.size h))
-    (line : IfSome left.table (λ t. (closed.broken ≡ false) × IsLine data_facts hash_facts closed.data_store closed.hash_store start closed.root closed.volume.params.salt t)) where
+    (line : IfSome left.table (λ t. (closed.broken ≡ false) ×
+    IsLine data_facts hash_facts closed.data_store closed.hash_store start closed.root closed.volume.params.salt t)) where
   first : closed.first ≡ start_behind offset (hash_facts.size h)
   first = runs.stays.first ∙ opens.first
 
@@ -126,7 +138,8 @@ module _ {D H A C : Type 0} (data_facts : store.Ghosts D) (hash_facts : store.Gh
       let was : hash_facts.content opened.hash_store ≡ hash_facts.content h = opens.hash_store.content in
       let f = fits sound in
       ap (λ m. take (m - 1) (hash_facts.content closed.hash_store)) runs.stays.first
-      ∙ same_front n (hash_facts.content opened.hash_store) (hash_facts.content closed.hash_store) (omega (arith, opens.fits.within)) (omega (arith, f.within, runs.stays.first)) runs.stays.front
+      ∙ same_front n (hash_facts.content opened.hash_store) (hash_facts.content closed.hash_store)
+      (omega (arith, opens.fits.within)) (omega (arith, f.within, runs.stays.first)) runs.stays.front
       ∙ ap (λ c. take n c) was
       ∙ ap (λ m. take m (hash_facts.content h)) (let e = opens.first in omega (arith, e))
 
@@ -153,7 +166,8 @@ module _ {D H A C : Type 0} (data_facts : store.Ghosts D) (hash_facts : store.Gh
         let p : Params = closed.volume.params in
         let image : List (List ℕ) = data_facts.content closed.data_store in
         let behind : List (List ℕ) = take (closed.first - 1) (hash_facts.content closed.hash_store) in
-        let whole : IsWhole data_facts hash_facts closed = runs.whole (opens.data_store.later.tells ∙ data_told) (opens.hash_store.later.tells ∙ hash_told) sound (inl committed) in
+        let whole : IsWhole data_facts hash_facts closed =
+        runs.whole (opens.data_store.later.tells ∙ data_told) (opens.hash_store.later.tells ∙ hash_told) sound (inl committed) in
         ap concat whole
         ∙ concat-append behind (superblock_block p (length image) ∷ tree_of p image)
         ∙ ap (λ b. hash_image p image b) (same_behind sound)
@@ -175,7 +189,8 @@ module _ {D H A C : Type 0} (data_facts : store.Ghosts D) (hash_facts : store.Gh
         let flag : leads.state.broken ≡ closed.broken = leads.is_in.broken in
         record {
           state = leads.state;
-          after = subst (λ size. After (volume_hashing opened.volume.params) size (take count commands) runs.added begin leads.state) (sym opens.fits.block_size) leads.after;
+          after = subst (λ size. After (volume_hashing opened.volume.params) size (take count commands) runs.added begin
+              leads.state) (sym opens.fits.block_size) leads.after;
           unfailed = λ data_same hash_same. let u = unfailed data_same hash_same in (flag ∙ u.0, u.1);
           image = λ sound. ap (λ x. data_facts.content x) data_is ∙ image_of (sym flag ∙ sound);
           device = λ sound committed. ap (λ x. concat (hash_facts.content x)) hash_is ∙ whole_device (sym flag ∙ sound) committed
@@ -185,18 +200,25 @@ module _ {D H A C : Type 0} (data_facts : store.Ghosts D) (hash_facts : store.Gh
               ∙ ap (λ image. root (volume_hashing opened.volume.params) image) (image_of (sym flag ∙ sound));
           table = if_some left.table _ _ (λ t l. (
             flag ∙ l.0,
-            subst (λ x. Holds t (data_facts.tells x) (data_facts.content x) (hash_facts.tells left.hash_store) (hash_facts.content left.hash_store) leads.state.edits.committed) (sym data_is)
-                (subst (λ x. Holds t (data_facts.tells closed.data_store) (data_facts.content closed.data_store) (hash_facts.tells x) (hash_facts.content x) leads.state.edits.committed) (sym hash_is)
-                (subst (λ image. Holds t (data_facts.tells closed.data_store) (data_facts.content closed.data_store) (hash_facts.tells closed.hash_store) (hash_facts.content closed.hash_store) image) (image_of l.0)
-                (holds_closed data_facts hash_facts closed start (fits l.0) (begins ∙ sym first) t l.1 still_data still_hash (stands l.0 still_data still_hash)))),
+            subst (λ x. Holds t (data_facts.tells x) (data_facts.content x) (hash_facts.tells left.hash_store)
+                (hash_facts.content left.hash_store) leads.state.edits.committed) (sym data_is)
+                (subst (λ x. Holds t (data_facts.tells closed.data_store) (data_facts.content closed.data_store)
+                (hash_facts.tells x) (hash_facts.content x) leads.state.edits.committed) (sym hash_is)
+                (subst (λ image. Holds t (data_facts.tells closed.data_store) (data_facts.content closed.data_store)
+                (hash_facts.tells closed.hash_store) (hash_facts.content closed.hash_store) image) (image_of l.0)
+                (holds_closed data_facts hash_facts closed start (fits l.0) (begins ∙ sym first) t l.1 still_data still_hash
+                (stands l.0 still_data still_hash)))),
           )) line;
         }
 
   -- so it was edited
-  pub edited_by : OnOk left.done (length runs.added ≡ length commands) → IsEdited data_facts hash_facts d h offset commands old_replies new_replies left
+  pub edited_by : OnOk left.done (length runs.added ≡ length commands) →
+      IsEdited data_facts hash_facts d h offset commands old_replies new_replies left
   edited_by all =
-      let data_stays : StaysStore data_facts opened.data_store left.data_store = subst (λ x. StaysStore data_facts opened.data_store x) (sym data_is) runs.stays.data_store in
-      let hash_stays : StaysStore hash_facts opened.hash_store left.hash_store = subst (λ x. StaysStore hash_facts opened.hash_store x) (sym hash_is) runs.stays.hash_store in
+      let data_stays : StaysStore data_facts opened.data_store left.data_store =
+      subst (λ x. StaysStore data_facts opened.data_store x) (sym data_is) runs.stays.data_store in
+      let hash_stays : StaysStore hash_facts opened.hash_store left.hash_store =
+      subst (λ x. StaysStore hash_facts opened.hash_store x) (sym hash_is) runs.stays.hash_store in
       let behind : opened.first - 1 ≡ offset / hash_facts.size h = (let e = opens.first in omega (arith, e)) in
       record {
         volume = opened.volume;
@@ -212,7 +234,9 @@ module _ {D H A C : Type 0} (data_facts : store.Ghosts D) (hash_facts : store.Gh
         data_stays = data_stays;
         hash_stays = hash_stays;
         unread = ap (λ x. data_facts.reads x) data_is ∙ runs.stays.data_reads;
-        stays_front = λ q below. ap (λ x. get_or (hash_facts.content x) q []) hash_is ∙ runs.stays.front q (omega (arith, behind, below)) ∙ ap (λ x. get_or x q []) opens.hash_store.content;
+        stays_front = λ q below. ap (λ x. get_or (hash_facts.content x) q []) hash_is
+            ∙ runs.stays.front q (omega (arith, behind, below)) ∙ ap (λ x. get_or x q []) opens.hash_store.content;
         fits = stores_fit;
-        scratch = λ data_told hash_told. subst (λ n. IsFromScratch data_facts hash_facts d h offset opened.volume.params (take n commands) runs.added left) (sym runs.each) (from_scratch data_told hash_told);
+        scratch = λ data_told hash_told. subst (λ n. IsFromScratch data_facts hash_facts d h offset opened.volume.params
+            (take n commands) runs.added left) (sym runs.each) (from_scratch data_told hash_told);
       }

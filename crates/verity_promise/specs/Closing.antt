@@ -35,7 +35,8 @@ module _ {D H : Type 0} (data_facts : store.Ghosts D) (hash_facts : store.Ghosts
     pub done_is : left.done ≡ done
     pub table : IfSome left.table (λ t. (e.broken ≡ false) × IsLine e.data_store e.hash_store start e.root e.volume.params.salt t)
     pub fits : e.broken ≡ false → FitsStores data_facts hash_facts e
-    pub stands : e.broken ≡ false → data_facts.tells e.data_store ≡ true → hash_facts.tells e.hash_store ≡ true → Stands data_facts hash_facts e
+    pub stands : e.broken ≡ false → data_facts.tells e.data_store ≡ true → hash_facts.tells e.hash_store ≡ true →
+        Stands data_facts hash_facts e
 
 module _ {D H : Type 0} (data_facts : store.Ghosts D) (hash_facts : store.Ghosts H) (called : List ℕ) (ends : Ends) (limit : ℕ)
     (result : Result (Unit {0}) ServeFault) where
@@ -49,6 +50,7 @@ module _ {D H : Type 0} (data_facts : store.Ghosts D) (hash_facts : store.Ghosts
     pub new : Verifying D H
     pub over : IsMadeOver data_facts hash_facts t left.data_store left.hash_store old
     pub reads : IsOnlyReading data_facts hash_facts old new
-    pub right : (image : List (List ℕ)) → Fits t image → Serves data_facts hash_facts called ends limit result t (SaysRight data_facts hash_facts new image)
+    pub right : (image : List (List ℕ)) → Fits t image →
+        Serves data_facts hash_facts called ends limit result t (SaysRight data_facts hash_facts new image)
     pub exact : (image : List (List ℕ)) → HoldsFor data_facts hash_facts old image
         → Serves data_facts hash_facts called ends limit result t (SaysExact data_facts hash_facts old new image)

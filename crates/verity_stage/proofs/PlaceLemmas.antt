@@ -1,5 +1,6 @@
 -- Staged blocks as bytes at their places.
-use Rattle.std.proofs.Common.{◌≡◌, ◌^◌, ℕ, suc, ◌+◌, ◌-◌, ◌*◌, ◌<◌, ◌≤◌, min, true, ltb, eqb, cond, List, [], ◌∷◌, ◌++◌, length, take, drop, replicate, map, get_or, set, Option, Some, None, ⊎_elim, refl, sym, ap, ◌∙◌, subst, arith}
+use Rattle.std.proofs.Common.{◌≡◌, ◌^◌, ℕ, suc, ◌+◌, ◌-◌, ◌*◌, ◌<◌, ◌≤◌, min, true, ltb, eqb, cond, List, [], ◌∷◌, ◌++◌, length}
+use Rattle.std.proofs.Common.{take, drop, replicate, map, get_or, set, Option, Some, None, ⊎_elim, refl, sym, ap, ◌∙◌, subst, arith}
 use Rattle.std.specs.Prelude.{IfSome, unwrap_or}
 use Rattle.std.specs.List.{concat}
 use Rattle.std.specs.List.Sorted.{IsStrictlyIncreasing, IsStrictlySortedBy}
@@ -9,7 +10,9 @@ use Rattle.std.specs.Ordering.{nat_cmp, is_eq}
 use Rattle.std.specs.declared.cmp.Ordering.TheVariants.{Less, Equal, Greater}
 use Rattle.std.proofs.lemmas.Map.Keys.{IsStrictlyIncreasing-from_sorted}
 use Rattle.std.proofs.lemmas.Bool.{cases_lt, cases_eq, cond-true, cond-false, le-ltb, lt-ltb, eq-eqb}
-use Rattle.std.proofs.lemmas.List.{length-map, ext_get_or, length-set, get_or-set_same, get_or-set_other, get_or-take, get_or_append_left, get_or-append_right, get_or-replicate, length-append, length-take, length-drop, length-replicate}
+use Rattle.std.proofs.lemmas.List.{length-map, ext_get_or, length-set, get_or-set_same, get_or-set_other, get_or-take}
+use Rattle.std.proofs.lemmas.List.{get_or_append_left, get_or-append_right, get_or-replicate, length-append, length-take}
+use Rattle.std.proofs.lemmas.List.{length-drop, length-replicate}
 use Rattle.std.proofs.lemmas.List.Elements.{All-head, All-tail, All-nil, All-set, All-from_get_or, All-get_or, All-append, All-take}
 use Rattle.std.proofs.Math.Nat.{suc-mul, mul-le-mul_right}
 use Rattle.std.proofs.Math.Seq.{take-append_seam, drop-append_seam}
@@ -33,7 +36,8 @@ cut-concat size [] all = refl
 cut-concat size (b ∷ bs) all =
     let h : length b ≡ size = All-head (λ block. length block ≡ size) b bs all in
     let first : take size (b ++ concat bs) ≡ b = subst (λ (n : ℕ). take n (b ++ concat bs) ≡ b) h (take-append_seam b (concat bs)) in
-    let rest : drop size (b ++ concat bs) ≡ concat bs = subst (λ (n : ℕ). drop n (b ++ concat bs) ≡ concat bs) h (drop-append_seam b (concat bs)) in
+    let rest : drop size (b ++ concat bs) ≡ concat bs =
+    subst (λ (n : ℕ). drop n (b ++ concat bs) ≡ concat bs) h (drop-append_seam b (concat bs)) in
     ap (λ (x : List ℕ). x ∷ cut size (length bs) (drop size (b ++ concat bs))) first
     ∙ ap (λ (x : List ℕ). b ∷ cut size (length bs) x) rest
     ∙ ap (λ (x : List (List ℕ)). b ∷ x) (cut-concat size bs (All-tail (λ block. length block ≡ size) b bs all))
@@ -43,22 +47,38 @@ concat-resized : (size m : ℕ) (bs : List (List ℕ)) → AllSized size bs → 
 concat-resized size m bs all =
     let bytes : List ℕ = concat bs in
     let len : length bytes ≡ length bs * size = length-concat-sized size bs all in
-    let whole : length (with_length (m * size) bytes) ≡ m * size = omega (arith, length-append (take (m * size) bytes) (replicate (m * size - length bytes) 0), length-take (m * size) bytes, length-replicate {A = ℕ} (m * size - length bytes) 0) in
+    let whole : length (with_length (m * size) bytes) ≡ m * size =
+    omega (
+      arith,
+      length-append (take (m * size) bytes) (replicate (m * size - length bytes) 0),
+      length-take (m * size) bytes,
+      length-replicate {A = ℕ} (m * size - length bytes) 0,
+    ) in
     sym (concat-cut size m (with_length (m * size) bytes) whole)
     ∙ ap concat (cut-resize size (length bs) m bytes len ∙ ap (resized size m) (cut-concat size bs all))
 
 pub AllSized-resized : (size m : ℕ) (bs : List (List ℕ)) → AllSized size bs → AllSized size (resized size m bs)
-AllSized-resized size m bs all = All-append (λ block. length block ≡ size) (take m bs) (replicate (m - length bs) (zero_block size)) (All-take (λ block. length block ≡ size) m bs all) (AllSized-replicate size (m - length bs))
+AllSized-resized size m bs all = All-append (λ block. length block ≡ size) (take m bs) (replicate (m - length bs) (zero_block size))
+    (All-take (λ block. length block ≡ size) m bs all) (AllSized-replicate size (m - length bs))
 
 -- a write
-concat-set : (size k : ℕ) (bs : List (List ℕ)) (b : List ℕ) → AllSized size bs → k < length bs → length b ≡ size → overwritten (k * size) b (concat bs) ≡ concat (set bs k b)
+concat-set : (size k : ℕ) (bs : List (List ℕ)) (b : List ℕ) → AllSized size bs → k < length bs → length b ≡ size →
+    overwritten (k * size) b (concat bs) ≡ concat (set bs k b)
 concat-set size k bs b all below len =
     let bytes : List ℕ = concat bs in let n : ℕ = length bs in
     let whole : length bytes ≡ n * size = length-concat-sized size bs all in
     let new : List ℕ = overwritten (k * size) b bytes in
     let is : cut size n bytes ≡ bs = cut-concat size bs all in
     let fits : suc k * size ≤ n * size = mul-le-mul_right size (omega arith) in
-    let long : length new ≡ n * size = omega (arith, fits, suc-mul k size, length-append (take (k * size) bytes) (b ++ drop (k * size + length b) bytes), length-append b (drop (k * size + length b) bytes), length-take (k * size) bytes, length-drop (k * size + length b) bytes) in
+    let long : length new ≡ n * size = omega (
+      arith,
+      fits,
+      suc-mul k size,
+      length-append (take (k * size) bytes) (b ++ drop (k * size + length b) bytes),
+      length-append b (drop (k * size + length b) bytes),
+      length-take (k * size) bytes,
+      length-drop (k * size + length b) bytes,
+    ) in
     sym (concat-cut size n new long)
     ∙ ap concat (cut-write size n k bytes b new len whole (omega (arith, length-cut size n bytes)) refl ∙ ap (λ x. set x k b) is)
 
@@ -91,7 +111,8 @@ KeysRise lo [] = Unit {0}
 KeysRise lo (e ∷ es) = (lo ≤ e.0) × KeysRise (suc e.0) es
 
 is_at_same : (n : ℕ) → is_at (nat_cmp n) n ≡ true
-is_at_same n = ap is_eq (cond-false (ltb n n) Less (cond (eqb n n) Equal Greater) (le-ltb n n (omega arith)) ∙ cond-true (eqb n n) Equal Greater (eq-eqb n n refl))
+is_at_same n = ap is_eq (cond-false (ltb n n) Less (cond (eqb n n) Equal Greater) (le-ltb n n (omega arith))
+    ∙ cond-true (eqb n n) Equal Greater (eq-eqb n n refl))
 
 lookup_under : (es : List (ℕ × List ℕ)) (lo q : ℕ) → KeysRise lo es → q < lo → lookup (is_at (nat_cmp q)) es ≡ None
 lookup_under [] lo q r below = refl
@@ -118,10 +139,12 @@ over_at (e ∷ es) lo content q r below =
     ∙ sym (ap (λ o. unwrap_or o (get_or content q [])) (cond-true (is_at (nat_cmp q) e.0) (Some e.1) later here)))
     (λ apart.
     ap (λ d. unwrap_or later d) (get_or-set_other content e.0 q e.1 [] apart)
-    ∙ sym (ap (λ o. unwrap_or o (get_or content q [])) (cond-false (is_at (nat_cmp q) e.0) (Some e.1) later (is_at_apart e.0 q (λ s. apart (sym s))))))
+    ∙ sym (ap (λ o. unwrap_or o (get_or content q [])) (cond-false (is_at (nat_cmp q) e.0) (Some e.1) later
+    (is_at_apart e.0 q (λ s. apart (sym s))))))
     (cases_eq q e.0)
 
-KeysRise-from : (es : List (ℕ × List ℕ)) (lo : ℕ) → IsStrictlyIncreasing (keys_of es) → (0 < length es → lo ≤ get_or (keys_of es) 0 0) → KeysRise lo es
+KeysRise-from : (es : List (ℕ × List ℕ)) (lo : ℕ) → IsStrictlyIncreasing (keys_of es) →
+    (0 < length es → lo ≤ get_or (keys_of es) 0 0) → KeysRise lo es
 KeysRise-from [] lo inc first = tt
 KeysRise-from (e ∷ es) lo inc first = (
   first (omega arith),
@@ -130,7 +153,8 @@ KeysRise-from (e ∷ es) lo inc first = (
       let more : suc k + 1 < length (keys_of (e ∷ es)) = omega arith in
       let P : ℕ → Type 0 = λ n. get_or (keys_of es) k 0 < get_or (keys_of (e ∷ es)) n 0 in
       subst P at (inc (suc k) more))
-      (λ some. let more : 0 + 1 < length (keys_of (e ∷ es)) = (let l : length (keys_of es) ≡ length es = length-map es (λ x. x.0) in omega arith) in inc 0 more),
+      (λ some. let more : 0 + 1 < length (keys_of (e ∷ es)) = (let l : length (keys_of es) ≡ length es = length-map es (λ x. x.0) in
+      omega arith) in inc 0 more),
 )
 
 -- the keys of a map rise
@@ -141,12 +165,16 @@ FitIn-from : (es : List (ℕ × List ℕ)) (lo len size : ℕ) → KeysRise lo e
     → ((q : ℕ) → IfSome (lookup (is_at (nat_cmp q)) es) (λ block. length block ≡ size)) → FitIn len size es
 FitIn-from [] lo len size r behind sized = tt
 FitIn-from (e ∷ es) lo len size r behind sized =
-    let here : lookup (is_at (nat_cmp e.0)) (e ∷ es) ≡ Some e.1 = cond-true (is_at (nat_cmp e.0) e.0) (Some e.1) (lookup (is_at (nat_cmp e.0)) es) (is_at_same e.0) in
+    let here : lookup (is_at (nat_cmp e.0)) (e ∷ es) ≡ Some e.1 =
+    cond-true (is_at (nat_cmp e.0) e.0) (Some e.1) (lookup (is_at (nat_cmp e.0)) es) (is_at_same e.0) in
     let P : Option (List ℕ) → Type 0 = λ o. IfSome o (λ block. length block ≡ size) in
     let rest : (q : ℕ) → (q ≡ e.0 → ⊥) → lookup (is_at (nat_cmp q)) (e ∷ es) ≡ lookup (is_at (nat_cmp q)) es = λ q ne.
     cond-false (is_at (nat_cmp q) e.0) (Some e.1) (lookup (is_at (nat_cmp q)) es) (is_at_apart e.0 q (λ s. ne (sym s))) in
     let gone : (q : ℕ) → q ≡ e.0 → lookup (is_at (nat_cmp q)) es ≡ None = λ q same. lookup_under es (suc e.0) q r.1 (omega arith) in (
-      (⊎_elim (λ l. l) (λ far. let none : None ≡ Some e.1 = sym (behind e.0 far) ∙ here in (cc)) (cases_lt e.0 len), subst P here (sized e.0)),
+      (
+        ⊎_elim (λ l. l) (λ far. let none : None ≡ Some e.1 = sym (behind e.0 far) ∙ here in (cc)) (cases_lt e.0 len),
+        subst P here (sized e.0),
+      ),
       FitIn-from es (suc e.0) len size r.1
           (λ q far. ⊎_elim (gone q) (λ ne. sym (rest q ne) ∙ behind q far) (cases_eq q e.0))
           (λ q. ⊎_elim (λ same. subst P (sym (gone q same)) tt) (λ ne. subst P (rest q ne) (sized q)) (cases_eq q e.0)),
@@ -158,9 +186,20 @@ over-staged : (content : List (List ℕ)) (d : Stage) → IsStage d → d.least 
 over-staged content d ok kept rise =
     let bottom : List (List ℕ) = resized d.size d.least content in
     let grown : List (List ℕ) = resized d.size d.blocks bottom in
-    let bottom_len : length bottom ≡ d.least = omega (arith, length-append (take d.least content) (replicate (d.least - length content) (zero_block d.size)), length-take d.least content, length-replicate {A = List ℕ} (d.least - length content) (zero_block d.size)) in
+    let bottom_len : length bottom ≡ d.least =
+    omega (
+      arith,
+      length-append (take d.least content) (replicate (d.least - length content) (zero_block d.size)),
+      length-take d.least content,
+      length-replicate {A = List ℕ} (d.least - length content) (zero_block d.size),
+    ) in
     let front_len : length (take d.blocks bottom) ≡ d.least = omega (arith, length-take d.blocks bottom, ok.least) in
-    let len : length grown ≡ d.blocks = omega (arith, length-append (take d.blocks bottom) (replicate (d.blocks - length bottom) (zero_block d.size)), length-replicate {A = List ℕ} (d.blocks - length bottom) (zero_block d.size), ok.least) in
+    let len : length grown ≡ d.blocks = omega (
+      arith,
+      length-append (take d.blocks bottom) (replicate (d.blocks - length bottom) (zero_block d.size)),
+      length-replicate {A = List ℕ} (d.blocks - length bottom) (zero_block d.size),
+      ok.least,
+    ) in
     ext_get_or [] (over d.written grown) (staged content d) (length-over d.written grown ∙ len ∙ sym (length-staged content d))
     (λ q below.
     let inside : q < d.blocks = (let l = length-over d.written grown in omega arith) in
@@ -184,16 +223,30 @@ over-staged content d ok kept rise =
     over_at d.written 0 grown q rise there ∙ ap (λ x. unwrap_or (written_at d q) x) base ∙ sym (at_blocks content d q inside))
 
 -- what the changes of a stage make of a store's bytes is what is staged
-pub made-staged : (content : List (List ℕ)) (d : Stage) → IsStage d → d.least ≤ length content → AllSized d.size content → IsStrictlySortedBy nat_cmp (keys_of d.written)
+pub made-staged : (content : List (List ℕ)) (d : Stage) → IsStage d → d.least ≤ length content → AllSized d.size content →
+    IsStrictlySortedBy nat_cmp (keys_of d.written)
     → made (side_of d) (concat content) ≡ concat (staged content d)
 made-staged content d ok kept all sorted =
     let bottom : List (List ℕ) = resized d.size d.least content in
     let grown : List (List ℕ) = resized d.size d.blocks bottom in
     let rise : KeysRise 0 d.written = KeysRise-ordered d.written sorted in
     let bottom_sized = AllSized-resized d.size d.least content all in
-    let bottom_len : length bottom ≡ d.least = omega (arith, length-append (take d.least content) (replicate (d.least - length content) (zero_block d.size)), length-take d.least content, length-replicate {A = List ℕ} (d.least - length content) (zero_block d.size)) in
-    let len : length grown ≡ d.blocks = omega (arith, length-append (take d.blocks bottom) (replicate (d.blocks - length bottom) (zero_block d.size)), length-take d.blocks bottom, length-replicate {A = List ℕ} (d.blocks - length bottom) (zero_block d.size), ok.least) in
-    ap (λ (bytes : List ℕ). changed (map (at_place d.size) d.written) (with_length (d.blocks * d.size) bytes)) (concat-resized d.size d.least content all)
+    let bottom_len : length bottom ≡ d.least =
+    omega (
+      arith,
+      length-append (take d.least content) (replicate (d.least - length content) (zero_block d.size)),
+      length-take d.least content,
+      length-replicate {A = List ℕ} (d.least - length content) (zero_block d.size),
+    ) in
+    let len : length grown ≡ d.blocks = omega (
+      arith,
+      length-append (take d.blocks bottom) (replicate (d.blocks - length bottom) (zero_block d.size)),
+      length-take d.blocks bottom,
+      length-replicate {A = List ℕ} (d.blocks - length bottom) (zero_block d.size),
+      ok.least,
+    ) in
+    ap (λ (bytes : List ℕ). changed (map (at_place d.size) d.written) (with_length (d.blocks * d.size) bytes))
+    (concat-resized d.size d.least content all)
     ∙ ap (changed (map (at_place d.size) d.written)) (concat-resized d.size d.blocks bottom bottom_sized)
     ∙ changed-places d.size d.written grown (AllSized-resized d.size d.blocks bottom bottom_sized)
     (FitIn-from d.written 0 (length grown) d.size rise (λ q far. ok.behind q (omega arith)) ok.sized)
@@ -209,10 +262,14 @@ FitPlaces-from (e ∷ es) blocks len size fits few small =
       FitPlaces-from es blocks len size fits.1 few small,
     )
 
-pub places_fit : (d : Stage) → IsStage d → IsStrictlySortedBy nat_cmp (keys_of d.written) → d.blocks ≤ 2 ^ 41 → d.size ≤ 524288 → FitPlaces d.size d.written
+pub places_fit : (d : Stage) → IsStage d → IsStrictlySortedBy nat_cmp (keys_of d.written) → d.blocks ≤ 2 ^ 41 → d.size ≤ 524288 →
+    FitPlaces d.size d.written
 places_fit d ok sorted few small =
-    FitPlaces-from d.written d.blocks d.size d.size (FitIn-from d.written 0 d.blocks d.size (KeysRise-ordered d.written sorted) ok.behind ok.sized) few small
+    FitPlaces-from d.written d.blocks d.size d.size (FitIn-from d.written 0 d.blocks d.size (KeysRise-ordered d.written sorted)
+    ok.behind ok.sized) few small
 
 -- what is kept of a store are bytes of it
-pub kept_bytes : (content : List (List ℕ)) (size least : ℕ) → AllSized size content → least ≤ length content → least * size ≤ length (concat content)
-kept_bytes content size least all kept = let a : least * size ≤ length content * size = mul-le-mul_right size kept in omega (arith, length-concat-sized size content all)
+pub kept_bytes : (content : List (List ℕ)) (size least : ℕ) → AllSized size content → least ≤ length content →
+    least * size ≤ length (concat content)
+kept_bytes content size least all kept = let a : least * size ≤ length content * size = mul-le-mul_right size kept in
+    omega (arith, length-concat-sized size content all)

@@ -1,5 +1,6 @@
 -- What is staged over a store: the blocks that were written, and lengths.
-use Rattle.std.specs.Prelude.{◌≡◌, ℕ, ◌*◌, ◌^◌, ◌<◌, ◌≤◌, nat_lt, List, length, map, Option, None, unwrap_or, IfSome, slice_index_or, [], if◌then◌else◌}
+use Rattle.std.specs.Prelude.{◌≡◌, ℕ, ◌*◌, ◌^◌, ◌<◌, ◌≤◌, nat_lt, List, length, map, Option, None, unwrap_or, IfSome}
+use Rattle.std.specs.Prelude.{slice_index_or, [], if◌then◌else◌}
 use Rattle.std.specs.List.{range_with_len, AllByRecursion}
 use Rattle.std.specs.Ordering.{nat_cmp}
 use Rattle.std.specs.Map.{lookup}

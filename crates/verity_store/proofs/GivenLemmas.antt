@@ -1,5 +1,6 @@
 -- Logs of given blocks that go on.
-use Rattle.std.proofs.Common.{◌≡◌, ℕ, ◌≤◌, List, [], ◌∷◌, ◌++◌, length, take, drop, length-take, length-drop, refl, sym, ap, ◌∙◌, subst, arith}
+use Rattle.std.proofs.Common.{◌≡◌, ℕ, ◌≤◌, List, [], ◌∷◌, ◌++◌, length, take, drop, length-take, length-drop, refl, sym, ap, ◌∙◌}
+use Rattle.std.proofs.Common.{subst, arith}
 use Rattle.std.proofs.Math.Seq.{take-length, take-append_seam}
 use Rattle.std.proofs.lemmas.List.{take-take, take-append-drop, drop-append-le}
 use Rattle.std.proofs.lemmas.List.Elements.{Contains-append_left, Contains-append_right, Contains-push}
@@ -24,20 +25,25 @@ goes_on_then xs ys zs first second =
     sym (take-take (length xs) (length ys) zs (omega arith)) ∙ ap (λ rows. take (length xs) rows) second ∙ first
 
 -- what was given stays so
-pub since_on : (old new : List (ℕ × List ℕ)) → GoesOn old new → (mark n : ℕ) (block : List ℕ) → GaveSince old mark n block → GaveSince new mark n block
+pub since_on : (old new : List (ℕ × List ℕ)) → GoesOn old new → (mark n : ℕ) (block : List ℕ) → GaveSince old mark n block →
+    GaveSince new mark n block
 since_on old new on mark n block gave =
     let more : List (ℕ × List ℕ) = drop (length old) new in
     let is : old ++ more ≡ new = ap (λ front. front ++ more) (sym on) ∙ take-append-drop (length old) new in
     let inside : mark ≤ length old = let len = length-drop mark old in omega (arith, gave.1) in
     subst (λ rows. Contains (drop mark rows) (n, block)) is
-    (subst (λ rows. Contains rows (n, block)) (sym (drop-append-le mark old more inside)) (Contains-append_left (drop mark old) more (n, block) gave))
+    (subst (λ rows. Contains rows (n, block)) (sym (drop-append-le mark old more inside))
+    (Contains-append_left (drop mark old) more (n, block) gave))
 
 -- a block that is given now is given since any mark that was made before
-pub since_now : (old : List (ℕ × List ℕ)) (mark n : ℕ) (block : List ℕ) → mark ≤ length old → GaveSince (old ++ (n, block) ∷ []) mark n block
+pub since_now : (old : List (ℕ × List ℕ)) (mark n : ℕ) (block : List ℕ) → mark ≤ length old →
+    GaveSince (old ++ (n, block) ∷ []) mark n block
 since_now old mark n block inside =
-    subst (λ rows. Contains rows (n, block)) (sym (drop-append-le mark old ((n, block) ∷ []) inside)) (Contains-push (drop mark old) (n, block))
+    subst (λ rows. Contains rows (n, block)) (sym (drop-append-le mark old ((n, block) ∷ []) inside))
+    (Contains-push (drop mark old) (n, block))
 
 -- what was given since a mark was given
 pub since_all : (given : List (ℕ × List ℕ)) (mark n : ℕ) (block : List ℕ) → GaveSince given mark n block → Contains given (n, block)
 since_all given mark n block gave =
-    subst (λ rows. Contains rows (n, block)) (take-append-drop mark given) (Contains-append_right (take mark given) (drop mark given) (n, block) gave)
+    subst (λ rows. Contains rows (n, block)) (take-append-drop mark given)
+    (Contains-append_right (take mark given) (drop mark given) (n, block) gave)

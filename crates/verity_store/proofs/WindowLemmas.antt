@@ -1,6 +1,8 @@
 -- The first bytes of a file that is written over, or filled with zeros behind them.
-use Rattle.std.proofs.Common.{◌≡◌, refl, ℕ, ◌+◌, ◌-◌, ◌<◌, ◌≤◌, Option, None, Some, List, [], ◌++◌, length, take, drop, replicate, length-drop, length-append, append_assoc, sym, ap, subst, ◌∙◌, arith}
-use Rattle.std.proofs.lemmas.List.{length-replicate, append-nil, length-take-le, take-append-drop, take-take, take-append-le, drop-drop, drop-take, take_at, drop_at, take_all, drop_all, replicate-append-replicate}
+use Rattle.std.proofs.Common.{◌≡◌, refl, ℕ, ◌+◌, ◌-◌, ◌<◌, ◌≤◌, Option, None, Some, List, [], ◌++◌, length, take, drop, replicate}
+use Rattle.std.proofs.Common.{length-drop, length-append, append_assoc, sym, ap, subst, ◌∙◌, arith}
+use Rattle.std.proofs.lemmas.List.{length-replicate, append-nil, length-take-le, take-append-drop, take-take, take-append-le}
+use Rattle.std.proofs.lemmas.List.{drop-drop, drop-take, take_at, drop_at, take_all, drop_all, replicate-append-replicate}
 use Rattle.verity_store.specs.RawFile.{overwritten, with_length, known_len, HasLength, Reads, Writes, MayWrite, SetsLength}
 use Rattle.verity_store.specs.Window.{first_bytes, bytes_behind}
 use Rattle.verity_store.proofs.FileLemmas.{length-overwritten}
@@ -13,13 +15,17 @@ take-overwritten n at w b front fits =
 -- what is written, and all in front of it
 start_of : (at : ℕ) (w b : List ℕ) → at ≤ length b → take (at + length w) (overwritten at w b) ≡ take at b ++ w
 start_of at w b fits =
-    let len : length (take at b ++ w) ≡ at + length w = length-append (take at b) w ∙ ap (λ (k : ℕ). k + length w) (length-take-le at b fits) in
-    ap (take (at + length w)) (sym (append_assoc (take at b) w (drop (at + length w) b))) ∙ take_at (take at b ++ w) (drop (at + length w) b) (at + length w) len
+    let len : length (take at b ++ w) ≡ at + length w = length-append (take at b) w
+    ∙ ap (λ (k : ℕ). k + length w) (length-take-le at b fits) in
+    ap (take (at + length w)) (sym (append_assoc (take at b) w (drop (at + length w) b)))
+    ∙ take_at (take at b ++ w) (drop (at + length w) b) (at + length w) len
 
 end_of : (at : ℕ) (w b : List ℕ) → at ≤ length b → drop (at + length w) (overwritten at w b) ≡ drop (at + length w) b
 end_of at w b fits =
-    let len : length (take at b ++ w) ≡ at + length w = length-append (take at b) w ∙ ap (λ (k : ℕ). k + length w) (length-take-le at b fits) in
-    ap (drop (at + length w)) (sym (append_assoc (take at b) w (drop (at + length w) b))) ∙ drop_at (take at b ++ w) (drop (at + length w) b) (at + length w) len
+    let len : length (take at b ++ w) ≡ at + length w = length-append (take at b) w
+    ∙ ap (λ (k : ℕ). k + length w) (length-take-le at b fits) in
+    ap (drop (at + length w)) (sym (append_assoc (take at b) w (drop (at + length w) b)))
+    ∙ drop_at (take at b ++ w) (drop (at + length w) b) (at + length w) len
 
 drop-overwritten : (n at : ℕ) (w b : List ℕ) → at + length w ≤ n → at ≤ length b → drop n (overwritten at w b) ≡ drop n b
 drop-overwritten n at w b behind fits =
@@ -41,7 +47,8 @@ inside n at w b within fits =
     let cut : List ℕ = front ++ take rest tail in
     let cut_len : length cut ≡ n = length-append front (take rest tail) ∙ (omega arith) in
     let split : overwritten at w b ≡ cut ++ drop rest tail =
-    sym (append_assoc (take at b) w tail) ∙ ap (λ (xs : List ℕ). front ++ xs) (sym (take-append-drop rest tail)) ∙ sym (append_assoc front (take rest tail) (drop rest tail)) in
+    sym (append_assoc (take at b) w tail) ∙ ap (λ (xs : List ℕ). front ++ xs) (sym (take-append-drop rest tail))
+    ∙ sym (append_assoc front (take rest tail) (drop rest tail)) in
     let kept : take rest tail ≡ drop end (take n b) = sym (drop-take end rest b) ∙ ap (λ (k : ℕ). drop end (take k b)) all in
     ap (take n) split ∙ take_at cut (drop rest tail) n cut_len
     ∙ append_assoc (take at b) w (take rest tail)
@@ -88,12 +95,14 @@ pub window_length : (len room : ℕ) (known : Option (List ℕ)) → HasLength k
 window_length len room None whole within = refl
 window_length len room (Some bytes) whole within = length-take-le len bytes (omega arith)
 
-pub window_known : (len room end : ℕ) (known : Option (List ℕ)) → HasLength known room → len ≤ room → end ≤ known_len (first_bytes len known) end → end ≤ known_len known end
+pub window_known : (len room end : ℕ) (known : Option (List ℕ)) → HasLength known room → len ≤ room →
+    end ≤ known_len (first_bytes len known) end → end ≤ known_len known end
 window_known len room end None whole within fits = omega arith
 window_known len room end (Some bytes) whole within fits =
     let taken : length (take len bytes) ≡ len = length-take-le len bytes (omega arith) in omega arith
 
-pub window_reads : (len room at : ℕ) (known : Option (List ℕ)) (given : List ℕ) → HasLength known room → len ≤ room → at + length given ≤ len
+pub window_reads : (len room at : ℕ) (known : Option (List ℕ)) (given : List ℕ) → HasLength known room → len ≤ room →
+    at + length given ≤ len
     → Reads known at given → Reads (first_bytes len known) at given
 window_reads len room at None given whole within fits is = tt
 window_reads len room at (Some bytes) given whole within fits is =
@@ -102,7 +111,8 @@ window_reads len room at (Some bytes) given whole within fits is =
     is ∙ sym (take-take count (len - at) (drop at bytes) (omega arith))
     ∙ ap (take count) (sym (drop-take at (len - at) bytes) ∙ ap (λ (k : ℕ). drop at (take k bytes)) rest)
 
-pub window_writes : (len room at : ℕ) (old new : Option (List ℕ)) (written : List ℕ) → HasLength old room → len ≤ room → at + length written ≤ len
+pub window_writes : (len room at : ℕ) (old new : Option (List ℕ)) (written : List ℕ) → HasLength old room → len ≤ room →
+    at + length written ≤ len
     → Writes old new at written → Writes (first_bytes len old) (first_bytes len new) at written
 window_writes len room at None new written whole within fits is = ap (first_bytes len) is
 window_writes len room at (Some bytes) new written whole within fits is =
@@ -122,7 +132,8 @@ window_front n room at (Some bytes) new written whole front fits is =
     ap (first_bytes n) is ∙ ap Some (take-overwritten n at written bytes front (omega arith))
 
 -- and what is behind it
-pub window_behind : (n room at : ℕ) (old new : Option (List ℕ)) (written : List ℕ) → HasLength old room → at + length written ≤ n → at ≤ room
+pub window_behind : (n room at : ℕ) (old new : Option (List ℕ)) (written : List ℕ) → HasLength old room → at + length written ≤ n →
+    at ≤ room
     → Writes old new at written → bytes_behind n new ≡ bytes_behind n old
 window_behind n room at None new written whole behind fits is = ap (bytes_behind n) is
 window_behind n room at (Some bytes) new written whole behind fits is =
@@ -134,7 +145,8 @@ zeros_none at (Some bytes) = let none : at - at ≡ 0 = omega arith in
     rw none (ap Some (sym (nothing at bytes)))
 
 pub zeros_more : (from at count room : ℕ) (old mid new : Option (List ℕ)) → HasLength old room → from ≤ at → at ≤ room
-    → Writes old mid from (replicate (at - from) 0) → Writes mid new at (replicate count 0) → Writes old new from (replicate (at + count - from) 0)
+    → Writes old mid from (replicate (at - from) 0) → Writes mid new at (replicate count 0) →
+    Writes old new from (replicate (at + count - from) 0)
 zeros_more from at count room None mid new whole order fits was is =
     subst (λ known. Writes known new at (replicate count 0)) was is
 zeros_more from at count room (Some bytes) mid new whole order fits was is =
@@ -146,7 +158,8 @@ zeros_more from at count room (Some bytes) mid new whole order fits was is =
     written
     ∙ ap (λ (k : ℕ). Some (overwritten k more (overwritten from zeros bytes))) (sym place)
     ∙ ap Some (joined from zeros more bytes (omega arith))
-    ∙ ap (λ (xs : List ℕ). Some (overwritten from xs bytes)) (replicate-append-replicate (at - from) count 0 ∙ ap (λ (k : ℕ). replicate k 0) all)
+    ∙ ap (λ (xs : List ℕ). Some (overwritten from xs bytes)) (replicate-append-replicate (at - from) count 0
+    ∙ ap (λ (k : ℕ). replicate k 0) all)
 
 pub window_grows : (len n room : ℕ) (old new : Option (List ℕ)) → HasLength old room → len ≤ n → n ≤ room
     → Writes old new len (replicate (n - len) 0) → SetsLength (first_bytes len old) (first_bytes n new) n

@@ -28,20 +28,27 @@ chunks-preserved c =
         ap length w.room-is ∙ c.chunks.invariant.0,
         λ j lt.
             let fits = whole size j (length blocks) lt c.requires in
-            let len : length salt + size ≡ length salt + length (slice_chunk blocks size j) = ap (λ k. length salt + k) (sym (length_block blocks size j fits)) in
-            hashed_next (lane j c.chunks.state) _ initial_hash_256 (padded_message (salt ++ slice_chunk blocks size j)) c.chunks.k _ (c.chunks.invariant.1 j lt) (ap (lane j) w.state-is ∙ w.compress.ensures j lt)
+            let len : length salt + size ≡ length salt + length (slice_chunk blocks size j) =
+            ap (λ k. length salt + k) (sym (length_block blocks size j fits)) in
+            hashed_next (lane j c.chunks.state) _ initial_hash_256 (padded_message (salt ++ slice_chunk blocks size j)) c.chunks.k _
+            (c.chunks.invariant.1 j lt) (ap (lane j) w.state-is ∙ w.compress.ensures j lt)
             (whole_in_block salt blocks (padding (length salt + size)) 64 size j from (omega arith) (omega arith) fits
-            ∙ ap (λ l. piece_at 64 l from) (message_parts padding salt (slice_chunk blocks size j) (padding (length salt + size)) (length salt + size) len refl)),
+            ∙ ap (λ l. piece_at 64 l from) (message_parts padding salt (slice_chunk blocks size j) (padding (length salt + size))
+            (length salt + size) len refl)),
       )
       | else-from-salt w ↦ (
         ap length w.room-is ∙ omega arith,
         λ j lt.
             let fits = whole size j (length blocks) lt c.requires in
-            let len : length salt + size ≡ length salt + length (slice_chunk blocks size j) = ap (λ k. length salt + k) (sym (length_block blocks size j fits)) in
+            let len : length salt + size ≡ length salt + length (slice_chunk blocks size j) =
+            ap (λ k. length salt + k) (sym (length_block blocks size j fits)) in
             let place : j * 64 + 0 ≡ j * 64 = omega arith in
-            hashed_next (lane j c.chunks.state) _ initial_hash_256 (padded_message (salt ++ slice_chunk blocks size j)) c.chunks.k _ (c.chunks.invariant.1 j lt) (ap (lane j) w.state-is ∙ w.compress-else-from-salt.ensures j lt)
+            hashed_next (lane j c.chunks.state) _ initial_hash_256 (padded_message (salt ++ slice_chunk blocks size j)) c.chunks.k _
+            (c.chunks.invariant.1 j lt) (ap (lane j) w.state-is ∙ w.compress-else-from-salt.ensures j lt)
             (ap (piece_at 64 w.fill_lanes.new.room) place ∙ w.fill_lanes.ensures j lt
-            ∙ ap (λ l. piece_at 64 l from) (message_parts padding salt (slice_chunk blocks size j) _ (length salt + size) len (c.padding-pad_len.ensures.value ∙ ap (λ b. 0x80 ∷ replicate ((119 - (length salt + size) % 64) % 64) 0 ++ b) c.to_be_bytes.ensures))),
+            ∙ ap (λ l. piece_at 64 l from) (message_parts padding salt (slice_chunk blocks size j) _ (length salt + size) len
+            (c.padding-pad_len.ensures.value ∙ ap (λ b. 0x80 ∷ replicate ((119 - (length salt + size) % 64) % 64) 0 ++ b)
+            c.to_be_bytes.ensures))),
       )
     ]
 
@@ -52,8 +59,10 @@ returns c = λ j lt.
     let size = c.args.size in
     let block = slice_chunk c.args.blocks.now size j in
     let fits = whole size j (length c.args.blocks.now) lt c.requires in
-    let len : length salt + size ≡ length salt + length block = ap (λ k. length salt + k) (sym (length_block c.args.blocks.now size j fits)) in
+    let len : length salt + size ≡ length salt + length block =
+    ap (λ k. length salt + k) (sym (length_block c.args.blocks.now size j fits)) in
     let long = length_message padding salt block (length salt + size) len in
-    let done : c.chunks.k ≡ length (padded_message (salt ++ block)) / 64 = omega (arith, long, length_padding (length salt + size), c.padding-pad_len.ensures.len) in
+    let done : c.chunks.k ≡ length (padded_message (salt ++ block)) / 64 =
+    omega (arith, long, length_padding (length salt + size), c.padding-pad_len.ensures.len) in
     c.lanes.invariant.1 j (omega arith)
     ∙ ap (λ h. digest_bytes h 8) (c.chunks.invariant.1 j lt ∙ ap (hash_after initial_hash_256 (padded_message (salt ++ block))) done)

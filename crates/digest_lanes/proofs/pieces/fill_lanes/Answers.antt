@@ -26,6 +26,7 @@ lanes-preserved c =
             let width : c.lanes.j * size + size - c.lanes.j * size ≡ size = omega arith in
             rw (← e) (part_at c.lanes.room c.fill.new.room piece c.lanes.j _ (omega arith) (omega arith)
             ∙ same_part c.lanes.room c.fill.new.room _ (c.lanes.j * piece) _ piece c.args.from c.fill.ensures long (omega arith)
-            ∙ ap (λ m. piece_at piece (c.args.salt.now ++ (take m (drop (c.lanes.j * size) c.args.blocks.now) ++ c.args.pad.now)) c.args.from) width)
+            ∙ ap (λ m. piece_at piece (c.args.salt.now ++ (take m (drop (c.lanes.j * size) c.args.blocks.now) ++ c.args.pad.now))
+            c.args.from) width)
       ],
     )

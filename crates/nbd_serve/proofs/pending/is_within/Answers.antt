@@ -19,7 +19,8 @@ loop-client-preserved g c =
     let d = c.client-item.result in
     let below : i < length c.args.clients.now = omega (arith, c.loop-client-test.true) in
     let same = ap (λ z. length z.0.unsent) c.client-item.is in
-    let more : pending (take (i + 1) c.args.clients.now) ≡ pending (take i c.args.clients.now) + length (get_or c.args.clients.now i d).0.unsent = rw add-one (one_more c.args.clients.now i d below) in
+    let more : pending (take (i + 1) c.args.clients.now) ≡ pending (take i c.args.clients.now) + length
+    (get_or c.args.clients.now i d).0.unsent = rw add-one (one_more c.args.clients.now i d below) in
     record {
       within = omega (arith, more, same, c.held-held.ensures.covers, c.if-room-held.false, c.loop-client.invariant.within);
       back = λ p.

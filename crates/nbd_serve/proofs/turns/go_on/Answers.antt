@@ -15,7 +15,8 @@ loop-init g c = record {
   count = refl;
   offer = refl;
   limit = λ p. inl p;
-  serves = λ h logs x v. runs_none g.S.Stream.remaining g.S.Stream.contents (g.E.Export.facts c.args.hub.now.1) c.args.hub.now.0 h c.args.clients.now logs x v;
+  serves = λ h logs x v. runs_none g.S.Stream.remaining g.S.Stream.contents (g.E.Export.facts c.args.hub.now.1) c.args.hub.now.0 h
+      c.args.clients.now logs x v;
 }
 
 pub loop-preserved : goal.loop-preserved
@@ -32,5 +33,6 @@ loop-preserved g c =
             | inr b ↦ absurd (apart c.loop.came c.in-On.is b)
           ] in t.ensures.limit q;
       serves = λ h logs x v.
-          runs_more g.S.Stream.remaining g.S.Stream.contents (f c.loop.hub.1) (f t.new.hub.1) c.loop.hub.0 t.new.hub.0 h c.args.clients.now c.loop.clients t.new.clients logs (i.serves h logs x v) t.ensures.serves;
+          runs_more g.S.Stream.remaining g.S.Stream.contents (f c.loop.hub.1) (f t.new.hub.1) c.loop.hub.0 t.new.hub.0 h
+          c.args.clients.now c.loop.clients t.new.clients logs (i.serves h logs x v) t.ensures.serves;
     }

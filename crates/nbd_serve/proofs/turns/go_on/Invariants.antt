@@ -14,6 +14,7 @@ invariant-loop g l =
       count : length l.clients ≡ length l.fn.clients;
       offer : l.hub.0.offer ≡ l.fn.hub.0.offer;
       limit : pending l.fn.clients ≤ l.limit → (pending l.clients ≤ l.limit) ⊎ (l.came ≡ came.Failed fault.Starved);
-      serves : (history : List Step) (logs : List Log) → IsAfter (facts l.fn.hub.1) l.fn.hub.0 history → AllServed l.fn.hub.0.offer history l.fn.clients logs
+      serves : (history : List Step) (logs : List Log) → IsAfter (facts l.fn.hub.1) l.fn.hub.0 history →
+          AllServed l.fn.hub.0.offer history l.fn.clients logs
           → RunsOn g.S.Stream.remaining g.S.Stream.contents (facts l.hub.1) l.hub.0 history l.fn.clients l.clients logs;
     }

@@ -23,9 +23,12 @@ returns-in-Ok-write_device-clause-bytes g c = λ td th.
     let hash_size : s.hash_size ≡ size = ap (λ t. t.hash_size) begun.geometry in
     let before : c.in_ok-start.start - 1 ≡ c.args.offset / size = omega (arith, begun.start) in
     let block : c.in_ok-superblock.superblock ≡ superblock p (length image) =
-    c.in_ok-superblock.ensures.value ∙ (λ i. superblock (volume c.args.params.now (begun.geometry i).data_size (begun.geometry i).hash_size) (begun.geometry i).blocks) in
-    let hashes : hashing c.in_ok-start.tree.hasher.salted s.hash_size ≡ hashing (salted_by c.args.params.now) size = λ i. hashing (begun.salted i) (hash_size i) in
+    c.in_ok-superblock.ensures.value ∙ (λ i. superblock (volume c.args.params.now (begun.geometry i).data_size
+    (begun.geometry i).hash_size) (begun.geometry i).blocks) in
+    let hashes : hashing c.in_ok-start.tree.hasher.salted s.hash_size ≡ hashing (salted_by c.args.params.now) size =
+    λ i. hashing (begun.salted i) (hash_size i) in
     let built : H.content c.write_device.new.hash_store ≡ hash_blocks p image in_front =
     c.in-Ok-write_device.ensures.written td (c.in-Ok.ensures.tells ∙ th)
-    ∙ (λ i. resized (hash_size i) (before i) (c.in-Ok.ensures.content i) ++ (zero_filled (hash_size i) (block i) ∷ tree (hashes i) image)) in
+    ∙ (λ i. resized (hash_size i) (before i) (c.in-Ok.ensures.content i) ++ (zero_filled (hash_size i) (block i) ∷ tree (hashes i)
+    image)) in
     ap concat built ∙ concat-append in_front (superblock_block p (length image) ∷ tree_of p image)

@@ -23,7 +23,8 @@ returns-clause-root g c = λ tells.
     let new = c.write_tree.new.tree in
     let wrote = c.in_ok-write_tree.ensures in
     root_right first.geometry new.blocks.items new.root first.shaped (new.levels ∙ ap levels_of wrote.geometry) wrote.grown
-    first.hasher.salted (g.D.BlockStore.content c.args.data_store.now) first.sized c.requires.blocks c.in-Some.root (wrote.right tells) c.in-Some.is
+    first.hasher.salted (g.D.BlockStore.content c.args.data_store.now) first.sized c.requires.blocks c.in-Some.root
+    (wrote.right tells) c.in-Some.is
 
 pub returns-clause-front : goal.returns-clause-front
 returns-clause-front g c = λ q below inside.
@@ -34,7 +35,8 @@ returns-clause-front g c = λ q below inside.
     ∙ c.in-Ok-write_superblock.ensures.others.1 q apart
     ∙ wrote.hash_store.front q (omega arith)
     ∙ ap (λ blocks. get_or blocks q []) c.in-Ok.ensures.done
-    ∙ get_or-resized_old (H.size c.args.hash_store.now) (c.args.start + c.total.result) (H.content c.args.hash_store.now) q (omega arith) inside
+    ∙ get_or-resized_old (H.size c.args.hash_store.now) (c.args.start + c.total.result) (H.content c.args.hash_store.now) q
+    (omega arith) inside
 
 pub returns-clause-written : goal.returns-clause-written
 returns-clause-written g c = λ td th.
@@ -53,15 +55,18 @@ returns-clause-written g c = λ td th.
     let levels = c.write_tree.new.tree.levels ∙ ap levels_of wrote.geometry in
     let superblock : List ℕ = zero_filled s.hash_size c.args.superblock.now in
     let all : start + c.total.result ≡ start + total_of s = ap (λ t. start + t) c.total.ensures.value in
-    let mid_len : length mid ≡ start + total_of s = wrote.hash_store.len ∙ ap length cut.done ∙ length-resized (H.size c.args.hash_store.now) (start + c.total.result) old ∙ all in
+    let mid_len : length mid ≡ start + total_of s = wrote.hash_store.len ∙ ap length cut.done
+    ∙ length-resized (H.size c.args.hash_store.now) (start + c.total.result) old ∙ all in
     let mid_front = λ (q : ℕ) (below : q < start).
-    wrote.hash_store.front q below ∙ ap (λ blocks. get_or blocks q []) cut.done ∙ (λ i. get_or (resized (c.requires.hash_size i) (all i) old) q []) in
+    wrote.hash_store.front q below ∙ ap (λ blocks. get_or blocks q []) cut.done
+    ∙ (λ i. get_or (resized (c.requires.hash_size i) (all i) old) q []) in
     let size : H.size c.write_tree.new.hash_store ≡ s.hash_size = wrote.hash_store.later.size ∙ cut.size ∙ c.requires.hash_size in
     let is : new ≡ set mid (start - 1) superblock =
     c.in-Ok-write_superblock.ensures.written (wrote.hash_store.later.tells ∙ cut.tells ∙ th)
     ∙ ap (λ z. set mid (start - 1) (zero_filled z c.args.superblock.now)) size in
     let stored : AreStored s start (tree (hashing salted s.hash_size) image) opens mid = wrote.stored td (cut.tells ∙ th) in
-    let there = holds_tree s opens c.write_tree.new.tree.root first.shaped levels wrote.grown salted image first.sized c.requires.blocks start new
+    let there = holds_tree s opens c.write_tree.new.tree.root first.shaped levels wrote.grown salted image first.sized
+    c.requires.blocks start new
     (stored_behind s start (tree (hashing salted s.hash_size) image) opens mid new superblock c.requires.behind is stored)
     (ap length is ∙ length-set mid (start - 1) superblock ∙ mid_len) in
     c.in-Ok-sync.ensures.content

@@ -22,8 +22,10 @@ place-place-requires-clause-index g c =
     let tree = c.loop-level.tree in
     let same = c.loop-level.invariant.geometry in
     let w = wide s c.levels-level-end.ensures.shaped in
-    let there : c.loop-level.level < length tree.blocks.items = omega (arith, tree.levels, ap levels_of same, c.levels-level-end.ensures.value, c.loop-level-test.true) in
-    let below = index_below (digests_per_block s) c.args.blocks s.blocks c.loop-level.level tree.blocks.items tree.root (omega arith) c.requires.few c.loop-level.invariant.settling there in
+    let there : c.loop-level.level < length tree.blocks.items =
+    omega (arith, tree.levels, ap levels_of same, c.levels-level-end.ensures.value, c.loop-level-test.true) in
+    let below = index_below (digests_per_block s) c.args.blocks s.blocks c.loop-level.level tree.blocks.items tree.root
+    (omega arith) c.requires.few c.loop-level.invariant.settling there in
     omega (arith, c.index-index.ensures, ap (λ t. len_of t c.loop-level.level) same, below)
 
 pub loop-level-preserved : goal.loop-level-preserved
@@ -49,7 +51,8 @@ loop-level-preserved g c =
     let P : Hashing → Type 0 = λ x. Closes x j now.blocks.items new.blocks.items now.root new.root in
     let closes = subst P (λ i. hashing (kept.salted i) (kept.geometry i).hash_size) c.close.ensures.closes in
     let at : c.args.start + c.place-place.result ≡ c.args.start + place_of s j (open_at now.blocks.items j).index =
-    ap (λ p. c.args.start + p) (c.place-place.ensures.value ∙ ap (λ t. place_of t j c.index-index.result) kept.geometry ∙ ap (λ x. place_of s j x) c.index-index.ensures) in
+    ap (λ p. c.args.start + p) (c.place-place.ensures.value ∙ ap (λ t. place_of t j c.index-index.result) kept.geometry
+    ∙ ap (λ x. place_of s j x) c.index-index.ensures) in
     let wrote = c.in_ok-write.ensures in
     let within : c.args.start + place_of s j (open_at now.blocks.items j).index < length (H.content c.loop-level.hash_store) =
     omega (arith, at, c.place-place.ensures.within, ap total_of kept.geometry, c.requires.room, kept.from.len) in
@@ -57,20 +60,36 @@ loop-level-preserved g c =
     c.block.ensures.value ∙ (λ i. hash_block (hashing (kept.salted i) (kept.geometry i).hash_size) (open_at now.blocks.items j).digests) in
     record {
       settling =
-          let next = settling_next (digests_per_block s) n s.blocks j h now.blocks.items new.blocks.items now.root new.root kept.settling there full closes in
+          let next = settling_next (digests_per_block s) n s.blocks j h now.blocks.items new.blocks.items now.root new.root
+          kept.settling there full closes in
           subst (λ m. Settling (digests_per_block s) n s.blocks m new.blocks.items new.root) (sym (add-one j)) next;
       salted = c.close.ensures.salted ∙ kept.salted;
       geometry = c.close.ensures.geometry ∙ kept.geometry;
       right = λ image count right.
-          turn_right salted s n j now.blocks.items now.root c.levels-level-end.ensures.shaped sized levels c.requires.few kept.settling there full image count (kept.right image count right) new.blocks.items new.root closes;
+          turn_right salted s n j now.blocks.items now.root c.levels-level-end.ensures.shaped sized levels c.requires.few
+          kept.settling there full image count (kept.right image count right) new.blocks.items new.root closes;
       stored = λ tells image count right stored.
-          let is = wrote.written (kept.from.later.tells ∙ tells) ∙ ap (λ a. set (H.content c.loop-level.hash_store) a c.block.result.now) at in
-          let tree_block = block ∙ turn_tree salted s n j now.blocks.items now.root c.levels-level-end.ensures.shaped sized levels c.requires.few kept.settling there full image count (kept.right image count right) in
-          let next = stored_next h s c.args.start j (tree h image) now.blocks.items new.blocks.items now.root new.root (H.content c.loop-level.hash_store) c.block.result.now closes within tree_block (kept.stored tells image count right stored) in
+          let is = wrote.written (kept.from.later.tells ∙ tells)
+          ∙ ap (λ a. set (H.content c.loop-level.hash_store) a c.block.result.now) at in
+          let tree_block = block ∙ turn_tree salted s n j now.blocks.items now.root c.levels-level-end.ensures.shaped sized levels
+          c.requires.few kept.settling there full image count (kept.right image count right) in
+          let next = stored_next h s c.args.start j (tree h image) now.blocks.items new.blocks.items now.root new.root
+          (H.content c.loop-level.hash_store) c.block.result.now closes within tree_block
+          (kept.stored tells image count right stored) in
           subst (λ content. AreStored s c.args.start (tree h image) new.blocks.items content) (sym is) next;
       from =
-          let later : IsLater H c.loop-level.hash_store c.write.new.self = record { tells = wrote.tells; size = wrote.size; fixed = wrote.fixed; gave = wrote.gave; failures = wrote.failures; reads = omega (arith, wrote.reads); room = omega (arith, wrote.room) } in
+          let later : IsLater H c.loop-level.hash_store c.write.new.self =
+          record {
+            tells = wrote.tells;
+            size = wrote.size;
+            fixed = wrote.fixed;
+            gave = wrote.gave;
+            failures = wrote.failures;
+            reads = omega (arith, wrote.reads);
+            room = omega (arith, wrote.room);
+          } in
           writes_then H c.args.start c.args.hash_store.now c.loop-level.hash_store c.write.new.self kept.from
-          (writes_one H c.args.start (c.args.start + c.place-place.result) c.loop-level.hash_store c.write.new.self (omega arith) wrote.others wrote.reads wrote.room later);
+          (writes_one H c.args.start (c.args.start + c.place-place.result) c.loop-level.hash_store c.write.new.self (omega arith)
+          wrote.others wrote.reads wrote.room later);
       unfailed = wrote.unfailed ∙ kept.unfailed;
     }

@@ -15,7 +15,9 @@ invariant-loop-level g l =
       salted : l.tree.hasher.salted ≡ l.fn.tree.hasher.salted;
       geometry : l.tree.geometry ≡ s;
       right : StaysRight h s.blocks l.fn.tree.blocks.items l.fn.tree.root l.tree.blocks.items l.tree.root;
-      stored : H.tells l.fn.hash_store ≡ true → StaysStored h s l.start l.fn.tree.blocks.items l.fn.tree.root (H.content l.fn.hash_store) l.tree.blocks.items (H.content l.hash_store);
+      stored : H.tells l.fn.hash_store ≡ true →
+          StaysStored h s l.start l.fn.tree.blocks.items l.fn.tree.root (H.content l.fn.hash_store) l.tree.blocks.items
+          (H.content l.hash_store);
       from : WritesFrom H l.start l.fn.hash_store l.hash_store;
       unfailed : H.failures l.hash_store ≡ H.failures l.fn.hash_store;
     }

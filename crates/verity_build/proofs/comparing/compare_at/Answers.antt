@@ -30,13 +30,18 @@ returns-in-Some-clause-compared g c = λ td th.
     let start : ℕ = c.in_ok-start.start in
     let place : Place = c.in-Some.place in
     let levels = new.levels ∙ ap levels_of done.geometry in
-    let compared = subst (λ found. AreCompared s start (tree (hashing first.hasher.salted s.hash_size) image) new.blocks.items content found) c.in-Some.is (done.compared td th) in
-    let differs = first_difference s first.hasher.salted image start content new.blocks.items first.shaped first.sized (sym (ap (λ t. t.blocks) begun.geometry)) levels
+    let compared = subst (λ found. AreCompared s start (tree (hashing first.hasher.salted s.hash_size) image) new.blocks.items
+    content found) c.in-Some.is (done.compared td th) in
+    let differs = first_difference s first.hasher.salted image start content new.blocks.items first.shaped first.sized
+    (sym (ap (λ t. t.blocks) begun.geometry)) levels
     (all_closed s new.blocks.items new.root first.shaped levels done.grown) place compared in
-    let P : Shape → Type 0 = λ t. IsFirstDifference t start (tree (hashing first.hasher.salted t.hash_size) image) content place.level place.index in
-    let t : Shape = shape_over c.args.params.now (g.D.BlockStore.size c.args.data_store.now) (g.H.BlockStore.size c.args.hash_store.now) (length image) in
+    let P : Shape → Type 0 = λ t. IsFirstDifference t start (tree (hashing first.hasher.salted t.hash_size) image) content
+    place.level place.index in
+    let t : Shape = shape_over c.args.params.now (g.D.BlockStore.size c.args.data_store.now)
+    (g.H.BlockStore.size c.args.hash_store.now) (length image) in
     let Q : Salted → Type 0 = λ x. IsFirstDifference t start (tree (hashing x t.hash_size) image) content place.level place.index in
-    let R : ℕ → Type 0 = λ a. IsFirstDifference t a (tree (hashing (salted_by c.args.params.now) t.hash_size) image) content place.level place.index in
+    let R : ℕ → Type 0 = λ a. IsFirstDifference t a (tree (hashing (salted_by c.args.params.now) t.hash_size) image) content
+    place.level place.index in
     subst R begun.start (subst Q begun.salted (subst P begun.geometry differs))
 
 pub returns-in-Some-root-clause-compared : goal.returns-in-Some-root-clause-compared
@@ -51,10 +56,12 @@ returns-in-Some-root-clause-compared g c = λ td th.
     let start : ℕ = c.in_ok-start.start in
     let levels = new.levels ∙ ap levels_of done.geometry in
     let count = sym (ap (λ t. t.blocks) begun.geometry) in
-    let compared = subst (λ found. AreCompared s start (tree (hashing first.hasher.salted s.hash_size) image) new.blocks.items content found) c.in-None.is (done.compared td th) in
+    let compared = subst (λ found. AreCompared s start (tree (hashing first.hasher.salted s.hash_size) image) new.blocks.items
+    content found) c.in-None.is (done.compared td th) in
     let begins = begins_with s first.hasher.salted image start content new.blocks.items first.shaped first.sized count levels
     (all_closed s new.blocks.items new.root first.shaped levels done.grown) compared in
-    let right = root_right s new.blocks.items new.root first.shaped levels done.grown first.hasher.salted image first.sized count c.in-Some-root.root (done.right td) c.in-Some-root.is in
+    let right = root_right s new.blocks.items new.root first.shaped levels done.grown first.hasher.salted image first.sized count
+    c.in-Some-root.root (done.right td) c.in-Some-root.is in
     let h : Hashing = hashing (salted_by c.args.params.now) (g.H.BlockStore.size c.args.hash_store.now) in
     let same : hashing first.hasher.salted s.hash_size ≡ h = λ i. hashing (begun.salted i) (begun.geometry i).hash_size in (
       right ∙ ap (λ x. root x image) same,

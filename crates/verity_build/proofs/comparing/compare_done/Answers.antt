@@ -20,7 +20,8 @@ use Rattle.verity_build.specs.declared.comparing.Place.{Place}
 use Rattle.verity_build.specs.Differences.{AreCompared, earlier}
 use Rattle.verity_build.proofs.Compares.{compared_same, compared_other}
 use Rattle.verity_build.proofs.comparing.compare_done.Goals as goal
-use Rattle.verity_build.proofs.comparing.compare_done.Goals.{else-not-last-via-then-not-last+else-not-is_full, else-not-last-via-else-not-last, then-not-branch, else-not-branch}
+use Rattle.verity_build.proofs.comparing.compare_done.Goals.{else-not-last-via-then-not-last+else-not-is_full}
+use Rattle.verity_build.proofs.comparing.compare_done.Goals.{else-not-last-via-else-not-last, then-not-branch, else-not-branch}
 
 pub place-requires-clause-index : goal.place-requires-clause-index
 place-requires-clause-index g c =
@@ -28,8 +29,10 @@ place-requires-clause-index g c =
     let tree = c.loop-level.tree in
     let same = c.loop-level.invariant.geometry in
     let w = wide s c.levels-level-end.ensures.shaped in
-    let there : c.loop-level.level < length tree.blocks.items = omega (arith, tree.levels, ap levels_of same, c.levels-level-end.ensures.value, c.loop-level-test.true) in
-    let below = index_below (digests_per_block s) c.args.blocks s.blocks c.loop-level.level tree.blocks.items tree.root (omega arith) c.requires.few c.loop-level.invariant.settling there in
+    let there : c.loop-level.level < length tree.blocks.items =
+    omega (arith, tree.levels, ap levels_of same, c.levels-level-end.ensures.value, c.loop-level-test.true) in
+    let below = index_below (digests_per_block s) c.args.blocks s.blocks c.loop-level.level tree.blocks.items tree.root
+    (omega arith) c.requires.few c.loop-level.invariant.settling there in
     omega (arith, c.index-index.ensures, ap (λ t. len_of t c.loop-level.level) same, below)
 
 pub holds-requires-clause-some : goal.holds-requires-clause-some
@@ -63,27 +66,33 @@ loop-level-preserved g c =
     let P : Hashing → Type 0 = λ x. Closes x j opens new.blocks.items now.root new.root in
     let closes = subst P (λ i. hashing (kept.salted i) (kept.geometry i).hash_size) c.close.ensures.closes in
     let at : c.args.start + c.place.result ≡ c.args.start + place_of s j index =
-    ap (λ p. c.args.start + p) (c.place.ensures.value ∙ ap (λ t. place_of t j c.index-index.result) kept.geometry ∙ ap (λ x. place_of s j x) c.index-index.ensures) in
+    ap (λ p. c.args.start + p) (c.place.ensures.value ∙ ap (λ t. place_of t j c.index-index.result) kept.geometry
+    ∙ ap (λ x. place_of s j x) c.index-index.ensures) in
     let read = c.in_ok-holds.ensures.read in
     let block : c.block.result.now ≡ hash_block h (open_at opens j).digests =
     c.block.ensures.value ∙ (λ i. hash_block (hashing (kept.salted i) (kept.geometry i).hash_size) (open_at opens j).digests) in
     let below = turn_below salted s n j opens now.root shaped sized levels c.requires.few kept.settling there full in
     let most = λ (l : ℕ) (inside : l < length opens).
-    came_most (digests_per_block s) n s.blocks opens (omega arith) c.requires.few (settling_reaches (digests_per_block s) n s.blocks j opens now.root (omega arith) kept.settling) (suc l) inside in
+    came_most (digests_per_block s) n s.blocks opens (omega arith) c.requires.few (settling_reaches (digests_per_block s) n s.blocks
+    j opens now.root (omega arith) kept.settling) (suc l) inside in
     record {
       settling =
-          let next = settling_next (digests_per_block s) n s.blocks j h opens new.blocks.items now.root new.root kept.settling there full closes in
+          let next = settling_next (digests_per_block s) n s.blocks j h opens new.blocks.items now.root new.root kept.settling there
+          full closes in
           subst (λ m. Settling (digests_per_block s) n s.blocks m new.blocks.items new.root) (sym (add-one j)) next;
       salted = c.close.ensures.salted ∙ kept.salted;
       geometry = c.close.ensures.geometry ∙ kept.geometry;
       right = λ image count right.
-          turn_right salted s n j opens now.root shaped sized levels c.requires.few kept.settling there full image count (kept.right image count right) new.blocks.items new.root closes;
+          turn_right salted s n j opens now.root shaped sized levels c.requires.few kept.settling there full image count
+          (kept.right image count right) new.blocks.items new.root closes;
       compared = λ tells image count right compared.
           let blocks : List (List ℕ) = tree h image in
           let content : List (List ℕ) = H.content c.args.hash_store.now in
           let before = kept.compared tells image count right compared in
-          let tree_block = block ∙ turn_tree salted s n j opens now.root shaped sized levels c.requires.few kept.settling there full image count (kept.right image count right) in
-          let here : get_or (H.content c.loop-level.hash_store) (c.args.start + c.place.result) [] ≡ get_or content (c.args.start + place_of s j index) [] =
+          let tree_block = block ∙ turn_tree salted s n j opens now.root shaped sized levels c.requires.few kept.settling there full
+          image count (kept.right image count right) in
+          let here : get_or (H.content c.loop-level.hash_store) (c.args.start + c.place.result) [] ≡ get_or content
+          (c.args.start + place_of s j index) [] =
           (λ i. get_or (kept.read.content i) (at i) []) in
           let same = c.in_ok-holds.ensures.same (kept.read.later.tells ∙ tells) in
           let Q : Option Place → Type 0 = λ found. AreCompared s c.args.start blocks new.blocks.items content found in
@@ -91,10 +100,13 @@ loop-level-preserved g c =
             | then-not-branch b ↦
                 let differs : get_or content (c.args.start + place_of s j index) [] ≢ get_or blocks (place_of s j index) [] = λ e.
                 let yes = same.1 (here ∙ e ∙ sym tree_block) in let no = b.if-not-branch.true in absurd (cc) in
-                let found = b.found-is ∙ b.earlier-found.ensures ∙ ap (λ i. earlier c.loop-level.found (record { level = j; index = i })) c.index-index.ensures in
-                subst Q (sym found) (compared_other h s c.args.start j blocks content opens new.blocks.items now.root new.root closes there levels below most differs c.loop-level.found before)
+                let found = b.found-is ∙ b.earlier-found.ensures
+                ∙ ap (λ i. earlier c.loop-level.found (record { level = j; index = i })) c.index-index.ensures in
+                subst Q (sym found) (compared_other h s c.args.start j blocks content opens new.blocks.items now.root new.root
+                closes there levels below most differs c.loop-level.found before)
             | else-not-branch b ↦
-                subst Q (sym b.found-is) (compared_same h s c.args.start j blocks content opens new.blocks.items now.root new.root closes there c.loop-level.found
+                subst Q (sym b.found-is) (compared_same h s c.args.start j blocks content opens new.blocks.items now.root new.root
+                closes there c.loop-level.found
                 (sym here ∙ same.0 b.if-not-branch.false ∙ tree_block) before)
           ];
       read = only_read_then H c.args.hash_store.now c.loop-level.hash_store c.holds.new.hash_store kept.read read;
@@ -107,7 +119,12 @@ returns-then-not-is_full-clause-reads_most g c =
     let s : Shape = c.args.tree.now.geometry in
     let now = c.loop-level.tree in
     let kept = c.loop-level.invariant in
-    omega (arith, kept.reads, settling_total s c.args.blocks now.blocks.items now.root c.args.tree.now.shaped (now.levels ∙ ap levels_of kept.geometry) c.requires.few c.loop-level.level kept.settling)
+    omega (
+      arith,
+      kept.reads,
+      settling_total s c.args.blocks now.blocks.items now.root c.args.tree.now.shaped (now.levels
+          ∙ ap levels_of kept.geometry) c.requires.few c.loop-level.level kept.settling,
+    )
 
 pub returns-in_err-holds-clause-reads_most : goal.returns-in_err-holds-clause-reads_most
 returns-in_err-holds-clause-reads_most g c =
@@ -116,11 +133,22 @@ returns-in_err-holds-clause-reads_most g c =
     let kept = c.loop-level.invariant in
     let levels : length now.blocks.items ≡ levels_of s = now.levels ∙ ap levels_of kept.geometry in
     let there : c.loop-level.level < length now.blocks.items = omega (arith, c.levels-level-end.ensures.value, c.loop-level-test.true) in
-    omega (arith, kept.reads, c.holds.ensures.reads, settling_before s c.args.blocks now.blocks.items now.root c.args.tree.now.shaped levels c.requires.few c.loop-level.level kept.settling there)
+    omega (
+      arith,
+      kept.reads,
+      c.holds.ensures.reads,
+      settling_before s c.args.blocks now.blocks.items now.root
+          c.args.tree.now.shaped levels c.requires.few c.loop-level.level kept.settling there,
+    )
 
 pub returns-clause-reads_most : goal.returns-clause-reads_most
 returns-clause-reads_most g c =
     let s : Shape = c.args.tree.now.geometry in
     let now = c.loop-level.tree in
     let kept = c.loop-level.invariant in
-    omega (arith, kept.reads, settling_total s c.args.blocks now.blocks.items now.root c.args.tree.now.shaped (now.levels ∙ ap levels_of kept.geometry) c.requires.few c.loop-level.level kept.settling)
+    omega (
+      arith,
+      kept.reads,
+      settling_total s c.args.blocks now.blocks.items now.root c.args.tree.now.shaped (now.levels
+          ∙ ap levels_of kept.geometry) c.requires.few c.loop-level.level kept.settling,
+    )

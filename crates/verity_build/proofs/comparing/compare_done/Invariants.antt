@@ -17,7 +17,8 @@ invariant-loop-level g l =
       salted : l.tree.hasher.salted ≡ l.fn.tree.hasher.salted;
       geometry : l.tree.geometry ≡ s;
       right : StaysRight h s.blocks l.fn.tree.blocks.items l.fn.tree.root l.tree.blocks.items l.tree.root;
-      compared : H.tells l.fn.hash_store ≡ true → StaysCompared h s l.start (H.content l.fn.hash_store) l.fn.tree.blocks.items l.fn.tree.root l.fn.found_before l.tree.blocks.items l.found;
+      compared : H.tells l.fn.hash_store ≡ true → StaysCompared h s l.start (H.content l.fn.hash_store) l.fn.tree.blocks.items
+          l.fn.tree.root l.fn.found_before l.tree.blocks.items l.found;
       read : IsOnlyRead H l.fn.hash_store l.hash_store;
       reads : H.reads l.hash_store + closed l.fn.tree.blocks.items ≤ H.reads l.fn.hash_store + closed l.tree.blocks.items;
       unfailed : H.failures l.hash_store ≡ H.failures l.fn.hash_store;

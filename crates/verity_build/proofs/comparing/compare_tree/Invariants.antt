@@ -21,7 +21,8 @@ invariant-loop-n g l =
       salted : l.tree.hasher.salted ≡ l.fn.tree.hasher.salted;
       geometry : l.tree.geometry ≡ s;
       right : D.tells l.fn.data_store ≡ true → IsRight h image l.tree.blocks.items l.tree.root;
-      compared : D.tells l.fn.data_store ≡ true → H.tells l.fn.hash_store ≡ true → AreCompared s l.start (tree h image) l.tree.blocks.items (H.content l.fn.hash_store) l.found;
+      compared : D.tells l.fn.data_store ≡ true → H.tells l.fn.hash_store ≡ true →
+          AreCompared s l.start (tree h image) l.tree.blocks.items (H.content l.fn.hash_store) l.found;
       data_store : IsOnlyRead D l.fn.data_store l.data_store;
       ahead : AreAhead D l.fn.tree.hasher.salted l.n l.data_store l.leaves.digests l.leaves.taken l.leaves.held;
       data_reads : D.reads l.data_store ≡ D.reads l.fn.data_store + l.n + (l.leaves.held - l.leaves.taken);

@@ -6,7 +6,8 @@ pub returns-then-place-len-clause-same : goal.returns-then-place-len-clause-same
 returns-then-place-len-clause-same g c = λ tells. (
   (λ yes. absurd (cc)),
   (λ is.
-      let past = get_or_past (g.H.BlockStore.content c.args.hash_store.now) c.args.place [] (omega (arith, c.len.ensures, c.if-place-len.true)) in
+      let past = get_or_past (g.H.BlockStore.content c.args.hash_store.now) c.args.place []
+      (omega (arith, c.len.ensures, c.if-place-len.true)) in
       let none = ap length (sym past ∙ is) in
       absurd (omega arith)),
 )

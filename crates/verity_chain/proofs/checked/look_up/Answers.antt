@@ -9,6 +9,9 @@ copy_from_slice-requires g c =
     let tree = c.args.tree.now in
     let notes : List Note = c.fetch.new.notes.items in
     let r = c.in_ok-c.ensures in
-    let here = note_here tree notes c.in_ok-c.c c.locate-level.result.0 c.locate-level.result.1 r.checked c.locate-level.ensures.level c.locate-level.ensures.index r.found in
-    let is : c.block.result.now ≡ (note_at notes c.in_ok-c.c).block = c.block.ensures ∙ ap (λ n. n.block) (c.index.ensures ∙ get_or_default notes c.in_ok-c.c c.index.result.now (record { number = 0; block = [] }) r.found.0) in
+    let here = note_here tree notes c.in_ok-c.c c.locate-level.result.0 c.locate-level.result.1 r.checked
+    c.locate-level.ensures.level c.locate-level.ensures.index r.found in
+    let is : c.block.result.now ≡ (note_at notes c.in_ok-c.c).block =
+    c.block.ensures ∙ ap (λ n. n.block) (c.index.ensures ∙ get_or_default notes c.in_ok-c.c c.index.result.now
+    (record { number = 0; block = [] }) r.found.0) in
     c.fetch.auto.block ∙ c.requires.sized ∙ sym (ap length is ∙ here.0.sized)

@@ -16,12 +16,33 @@ returns-then-not-matches-clause-err g c =
     let i : ℕ = c.args.index in
     let y : List ℕ = c.read.new.out in
     let mark : ℕ = c.args.since.now.steps in
-    let read : IsOnlyRead H c.args.store.now c.read.new.self = record { content = e.content; room = e.room; later = record { tells = e.tells; size = e.size; fixed = e.fixed; gave = e.gave; failures = e.failures; reads = omega (arith, e.counted); room = omega (arith, e.room) } } in
+    let read : IsOnlyRead H c.args.store.now c.read.new.self =
+    record {
+      content = e.content;
+      room = e.room;
+      later = record {
+        tells = e.tells;
+        size = e.size;
+        fixed = e.fixed;
+        gave = e.gave;
+        failures = e.failures;
+        reads = omega (arith, e.counted);
+        room = omega (arith, e.room);
+      };
+    } in
     let here : Gave H mark c.read.new.self c.hash_place-number.result y =
-    gave_here H mark c.args.store.now c.read.new.self c.hash_place-number.result y (ok_here c.read.result _ e.given c.if-is_err.ensures.value) c.requires.since (search rules) e.content e.tells (ok_here c.read.result _ e.right c.if-is_err.ensures.value) in
-    let gave : Gave H mark c.read.new.self (hash_place t l i) y = subst (λ n. Gave H mark c.read.new.self n y) c.hash_place-number.ensures.value here in
-    let differs : (hashing_of t).digest y ≢ c.args.named.now = λ same. differs_here c.matches.result _ c.matches.ensures.value c.if-not-matches.true same in
-    (c.requires.level, c.requires.index, wrong_noted H t mark c.args.store.now c.read.new.self c.args.notes.now.items l i c.args.named.now y read c.requires.given c.requires.names gave differs)
+    gave_here H mark c.args.store.now c.read.new.self c.hash_place-number.result y
+    (ok_here c.read.result _ e.given c.if-is_err.ensures.value) c.requires.since (search rules) e.content e.tells
+    (ok_here c.read.result _ e.right c.if-is_err.ensures.value) in
+    let gave : Gave H mark c.read.new.self (hash_place t l i) y =
+    subst (λ n. Gave H mark c.read.new.self n y) c.hash_place-number.ensures.value here in
+    let differs : (hashing_of t).digest y ≢ c.args.named.now =
+    λ same. differs_here c.matches.result _ c.matches.ensures.value c.if-not-matches.true same in (
+      c.requires.level,
+      c.requires.index,
+      wrong_noted H t mark c.args.store.now c.read.new.self c.args.notes.now.items l i
+          c.args.named.now y read c.requires.given c.requires.names gave differs,
+    )
 
 pub returns-clause-checked : goal.returns-clause-checked
 returns-clause-checked g c =
@@ -32,7 +53,12 @@ returns-clause-checked g c =
     let x : Note = record { number = c.hash_place-number.result; block = y } in
     let added : c.push.new.self.items ≡ c.args.notes.now.items ++ x ∷ [] = search rules in
     let long : length y ≡ t.hash_block_size = search rules in
-    let at : IsNoteOf t l i x = record { level = c.requires.level; index = c.requires.index; number = c.hash_place-number.ensures.value; sized = long } in
+    let at : IsNoteOf t l i x = record {
+      level = c.requires.level;
+      index = c.requires.index;
+      number = c.hash_place-number.ensures.value;
+      sized = long;
+    } in
     let same : (hashing_of t).digest y ≡ c.args.named.now = same_here c.matches.result _ c.matches.ensures.value c.if-not-matches.false in
     checked_push t c.args.notes.now.items c.push.new.self.items l i x c.args.named.now added at c.requires.names same c.requires.checked
 
@@ -44,9 +70,24 @@ returns-clause-given g c =
     let y : List ℕ = c.read.new.out in
     let x : Note = record { number = c.hash_place-number.result; block = y } in
     let added : c.push.new.self.items ≡ c.args.notes.now.items ++ x ∷ [] = search rules in
-    let read : IsOnlyRead H c.args.store.now c.read.new.self = record { content = e.content; room = e.room; later = record { tells = e.tells; size = e.size; fixed = e.fixed; gave = e.gave; failures = e.failures; reads = omega (arith, e.counted); room = omega (arith, e.room) } } in
+    let read : IsOnlyRead H c.args.store.now c.read.new.self =
+    record {
+      content = e.content;
+      room = e.room;
+      later = record {
+        tells = e.tells;
+        size = e.size;
+        fixed = e.fixed;
+        gave = e.gave;
+        failures = e.failures;
+        reads = omega (arith, e.counted);
+        room = omega (arith, e.room);
+      };
+    } in
     let here : Gave H mark c.read.new.self c.hash_place-number.result y =
-    gave_here H mark c.args.store.now c.read.new.self c.hash_place-number.result y (ok_here c.read.result _ e.given c.if-is_err.ensures.value) c.requires.since (search rules) e.content e.tells (ok_here c.read.result _ e.right c.if-is_err.ensures.value) in
+    gave_here H mark c.args.store.now c.read.new.self c.hash_place-number.result y
+    (ok_here c.read.result _ e.given c.if-is_err.ensures.value) c.requires.since (search rules) e.content e.tells
+    (ok_here c.read.result _ e.right c.if-is_err.ensures.value) in
     given_push H mark c.args.store.now c.read.new.self c.args.notes.now.items c.push.new.self.items x read here added c.requires.given
 
 pub returns-in_default-push-clause-checked : goal.returns-in_default-push-clause-checked
@@ -57,21 +98,73 @@ returns-in_default-push-clause-checked g c =
 pub returns-then-is_err-clause-given : goal.returns-then-is_err-clause-given
 returns-then-is_err-clause-given g c =
     let e = c.read.ensures in
-    given_later g.H.BlockStore c.args.since.now.steps c.args.store.now c.read.new.self c.args.notes.now.items (record { content = e.content; room = e.room; later = record { tells = e.tells; size = e.size; fixed = e.fixed; gave = e.gave; failures = e.failures; reads = omega (arith, e.counted); room = omega (arith, e.room) } }) c.requires.given
+    given_later g.H.BlockStore c.args.since.now.steps c.args.store.now c.read.new.self c.args.notes.now.items
+    (record {
+      content = e.content;
+      room = e.room;
+      later = record {
+        tells = e.tells;
+        size = e.size;
+        fixed = e.fixed;
+        gave = e.gave;
+        failures = e.failures;
+        reads = omega (arith, e.counted);
+        room = omega (arith, e.room);
+      };
+    }) c.requires.given
 
 pub returns-then-not-matches-clause-given : goal.returns-then-not-matches-clause-given
 returns-then-not-matches-clause-given g c =
     let e = c.read.ensures in
-    given_later g.H.BlockStore c.args.since.now.steps c.args.store.now c.read.new.self c.args.notes.now.items (record { content = e.content; room = e.room; later = record { tells = e.tells; size = e.size; fixed = e.fixed; gave = e.gave; failures = e.failures; reads = omega (arith, e.counted); room = omega (arith, e.room) } }) c.requires.given
+    given_later g.H.BlockStore c.args.since.now.steps c.args.store.now c.read.new.self c.args.notes.now.items
+    (record {
+      content = e.content;
+      room = e.room;
+      later = record {
+        tells = e.tells;
+        size = e.size;
+        fixed = e.fixed;
+        gave = e.gave;
+        failures = e.failures;
+        reads = omega (arith, e.counted);
+        room = omega (arith, e.room);
+      };
+    }) c.requires.given
 
 pub returns-in_default-clause-given : goal.returns-in_default-clause-given
 returns-in_default-clause-given g c =
     let e = c.read.ensures in
-    given_later g.H.BlockStore c.args.since.now.steps c.args.store.now c.read.new.self c.args.notes.now.items (record { content = e.content; room = e.room; later = record { tells = e.tells; size = e.size; fixed = e.fixed; gave = e.gave; failures = e.failures; reads = omega (arith, e.counted); room = omega (arith, e.room) } }) c.requires.given
+    given_later g.H.BlockStore c.args.since.now.steps c.args.store.now c.read.new.self c.args.notes.now.items
+    (record {
+      content = e.content;
+      room = e.room;
+      later = record {
+        tells = e.tells;
+        size = e.size;
+        fixed = e.fixed;
+        gave = e.gave;
+        failures = e.failures;
+        reads = omega (arith, e.counted);
+        room = omega (arith, e.room);
+      };
+    }) c.requires.given
 
 pub returns-in_default-push-clause-given : goal.returns-in_default-push-clause-given
 returns-in_default-push-clause-given g c =
     let e = c.read.ensures in
     let same : c.push.new.self.items ≡ c.args.notes.now.items = search rules in
     subst (λ ns. WereGiven g.H.BlockStore c.args.since.now.steps c.read.new.self ns) (sym same)
-    (given_later g.H.BlockStore c.args.since.now.steps c.args.store.now c.read.new.self c.args.notes.now.items (record { content = e.content; room = e.room; later = record { tells = e.tells; size = e.size; fixed = e.fixed; gave = e.gave; failures = e.failures; reads = omega (arith, e.counted); room = omega (arith, e.room) } }) c.requires.given)
+    (given_later g.H.BlockStore c.args.since.now.steps c.args.store.now c.read.new.self c.args.notes.now.items
+    (record {
+      content = e.content;
+      room = e.room;
+      later = record {
+        tells = e.tells;
+        size = e.size;
+        fixed = e.fixed;
+        gave = e.gave;
+        failures = e.failures;
+        reads = omega (arith, e.counted);
+        room = omega (arith, e.room);
+      };
+    }) c.requires.given)

@@ -10,7 +10,8 @@ use Rattle.verity_edit.proofs.last.add_fallen.Goals as goal
 
 pub returns-then-keeps_last-clause-edited : goal.returns-then-keeps_last-clause-edited
 returns-then-keeps_last-clause-edited g c = λ image len.
-    c.requires.leaves image ∙ keeps_last_edited image c.args.pending.now c.facts.ensures len (sym c.keeps_last.ensures ∙ c.if-keeps_last.true)
+    c.requires.leaves image ∙ keeps_last_edited image c.args.pending.now c.facts.ensures len (sym c.keeps_last.ensures
+    ∙ c.if-keeps_last.true)
 
 pub returns-clause-edited : goal.returns-clause-edited
 returns-clause-edited g c =
@@ -18,7 +19,8 @@ returns-clause-edited g c =
     on_ok c.add_last.result _ _
     (λ a image len.
     let cut = cut_last image d c.facts.ensures len (sym c.keeps_last.ensures ∙ c.if-keeps_last.false) in
-    let last : c.args.change.now.new.blocks - 1 ≡ length (edits_of image d).working - 1 = ap (λ n. n - 1) (sym (length-working image d ∙ c.requires.working)) in
+    let last : c.args.change.now.new.blocks - 1 ≡ length (edits_of image d).working - 1 =
+    ap (λ n. n - 1) (sym (length-working image d ∙ c.requires.working)) in
     let x : Child = record { number = c.args.change.now.new.blocks - 1; digest = a.digest } in
     ap numbers_of a.added
     ∙ map-append (λ child. child.number) c.args.leaves.now.items (x ∷ [])

@@ -28,7 +28,8 @@ returns-in-Ok-push-clause-added g c =
     record {
       digest = c.digest_at.result;
       sized = c.digest_at.ensures.size;
-      added = c.in-Ok-push.ensures.items ∙ ap (λ n. let x : Child = record { number = n; digest = c.digest_at.result } in c.args.leaves.now.items ++ x ∷ []) last;
+      added = c.in-Ok-push.ensures.items ∙ ap (λ n. let x : Child = record { number = n; digest = c.digest_at.result } in
+          c.args.leaves.now.items ++ x ∷ []) last;
     }
 
 pub returns-in-Ok-push-clause-named : goal.returns-in-Ok-push-clause-named
@@ -47,7 +48,8 @@ returns-in-Ok-push-clause-named g c = λ told h image ok block_size digest_size 
     let slots : c.leaf_parent-index.result.1 ≡ b % per_block h = parent.slot ∙ (λ i. last i % width i) in
     let at : first + c.place.result ≡ first + place (per_block h) (length image) 0 (b / per_block h) =
     ap (λ p. first + p) c.place.ensures.value ∙ (λ i. first + place (width i) (sym len i) 0 (index i)) in
-    let block : c.read.new.out ≡ get_or content (first + place (per_block h) (length image) 0 (b / per_block h)) [] = sym (c.in-Ok.ensures.right told) ∙ ap (λ p. get_or content p []) at in
+    let block : c.read.new.out ≡ get_or content (first + place (per_block h) (length image) 0 (b / per_block h)) [] =
+    sym (c.in-Ok.ensures.right told) ∙ ap (λ p. get_or content p []) at in
     let some_level : 0 < level_count (per_block h) (length image) = level_some (per_block h) (length image) ok.branching (omega arith) in
     let inside : b / per_block h < level_len (per_block h) (length image) 0 =
     subst (λ (n : ℕ). n < level_len (per_block h) (length image) 0) index

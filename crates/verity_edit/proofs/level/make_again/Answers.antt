@@ -13,7 +13,8 @@ use Rattle.verity_edit.proofs.LevelLemmas.{can_remake}
 use Rattle.verity_edit.proofs.level.make_again.Goals as goal
 
 pub returns-clause-digest_size : goal.returns-clause-digest_size
-returns-clause-digest_size g c = ap length c.digest.ensures.digest ∙ length-digest_of c.args.hasher.now.salted.algorithm _ ∙ sym c.requires.level.digest_size
+returns-clause-digest_size g c = ap length c.digest.ensures.digest ∙ length-digest_of c.args.hasher.now.salted.algorithm _
+    ∙ sym c.requires.level.digest_size
 
 pub returns-clause-made : goal.returns-clause-made
 returns-clause-made g c = λ told old new count holds renews.
@@ -28,10 +29,14 @@ returns-clause-made g c = λ told old new count holds renews.
     let width : per_block h ≡ k = ap (λ n. n / h.digest_size) c.requires.sized ∙ sym l.width in
     let before = c.in_ok-read_old.ensures in
     let renewed : Renews h.digest_size old new c.args.children.now = subst (λ (w : ℕ). Renews w old new c.args.children.now) same renews in
-    let first = λ (far : level.old.len ≤ i) (z : i ≡ 0). subst (λ (w : ℕ). IfSome level.old.first (λ digest. get_or (slots w k c.read_old.new.block) 0 [] ≡ digest)) same (before.first far z) in
-    let can = can_remake h old new k i level.digests c.min-len.result level.old (g.H.BlockStore.content c.args.hash_store.now) c.args.children.now c.read_old.new.block
+    let first = λ (far : level.old.len ≤ i) (z : i ≡ 0). subst
+    (λ (w : ℕ). IfSome level.old.first (λ digest. get_or (slots w k c.read_old.new.block) 0 [] ≡ digest)) same (before.first far z) in
+    let can = can_remake h old new k i level.digests c.min-len.result level.old (g.H.BlockStore.content c.args.hash_store.now)
+    c.args.children.now c.read_old.new.block
     (omega arith) width some (omega arith) c.min-len.ensures (before.read told) first count holds renewed in
     let done : c.remake.new.block ≡ hash_block h (slice_chunk new k i) = c.remake.ensures h new (sym same) can in
-    let inside : i < div_ceil (length new) (per_block h) = begun (length new) (per_block h) i (omega arith) (let e : i * per_block h ≡ i * k = ap (λ w. i * w) width in omega arith) in
-    let whole : c.remake.new.block ≡ get_or (pack h new) i [] = done ∙ ap (λ w. hash_block h (slice_chunk new w i)) (sym width) ∙ sym (get_or-pack h new i inside) in
+    let inside : i < div_ceil (length new) (per_block h) =
+    begun (length new) (per_block h) i (omega arith) (let e : i * per_block h ≡ i * k = ap (λ w. i * w) width in omega arith) in
+    let whole : c.remake.new.block ≡ get_or (pack h new) i [] = done ∙ ap (λ w. hash_block h (slice_chunk new w i)) (sym width)
+    ∙ sym (get_or-pack h new i inside) in
     (whole, c.digest.ensures.digest ∙ ap (λ s. h.digest s) whole)

@@ -15,7 +15,8 @@ returns-in-Ok-push-clause-made g c = λ told old new count holds renews.
     let planned : c.push.new.self.items ≡ c.args.plan.now.items ++ c.new-made.result ∷ [] = search rules in
     let child : Child = record { number = i; digest = c.in-Ok.digest } in
     let nexted : c.push-2.new.self.items ≡ c.args.next.now.items ++ child ∷ [] = search rules in (
-      planned ∙ ap (λ m. c.args.plan.now.items ++ m ∷ []) c.new-made.ensures ∙ (λ j. c.args.plan.now.items ++ record { at = at; block = block j } ∷ []),
+      planned ∙ ap (λ m. c.args.plan.now.items ++ m ∷ []) c.new-made.ensures
+          ∙ (λ j. c.args.plan.now.items ++ record { at = at; block = block j } ∷ []),
       nexted ∙ (λ j. c.args.next.now.items ++ record { number = i; digest = r.1 j } ∷ []),
     )
 

@@ -15,12 +15,16 @@ make_block-requires-clause-level g c =
     let inv = c.loop-index.invariant in
     let P : ℕ → ℕ → ℕ → Type 0 = IsLevel c.args.level.now in
     let store = c.loop-index.hash_store in
-    let a = subst (λ (n : ℕ). P n (g.H.BlockStore.size c.args.hash_store.now) (size_of c.args.hasher.now.salted.algorithm)) (sym (ap length inv.read_only.content)) c.requires.level in
-    let b = subst (λ (n : ℕ). P (length (g.H.BlockStore.content store)) n (size_of c.args.hasher.now.salted.algorithm)) (sym inv.read_only.later.size) a in
-    subst (λ (n : ℕ). P (length (g.H.BlockStore.content store)) (g.H.BlockStore.size store) n) (sym (ap (λ s. size_of s.algorithm) inv.salted)) b
+    let a = subst (λ (n : ℕ). P n (g.H.BlockStore.size c.args.hash_store.now) (size_of c.args.hasher.now.salted.algorithm))
+    (sym (ap length inv.read_only.content)) c.requires.level in
+    let b = subst (λ (n : ℕ). P (length (g.H.BlockStore.content store)) n (size_of c.args.hasher.now.salted.algorithm))
+    (sym inv.read_only.later.size) a in
+    subst (λ (n : ℕ). P (length (g.H.BlockStore.content store)) (g.H.BlockStore.size store) n)
+    (sym (ap (λ s. size_of s.algorithm) inv.salted)) b
 
 pub make_block-requires-clause-sized : goal.make_block-requires-clause-sized
-make_block-requires-clause-sized g c = let inv = c.loop-index.invariant in let size = c.requires.sized in omega (arith, inv.read_only.later.size)
+make_block-requires-clause-sized g c = let inv = c.loop-index.invariant in let size = c.requires.sized in
+    omega (arith, inv.read_only.later.size)
 
 pub loop-index-preserved : goal.loop-index-preserved
 loop-index-preserved g c =
@@ -41,7 +45,8 @@ loop-index-preserved g c =
           let here : Hashing = hashing c.loop-index.hasher.salted (length c.loop-index.block) in
           let same : here ≡ h = λ j. hashing (inv.salted j) (len j) in
           let content = g.H.BlockStore.content c.loop-index.hash_store in
-          let held : Holds h old level.old content = subst (λ (blocks : List (List ℕ)). Holds h old level.old blocks) (sym inv.read_only.content) holds in
+          let held : Holds h old level.old content =
+          subst (λ (blocks : List (List ℕ)). Holds h old level.old blocks) (sym inv.read_only.content) holds in
           let held_here : Holds here old level.old content = subst (λ (x : Hashing). Holds x old level.old content) (sym same) held in
           let before = inv.made told old new count holds renews in
           let r = one.made (inv.read_only.later.tells ∙ told) old new count held_here renews in
@@ -61,7 +66,8 @@ loop-index-preserved g c =
           ∙ ap (λ ns. ns ++ i ∷ []) inv.numbers
           ∙ sym more;
       next_sized = subst (AreSized level.digest_size) (sym next.added)
-          (each_push (λ x. length x.digest ≡ level.digest_size) nobody c.loop-index.next.items (record { number = i; digest = next.digest }) inv.next_sized next.sized);
+          (each_push (λ x. length x.digest ≡ level.digest_size) nobody c.loop-index.next.items
+          (record { number = i; digest = next.digest }) inv.next_sized next.sized);
       places =
           ap places planned.added
           ∙ map_push (λ m. m.at) c.loop-index.plan.items (record { at = level.start + i; block = planned.block })
@@ -69,7 +75,8 @@ loop-index-preserved g c =
           ∙ append_assoc (places c.args.plan.now.items) (map (λ n. level.start + n) (take at numbers)) ((level.start + i) ∷ [])
           ∙ ap (λ ps. places c.args.plan.now.items ++ ps) (sym (map_more (λ n. level.start + n) numbers at 0 below));
       planned = λ sized. subst (ArePlanned (length c.args.block.now)) (sym planned.added)
-          (each_push (λ m. length m.block ≡ length c.args.block.now) nothing_planned c.loop-index.plan.items (record { at = level.start + i; block = planned.block }) (inv.planned sized) (planned.sized ∙ len));
+          (each_push (λ m. length m.block ≡ length c.args.block.now) nothing_planned c.loop-index.plan.items
+          (record { at = level.start + i; block = planned.block }) (inv.planned sized) (planned.sized ∙ len));
       salted = one.salted ∙ inv.salted;
       hashed = omega arith;
       unfailed = one.fails ∙ inv.unfailed;
@@ -83,12 +90,18 @@ all ns at le = take_all at ns le
 pub returns-clause-made : goal.returns-clause-made
 returns-clause-made g c = λ told old new count holds renews.
     let h : Hashing = hashing c.args.hasher.now.salted (length c.args.block.now) in
-    let whole : take c.loop-index.index-index c.args.numbers.now ≡ c.args.numbers.now = all c.args.numbers.now c.loop-index.index-index (omega arith) in
-    let made = c.loop-index.invariant.made told old new count holds renews in
-    (made.0 ∙ ap (λ ts. c.args.plan.now.items ++ made_blocks h new c.args.level.now.start ts) whole, made.1 ∙ ap (λ ts. made_digests h new ts) whole)
+    let whole : take c.loop-index.index-index c.args.numbers.now ≡ c.args.numbers.now =
+    all c.args.numbers.now c.loop-index.index-index (omega arith) in
+    let made = c.loop-index.invariant.made told old new count holds renews in (
+      made.0 ∙ ap (λ ts. c.args.plan.now.items ++ made_blocks h new c.args.level.now.start ts) whole,
+      made.1
+          ∙ ap (λ ts. made_digests h new ts) whole,
+    )
 
 pub returns-clause-numbers : goal.returns-clause-numbers
 returns-clause-numbers g c = c.loop-index.invariant.numbers ∙ all c.args.numbers.now c.loop-index.index-index (omega arith)
 
 pub returns-clause-places : goal.returns-clause-places
-returns-clause-places g c = c.loop-index.invariant.places ∙ ap (λ ns. places c.args.plan.now.items ++ map (λ i. c.args.level.now.start + i) ns) (all c.args.numbers.now c.loop-index.index-index (omega arith))
+returns-clause-places g c = c.loop-index.invariant.places
+    ∙ ap (λ ns. places c.args.plan.now.items ++ map (λ i. c.args.level.now.start + i) ns)
+    (all c.args.numbers.now c.loop-index.index-index (omega arith))

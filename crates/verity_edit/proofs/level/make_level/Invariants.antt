@@ -8,9 +8,12 @@ use Rattle.verity_edit.proofs.level.make_level.Given as goal
 
 abbrev pub invariant-loop-index : goal.invariant-loop-index
 invariant-loop-index g l = record {
-  made : g.H.BlockStore.tells l.initial.hash_store ≡ true → (old new : List (List ℕ)) → let h = hashing l.initial.hasher.salted (length l.initial.block) in
-      length new ≡ l.level.digests → Holds h old l.level.old (g.H.BlockStore.content l.initial.hash_store) → Renews l.level.digest_size old new l.children
-      → (l.plan.items ≡ l.initial.plan.items ++ made_blocks h new l.level.start (take l.index-index l.numbers)) × (l.next.items ≡ made_digests h new (take l.index-index l.numbers));
+  made : g.H.BlockStore.tells l.initial.hash_store ≡ true → (old new : List (List ℕ)) → let h =
+      hashing l.initial.hasher.salted (length l.initial.block) in
+      length new ≡ l.level.digests → Holds h old l.level.old (g.H.BlockStore.content l.initial.hash_store) →
+      Renews l.level.digest_size old new l.children
+      → (l.plan.items ≡ l.initial.plan.items ++ made_blocks h new l.level.start (take l.index-index l.numbers)) ×
+      (l.next.items ≡ made_digests h new (take l.index-index l.numbers));
   numbers : numbers_of l.next.items ≡ take l.index-index l.numbers;
   next_sized : AreSized l.level.digest_size l.next.items;
   places : places l.plan.items ≡ places l.initial.plan.items ++ map (λ i. l.level.start + i) (take l.index-index l.numbers);

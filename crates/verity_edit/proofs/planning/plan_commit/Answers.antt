@@ -17,9 +17,12 @@ pub returns-in_err-tree-clause-reads : goal.returns-in_err-tree-clause-reads
 returns-in_err-tree-clause-reads g c = λ image len stays.
     let v : Volume = c.args.superblock.now in
     let d : Draft = c.args.pending.now in
-    let old : c.geometry_over.result ≡ volume_shape v.params v.data_blocks = c.geometry_over.ensures.value ∙ ap (volume_shape v.params) c.data_blocks.ensures.value in
-    let new : c.geometry_over-2.result ≡ volume_shape v.params d.working = c.geometry_over-2.ensures.value ∙ ap (volume_shape v.params) c.blocks-blocks.ensures.value in
-    let same : c.geometry_over-2.result.blocks ≡ c.geometry_over.result.blocks = ap (λ s. s.blocks) new ∙ stays ∙ c.requires.committed ∙ sym (ap (λ s. s.blocks) old) in
+    let old : c.geometry_over.result ≡ volume_shape v.params v.data_blocks = c.geometry_over.ensures.value
+    ∙ ap (volume_shape v.params) c.data_blocks.ensures.value in
+    let new : c.geometry_over-2.result ≡ volume_shape v.params d.working = c.geometry_over-2.ensures.value
+    ∙ ap (volume_shape v.params) c.blocks-blocks.ensures.value in
+    let same : c.geometry_over-2.result.blocks ≡ c.geometry_over.result.blocks = ap (λ s. s.blocks) new ∙ stays
+    ∙ c.requires.committed ∙ sym (ap (λ s. s.blocks) old) in
     let most = c.in_err-tree.ensures.reads image len same in
     let count = ap (λ s. touched_count (digests_per_block s) (edits_of image d)) new in
     omega arith
@@ -28,9 +31,12 @@ pub returns-clause-plan : goal.returns-clause-plan
 returns-clause-plan g c =
     let v : Volume = c.args.superblock.now in
     let d : Draft = c.args.pending.now in
-    let old : c.geometry_over.result ≡ volume_shape v.params v.data_blocks = c.geometry_over.ensures.value ∙ ap (volume_shape v.params) c.data_blocks.ensures.value in
-    let new : c.geometry_over-2.result ≡ volume_shape v.params d.working = c.geometry_over-2.ensures.value ∙ ap (volume_shape v.params) c.blocks-blocks.ensures.value in
-    let next : c.in_ok-next.next ≡ record { params = v.params; data_blocks = d.working } = c.in_ok-next.ensures.value ∙ ap (λ n. let w : Volume = record { params = v.params; data_blocks = n } in w) c.blocks-blocks.ensures.value in
+    let old : c.geometry_over.result ≡ volume_shape v.params v.data_blocks = c.geometry_over.ensures.value
+    ∙ ap (volume_shape v.params) c.data_blocks.ensures.value in
+    let new : c.geometry_over-2.result ≡ volume_shape v.params d.working = c.geometry_over-2.ensures.value
+    ∙ ap (volume_shape v.params) c.blocks-blocks.ensures.value in
+    let next : c.in_ok-next.next ≡ record { params = v.params; data_blocks = d.working } = c.in_ok-next.ensures.value
+    ∙ ap (λ n. let w : Volume = record { params = v.params; data_blocks = n } in w) c.blocks-blocks.ensures.value in
     let tree = c.in_ok-tree.ensures in
     record {
       change = (λ i. record { first = c.args.first; old = old i; new = new i; root = c.args.root });
@@ -50,8 +56,10 @@ returns-clause-right g c = λ told image len stands is_root.
     let d : Draft = c.args.pending.now in
     let first : ℕ = c.args.first in
     let content = g.H.BlockStore.content c.args.hash_store.now in
-    let new : c.geometry_over-2.result ≡ volume_shape v.params d.working = c.geometry_over-2.ensures.value ∙ ap (volume_shape v.params) c.blocks-blocks.ensures.value in
-    let same : hashing c.args.hasher.now.salted (length c.args.block.now) ≡ volume_hashing v.params = (λ i. hashing (c.requires.salted i) ((c.requires.sized ∙ c.requires.hash_size) i)) in
+    let new : c.geometry_over-2.result ≡ volume_shape v.params d.working = c.geometry_over-2.ensures.value
+    ∙ ap (volume_shape v.params) c.blocks-blocks.ensures.value in
+    let same : hashing c.args.hasher.now.salted (length c.args.block.now) ≡ volume_hashing v.params =
+    (λ i. hashing (c.requires.salted i) ((c.requires.sized ∙ c.requires.hash_size) i)) in
     let r = c.in_ok-tree.ensures.right told image len
     (subst (λ (h : Hashing). BeginsWith (drop first content) (tree h image)) (sym same) stands)
     (is_root ∙ ap (λ h. root h image) (sym same)) in (
@@ -63,9 +71,12 @@ pub returns-clause-reads : goal.returns-clause-reads
 returns-clause-reads g c = λ image len stays.
     let v : Volume = c.args.superblock.now in
     let d : Draft = c.args.pending.now in
-    let old : c.geometry_over.result ≡ volume_shape v.params v.data_blocks = c.geometry_over.ensures.value ∙ ap (volume_shape v.params) c.data_blocks.ensures.value in
-    let new : c.geometry_over-2.result ≡ volume_shape v.params d.working = c.geometry_over-2.ensures.value ∙ ap (volume_shape v.params) c.blocks-blocks.ensures.value in
-    let same : c.geometry_over-2.result.blocks ≡ c.geometry_over.result.blocks = ap (λ s. s.blocks) new ∙ stays ∙ c.requires.committed ∙ sym (ap (λ s. s.blocks) old) in
+    let old : c.geometry_over.result ≡ volume_shape v.params v.data_blocks = c.geometry_over.ensures.value
+    ∙ ap (volume_shape v.params) c.data_blocks.ensures.value in
+    let new : c.geometry_over-2.result ≡ volume_shape v.params d.working = c.geometry_over-2.ensures.value
+    ∙ ap (volume_shape v.params) c.blocks-blocks.ensures.value in
+    let same : c.geometry_over-2.result.blocks ≡ c.geometry_over.result.blocks = ap (λ s. s.blocks) new ∙ stays
+    ∙ c.requires.committed ∙ sym (ap (λ s. s.blocks) old) in
     let most = c.in_ok-tree.ensures.reads image len same in
     let count = ap (λ s. touched_count (digests_per_block s) (edits_of image d)) new in
     omega arith

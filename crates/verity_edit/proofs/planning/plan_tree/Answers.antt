@@ -22,7 +22,8 @@ use Rattle.verity_edit.proofs.PlanLemmas.{AreInTree-from, length-plan, some_imag
 use Rattle.verity_edit.proofs.planning.plan_tree.Goals as goal
 
 -- the leaves are of the edits of each image of this length
-edited : (image : List (List ℕ)) (d : Draft) (old new : Shape) (leaves : List Child) → IsDraft d → IsShape old → IsShape new → d.committed ≡ old.blocks → d.working ≡ new.blocks → AreEdited d leaves
+edited : (image : List (List ℕ)) (d : Draft) (old new : Shape) (leaves : List Child) → IsDraft d → IsShape old → IsShape new →
+    d.committed ≡ old.blocks → d.working ≡ new.blocks → AreEdited d leaves
     → length image ≡ d.committed → IsEdited (edits_of image d) old.blocks new.blocks leaves
 edited image d old new leaves ok old_shape new_shape committed working are len = record {
   committed = len ∙ committed;
@@ -37,7 +38,8 @@ pub returns-in_err-root-clause-reads : goal.returns-in_err-root-clause-reads
 returns-in_err-root-clause-reads g c = λ image len same.
     let d : Draft = c.args.pending.now in
     let change : Change = c.args.change.now in
-    let ed = edited image d change.old change.new c.add_fallen.new.leaves.items c.facts.ensures c.requires.change.old_shape c.requires.change.new_shape c.requires.committed c.requires.working c.in_ok-add_fallen.ensures.edited len in
+    let ed = edited image d change.old change.new c.add_fallen.new.leaves.items c.facts.ensures c.requires.change.old_shape
+    c.requires.change.new_shape c.requires.committed c.requires.working c.in_ok-add_fallen.ensures.edited len in
     let before = c.in_ok-add_fallen.ensures.reads same in
     let after = c.in_err-root.ensures.reads (edits_of image d) ed in
     omega arith
@@ -46,7 +48,8 @@ pub returns-clause-reads : goal.returns-clause-reads
 returns-clause-reads g c = λ image len same.
     let d : Draft = c.args.pending.now in
     let change : Change = c.args.change.now in
-    let ed = edited image d change.old change.new c.add_fallen.new.leaves.items c.facts.ensures c.requires.change.old_shape c.requires.change.new_shape c.requires.committed c.requires.working c.in_ok-add_fallen.ensures.edited len in
+    let ed = edited image d change.old change.new c.add_fallen.new.leaves.items c.facts.ensures c.requires.change.old_shape
+    c.requires.change.new_shape c.requires.committed c.requires.working c.in_ok-add_fallen.ensures.edited len in
     let before = c.in_ok-add_fallen.ensures.reads same in
     let after = c.in_ok-root.ensures.reads (edits_of image d) ed in
     omega arith
@@ -59,17 +62,23 @@ returns-clause-places g c =
     let d : Draft = c.args.pending.now in
     let change : Change = c.args.change.now in
     let image : List (List ℕ) = some_image d.committed in
-    let ed = edited image d change.old change.new c.add_fallen.new.leaves.items c.facts.ensures c.requires.change.old_shape c.requires.change.new_shape c.requires.committed c.requires.working c.in_ok-add_fallen.ensures.edited (length-some_image d.committed) in
-    AreInTree-from (digests_per_block change.new) (edits_of image d) change.first change.new.blocks c.make_tree.new.plan.items ed.working (c.in_ok-root.ensures.places (edits_of image d) ed)
+    let ed = edited image d change.old change.new c.add_fallen.new.leaves.items c.facts.ensures c.requires.change.old_shape
+    c.requires.change.new_shape c.requires.committed c.requires.working c.in_ok-add_fallen.ensures.edited
+    (length-some_image d.committed) in
+    AreInTree-from (digests_per_block change.new) (edits_of image d) change.first change.new.blocks c.make_tree.new.plan.items
+    ed.working (c.in_ok-root.ensures.places (edits_of image d) ed)
 
 pub returns-clause-hashed : goal.returns-clause-hashed
 returns-clause-hashed g c = λ image len.
     let d : Draft = c.args.pending.now in
     let e : Edits = edits_of image d in
     let change : Change = c.args.change.now in
-    let ed = edited image d change.old change.new c.add_fallen.new.leaves.items c.facts.ensures c.requires.change.old_shape c.requires.change.new_shape c.requires.committed c.requires.working c.in_ok-add_fallen.ensures.edited len in
-    let made = length-plan (digests_per_block change.new) e change.first change.new.blocks c.make_tree.new.plan.items ed.working (c.in_ok-root.ensures.places e ed) in
-    let changed : length c.in-Ok.leaves.items ≡ length (changed_blocks e) = sym (length-map c.in-Ok.leaves.items (λ child. child.number)) ∙ ap length (c.in-Ok.ensures.numbers image) in
+    let ed = edited image d change.old change.new c.add_fallen.new.leaves.items c.facts.ensures c.requires.change.old_shape
+    c.requires.change.new_shape c.requires.committed c.requires.working c.in_ok-add_fallen.ensures.edited len in
+    let made = length-plan (digests_per_block change.new) e change.first change.new.blocks c.make_tree.new.plan.items ed.working
+    (c.in_ok-root.ensures.places e ed) in
+    let changed : length c.in-Ok.leaves.items ≡ length (changed_blocks e) =
+    sym (length-map c.in-Ok.leaves.items (λ child. child.number)) ∙ ap length (c.in-Ok.ensures.numbers image) in
     let a = c.len-changed.ensures in
     let b = c.len.ensures in
     omega arith
@@ -80,8 +89,11 @@ returns-clause-counted g c =
     let image : List (List ℕ) = some_image d.committed in
     let e : Edits = edits_of image d in
     let change : Change = c.args.change.now in
-    let ed = edited image d change.old change.new c.add_fallen.new.leaves.items c.facts.ensures c.requires.change.old_shape c.requires.change.new_shape c.requires.committed c.requires.working c.in_ok-add_fallen.ensures.edited (length-some_image d.committed) in
-    let made = length-plan (digests_per_block change.new) e change.first change.new.blocks c.make_tree.new.plan.items ed.working (c.in_ok-root.ensures.places e ed) in
+    let ed = edited image d change.old change.new c.add_fallen.new.leaves.items c.facts.ensures c.requires.change.old_shape
+    c.requires.change.new_shape c.requires.committed c.requires.working c.in_ok-add_fallen.ensures.edited
+    (length-some_image d.committed) in
+    let made = length-plan (digests_per_block change.new) e change.first change.new.blocks c.make_tree.new.plan.items ed.working
+    (c.in_ok-root.ensures.places e ed) in
     let first = c.in-Ok.ensures.hashed in
     let then = c.in_ok-root.ensures.hashed e ed in
     let a = c.len-changed.ensures in
@@ -95,20 +107,26 @@ returns-clause-right g c = λ told image len stands is_root.
     let change : Change = c.args.change.now in
     let content = g.H.BlockStore.content in
     let leaves : List Child = c.add_fallen.new.leaves.items in
-    let ed = edited image d change.old change.new leaves c.facts.ensures c.requires.change.old_shape c.requires.change.new_shape c.requires.committed c.requires.working c.in_ok-add_fallen.ensures.edited len in
+    let ed = edited image d change.old change.new leaves c.facts.ensures c.requires.change.old_shape c.requires.change.new_shape
+    c.requires.committed c.requires.working c.in_ok-add_fallen.ensures.edited len in
     let h : Hashing = hashing c.args.hasher.now.salted (length c.args.block.now) in
     let here : Hashing = hashing c.leaves.new.hasher.salted (length c.add_fallen.new.block) in
     let same : here ≡ h = (λ i. hashing (c.in-Ok.ensures.salted i) (c.add_fallen.auto.block i)) in
-    let big : 512 ≤ length c.args.block.now = (let low = block_size_low change.new.hash_size c.requires.change.new_shape.hash_size in let s = c.requires.change.new_size in let q = c.requires.sized in omega arith) in
+    let big : 512 ≤ length c.args.block.now =
+    (let low = block_size_low change.new.hash_size c.requires.change.new_shape.hash_size in
+    let s = c.requires.change.new_size in let q = c.requires.sized in omega arith) in
     let ok : IsHashing h = IsHashing-hashing c.args.hasher.now.salted (length c.args.block.now) big in
     let named : AreNamed (λ n. h.digest (get_or e.working n [])) leaves =
-    c.in_ok-add_fallen.ensures.named told h image ok (c.requires.sized ∙ sym c.requires.change.old_size) (sym c.requires.change.old_digest) ed.committed stands (c.in-Ok.ensures.named image) in
+    c.in_ok-add_fallen.ensures.named told h image ok (c.requires.sized ∙ sym c.requires.change.old_size)
+    (sym c.requires.change.old_digest) ed.committed stands (c.in-Ok.ensures.named image) in
     let there : StandsFor h e change.first (content c.add_fallen.new.hash_store) change.root leaves = record {
-      tree = subst (λ (blocks : List (List ℕ)). BeginsWith (drop change.first blocks) (tree h image)) (sym c.in_ok-add_fallen.ensures.read_only.content) stands;
+      tree = subst (λ (blocks : List (List ℕ)). BeginsWith (drop change.first blocks) (tree h image))
+          (sym c.in_ok-add_fallen.ensures.read_only.content) stands;
       root = is_root;
       named = named;
     } in
-    let r = c.in_ok-root.ensures.made (c.in_ok-add_fallen.ensures.read_only.later.tells ∙ told) e ed (subst (λ (x : Hashing). StandsFor x e change.first (content c.add_fallen.new.hash_store) change.root leaves) (sym same) there) in (
+    let r = c.in_ok-root.ensures.made (c.in_ok-add_fallen.ensures.read_only.later.tells ∙ told) e ed
+    (subst (λ (x : Hashing). StandsFor x e change.first (content c.add_fallen.new.hash_store) change.root leaves) (sym same) there) in (
       r.0 ∙ ap (λ x. touched_blocks x e change.first change.new.blocks (levels_of change.new)) same,
       r.1 ∙ ap (λ x. root x e.working) same,
     )

@@ -19,21 +19,28 @@ make_level-requires-clause-level g c =
     let blocks : ℕ = length (g.H.BlockStore.content c.args.hash_store.now) in
     let size : ℕ = g.H.BlockStore.size c.args.hash_store.now in
     let digest : ℕ = size_of c.args.hasher.now.salted.algorithm in
-    subst (λ (l : Level). IsLevel l blocks size digest) (sym c.level-made.ensures) (IsLevel-change c.args.change.now blocks size digest c.args.level c.requires.change c.requires.there)
+    subst (λ (l : Level). IsLevel l blocks size digest) (sym c.level-made.ensures)
+    (IsLevel-change c.args.change.now blocks size digest c.args.level c.requires.change c.requires.there)
 
 pub make_level-requires-clause-children : goal.make_level-requires-clause-children
 make_level-requires-clause-children g c =
     subst (λ (l : Level). AreChildren l c.args.children.now) (sym c.level-made.ensures)
-    (record { sized = subst (λ (d : ℕ). AreSized d c.args.children.now) (sym c.requires.change.new_digest) c.requires.children_sized; within = c.requires.children_within })
+    (record {
+      sized = subst (λ (d : ℕ). AreSized d c.args.children.now) (sym c.requires.change.new_digest)
+          c.requires.children_sized;
+      within = c.requires.children_within;
+    })
 
 pub make_level-requires-clause-below : goal.make_level-requires-clause-below
 make_level-requires-clause-below g c = λ t below.
     let k : ℕ = digests_per_block c.args.change.now.new in
     let end : ℕ = row_len k c.args.change.now.new.blocks c.args.level in
-    let is : c.deref.result.now ≡ parents k (numbers_of c.args.children.now) = c.deref.ensures.value ∙ c.in-Ok.ensures ∙ ap (λ l. parents l.per_block (numbers_of c.args.children.now)) c.level-made.ensures in
+    let is : c.deref.result.now ≡ parents k (numbers_of c.args.children.now) = c.deref.ensures.value ∙ c.in-Ok.ensures
+    ∙ ap (λ l. parents l.per_block (numbers_of c.args.children.now)) c.level-made.ensures in
     let two = branching c.args.change.now.new c.requires.change.new_shape in
     let some : 0 < k = omega arith in
-    let inside = parents_within k c.args.children.now end t some c.requires.children_within (subst (λ (ns : List ℕ). t < length ns) is below) in
+    let inside = parents_within k c.args.children.now end t some c.requires.children_within
+    (subst (λ (ns : List ℕ). t < length ns) is below) in
     subst (λ (l : Level). get_or c.deref.result.now t 0 * l.per_block < l.digests) (sym c.level-made.ensures)
     (subst (λ (ns : List ℕ). get_or ns t 0 * k < end) (sym is) inside)
 
@@ -43,14 +50,17 @@ returns-clause-made g c =
     let h : Hashing = hashing c.args.hasher.now.salted (length c.args.block.now) in
     let content = g.H.BlockStore.content c.args.hash_store.now in
     let up : List ℕ = parents k (numbers_of c.args.children.now) in
-    let is : c.deref.result.now ≡ up = c.deref.ensures.value ∙ c.in-Ok.ensures ∙ ap (λ l. parents l.per_block (numbers_of c.args.children.now)) c.level-made.ensures in
+    let is : c.deref.result.now ≡ up = c.deref.ensures.value ∙ c.in-Ok.ensures
+    ∙ ap (λ l. parents l.per_block (numbers_of c.args.children.now)) c.level-made.ensures in
     if_ok c.make_level.result _ _
     (λ next made told old new count holds renews.
     let lv : Level = level_of c.args.change.now c.args.level in
     let same : c.level-made.result ≡ lv = c.level-made.ensures in
     let holds_here : Holds h old c.level-made.result.old content = subst (λ (l : Level). Holds h old l.old content) (sym same) holds in
-    let renews_new : Renews lv.digest_size old new c.args.children.now = subst (λ (d : ℕ). Renews d old new c.args.children.now) (sym c.requires.change.new_digest) renews in
-    let renews_here : Renews c.level-made.result.digest_size old new c.args.children.now = subst (λ (l : Level). Renews l.digest_size old new c.args.children.now) (sym same) renews_new in
+    let renews_new : Renews lv.digest_size old new c.args.children.now =
+    subst (λ (d : ℕ). Renews d old new c.args.children.now) (sym c.requires.change.new_digest) renews in
+    let renews_here : Renews c.level-made.result.digest_size old new c.args.children.now =
+    subst (λ (l : Level). Renews l.digest_size old new c.args.children.now) (sym same) renews_new in
     let r = made told old new (count ∙ ap (λ l. l.digests) (sym same)) holds_here renews_here in (
       r.0 ∙ (λ i. c.args.plan.now.items ++ made_blocks h new (same i).start (is i)),
       r.1 ∙ ap (made_digests h new) is,
@@ -61,9 +71,11 @@ pub returns-clause-next_within : goal.returns-clause-next_within
 returns-clause-next_within g c =
     let k : ℕ = digests_per_block c.args.change.now.new in
     let up : List ℕ = parents k (numbers_of c.args.children.now) in
-    let is : c.deref.result.now ≡ up = c.deref.ensures.value ∙ c.in-Ok.ensures ∙ ap (λ l. parents l.per_block (numbers_of c.args.children.now)) c.level-made.ensures in
+    let is : c.deref.result.now ≡ up = c.deref.ensures.value ∙ c.in-Ok.ensures
+    ∙ ap (λ l. parents l.per_block (numbers_of c.args.children.now)) c.level-made.ensures in
     let two = branching c.args.change.now.new c.requires.change.new_shape in
     let some : 0 < k = omega arith in
     if_ok c.make_level.result _ _
-    (λ next numbers. next_within k c.args.change.now.new.blocks c.args.level c.args.children.now next.items some c.requires.children_within (numbers ∙ is))
+    (λ next numbers. next_within k c.args.change.now.new.blocks c.args.level c.args.children.now next.items some
+    c.requires.children_within (numbers ∙ is))
     c.make_level.ensures.numbers

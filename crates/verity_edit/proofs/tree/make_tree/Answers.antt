@@ -1,4 +1,5 @@
-use Rattle.std.proofs.Common.{◌≡◌, ℕ, suc, ◌+◌, ◌/◌, ◌<◌, ◌≤◌, ◌++◌, List, [], length, map, get_or, arith, subst, sym, ap, ◌∙◌, refl, ⊎_elim}
+use Rattle.std.proofs.Common.{◌≡◌, ℕ, suc, ◌+◌, ◌/◌, ◌<◌, ◌≤◌, ◌++◌, List, [], length, map, get_or, arith, subst, sym, ap, ◌∙◌}
+use Rattle.std.proofs.Common.{refl, ⊎_elim}
 use Rattle.std.proofs.lemmas.Bool.{cases_lt}
 use Rattle.std.proofs.lemmas.List.{length-map}
 use Rattle.verity_digest.specs.Tree.{Hashing, IsHashing, per_block}
@@ -21,7 +22,8 @@ use Rattle.verity_edit.specs.Digests.{digests_of}
 use Rattle.verity_edit.specs.Plan.{numbers_of, places, ArePlanned, made_blocks, made_digests}
 use Rattle.verity_edit.specs.Level.{Holds, Renews}
 use Rattle.verity_edit.specs.Making.{IsChange, level_of, touched_below, touched_places, touched_blocks, IsEdited}
-use Rattle.verity_edit.proofs.MakingLemmas.{parents-renewed, touched_below-more, touched_below-mono, ready_change, named_next, named_leaves, finish, renewed-more, touched_blocks-more, touched_places-more}
+use Rattle.verity_edit.proofs.MakingLemmas.{parents-renewed, touched_below-more, touched_below-mono, ready_change, named_next}
+use Rattle.verity_edit.proofs.MakingLemmas.{named_leaves, finish, renewed-more, touched_blocks-more, touched_places-more}
 use Rattle.verity_edit.proofs.tree.make_tree.Goals as goal
 
 pub make_next-requires-clause-change : goal.make_next-requires-clause-change
@@ -29,12 +31,16 @@ make_next-requires-clause-change g c =
     let inv = c.loop-level.invariant in
     let store = c.loop-level.hash_store in
     let P : ℕ → ℕ → ℕ → Type 0 = IsChange c.args.change.now in
-    let a = subst (λ (n : ℕ). P n (g.H.BlockStore.size c.args.hash_store.now) (size_of c.args.hasher.now.salted.algorithm)) (sym (ap length inv.read_only.content)) c.requires.change in
-    let b = subst (λ (n : ℕ). P (length (g.H.BlockStore.content store)) n (size_of c.args.hasher.now.salted.algorithm)) (sym inv.read_only.later.size) a in
-    subst (λ (n : ℕ). P (length (g.H.BlockStore.content store)) (g.H.BlockStore.size store) n) (sym (ap (λ s. size_of s.algorithm) inv.salted)) b
+    let a = subst (λ (n : ℕ). P n (g.H.BlockStore.size c.args.hash_store.now) (size_of c.args.hasher.now.salted.algorithm))
+    (sym (ap length inv.read_only.content)) c.requires.change in
+    let b = subst (λ (n : ℕ). P (length (g.H.BlockStore.content store)) n (size_of c.args.hasher.now.salted.algorithm))
+    (sym inv.read_only.later.size) a in
+    subst (λ (n : ℕ). P (length (g.H.BlockStore.content store)) (g.H.BlockStore.size store) n)
+    (sym (ap (λ s. size_of s.algorithm) inv.salted)) b
 
 pub make_next-requires-clause-sized : goal.make_next-requires-clause-sized
-make_next-requires-clause-sized g c = let inv = c.loop-level.invariant in let size = c.requires.sized in omega (arith, inv.read_only.later.size)
+make_next-requires-clause-sized g c = let inv = c.loop-level.invariant in let size = c.requires.sized in
+    omega (arith, inv.read_only.later.size)
 
 pub make_next-requires-clause-children_sized : goal.make_next-requires-clause-children_sized
 make_next-requires-clause-children_sized g c =
@@ -45,7 +51,8 @@ make_next-requires-clause-children_sized g c =
 pub make_next-requires-clause-children_within : goal.make_next-requires-clause-children_within
 make_next-requires-clause-children_within g c =
     let inv = c.loop-level.invariant in
-    subst (λ (xs : List Child). AreWithin (row_len (digests_per_block c.args.change.now.new) c.args.change.now.new.blocks c.loop-level.level) xs) (sym c.deref.ensures.value) inv.within
+    subst (λ (xs : List Child). AreWithin (row_len (digests_per_block c.args.change.now.new) c.args.change.now.new.blocks
+    c.loop-level.level) xs) (sym c.deref.ensures.value) inv.within
 
 pub loop-level-init : goal.loop-level-init
 loop-level-init g c =
@@ -56,7 +63,11 @@ loop-level-init g c =
       sized = c.requires.leaves_sized;
       numbers = λ e ed. ed.numbers;
       places = λ e ed. ap places c.requires.empty;
-      made = λ told e ed stands. (c.requires.empty, named_leaves (hashing c.args.hasher.now.salted (length c.args.block.now)) e change.new.blocks c.args.leaves.items ed.working c.requires.leaves_within stands.named);
+      made = λ told e ed stands. (
+        c.requires.empty,
+        named_leaves (hashing c.args.hasher.now.salted (length c.args.block.now)) e
+            change.new.blocks c.args.leaves.items ed.working c.requires.leaves_within stands.named,
+      );
       planned = subst (ArePlanned (length c.args.block.now)) (sym c.requires.empty) (λ d below. absurd (omega arith));
       salted = refl;
       hashed = λ e ed. omega arith;
@@ -78,14 +89,16 @@ loop-level-preserved g c =
     let some : 0 < k = omega arith in
     let there : l < levels_of change.new = omega arith in
     let step : l + 1 ≡ suc l = omega arith in
-    let up : (e : Edits) → IsEdited e change.old.blocks n c.args.leaves.items → parents k (numbers_of c.deref.result.now) ≡ touched k e l = λ e ed.
+    let up : (e : Edits) → IsEdited e change.old.blocks n c.args.leaves.items →
+    parents k (numbers_of c.deref.result.now) ≡ touched k e l = λ e ed.
     let left : 0 < length e.working = (let s = ed.left in let w = ed.working in omega arith) in
     ap (λ xs. parents k (numbers_of xs)) c.deref.ensures.value ∙ ap (parents k) (inv.numbers e ed) ∙ parents-renewed k e l some left in
     record {
       within = subst (λ (m : ℕ). AreWithin (row_len k n m) c.in_ok-children.children.items) (sym step) one.next_within;
       sized = subst (λ (d : ℕ). AreSized d c.in_ok-children.children.items) (ap (λ s. size_of s.algorithm) inv.salted) one.next_sized;
       numbers = λ e ed. one.numbers ∙ up e ed ∙ renewed-more k e l (l + 1) refl;
-      places = λ e ed. one.places ∙ ap (λ ns. places c.loop-level.plan.items ++ map (λ i. change.first + start_of change.new l + i) ns) (up e ed)
+      places = λ e ed. one.places ∙ ap (λ ns. places c.loop-level.plan.items ++ map (λ i. change.first + start_of change.new l + i)
+          ns) (up e ed)
           ∙ touched_places-more k e change.first n l (l + 1) (places c.loop-level.plan.items) refl (inv.places e ed);
       made = λ told e ed stands.
           let size : ℕ = g.H.BlockStore.size c.args.hash_store.now in
@@ -95,33 +108,49 @@ loop-level-preserved g c =
           let len : length c.loop-level.block ≡ length c.args.block.now = omega arith in
           let same : here ≡ h = λ j. hashing (inv.salted j) (len j) in
           let change_ok = c.requires.change in
-          let big : 512 ≤ length c.args.block.now = (let low = block_size_low change.new.hash_size change_ok.new_shape.hash_size in let s = change_ok.new_size in let q = c.requires.sized in omega arith) in
+          let big : 512 ≤ length c.args.block.now = (let low = block_size_low change.new.hash_size change_ok.new_shape.hash_size in
+          let s = change_ok.new_size in let q = c.requires.sized in omega arith) in
           let ok : IsHashing h = IsHashing-hashing c.args.hasher.now.salted (length c.args.block.now) big in
           let width : per_block h ≡ k = (λ i. (c.requires.sized ∙ sym change_ok.new_size) i / sym change_ok.new_digest i) in
           let before = inv.made told e ed stands in
           let new : List (List ℕ) = digests_of h e.working l in
-          let r = ready_change h change e (length (content c.args.hash_store.now)) size digest l (content c.args.hash_store.now) c.args.leaves.items c.loop-level.children.items ok c.requires.sized refl change_ok ed stands there (inv.numbers e ed) before.1 in
-          let long : length new ≡ row_len k n l = length-map (row h e.working l) h.digest ∙ length-row h e.working l (let b = ok.branching in omega arith) ∙ (λ i. row_len (width i) (ed.working i) l) in
-          let held : Holds h r.old (level_of change l).old (content c.loop-level.hash_store) = subst (λ (blocks : List (List ℕ)). Holds h r.old (level_of change l).old blocks) (sym inv.read_only.content) r.holds in
-          let held_here : Holds here r.old (level_of change l).old (content c.loop-level.hash_store) = subst (λ (x : Hashing). Holds x r.old (level_of change l).old (content c.loop-level.hash_store)) (sym same) held in
-          let renews : Renews h.digest_size r.old new c.deref.result.now = subst (λ (xs : List Child). Renews h.digest_size r.old new xs) (sym c.deref.ensures.value) r.renews in
-          let renews_here : Renews here.digest_size r.old new c.deref.result.now = subst (λ (x : Hashing). Renews x.digest_size r.old new c.deref.result.now) (sym same) renews in
+          let r = ready_change h change e (length (content c.args.hash_store.now)) size digest l (content c.args.hash_store.now)
+          c.args.leaves.items c.loop-level.children.items ok c.requires.sized refl change_ok ed stands there (inv.numbers e ed)
+          before.1 in
+          let long : length new ≡ row_len k n l = length-map (row h e.working l) h.digest
+          ∙ length-row h e.working l (let b = ok.branching in omega arith) ∙ (λ i. row_len (width i) (ed.working i) l) in
+          let held : Holds h r.old (level_of change l).old (content c.loop-level.hash_store) =
+          subst (λ (blocks : List (List ℕ)). Holds h r.old (level_of change l).old blocks) (sym inv.read_only.content) r.holds in
+          let held_here : Holds here r.old (level_of change l).old (content c.loop-level.hash_store) =
+          subst (λ (x : Hashing). Holds x r.old (level_of change l).old (content c.loop-level.hash_store)) (sym same) held in
+          let renews : Renews h.digest_size r.old new c.deref.result.now =
+          subst (λ (xs : List Child). Renews h.digest_size r.old new xs) (sym c.deref.ensures.value) r.renews in
+          let renews_here : Renews here.digest_size r.old new c.deref.result.now =
+          subst (λ (x : Hashing). Renews x.digest_size r.old new c.deref.result.now) (sym same) renews in
           let made = one.made (inv.read_only.later.tells ∙ told) r.old new long held_here renews_here in
-          let next : c.in_ok-children.children.items ≡ made_digests h new (touched k e l) = made.1 ∙ (λ i. made_digests (same i) new (up e ed i)) in
-          let inside : (d : ℕ) → d < length c.in_ok-children.children.items → (child_at c.in_ok-children.children.items d).number < length (row h e.working (suc l)) = λ d below.
+          let next : c.in_ok-children.children.items ≡ made_digests h new (touched k e l) =
+          made.1 ∙ (λ i. made_digests (same i) new (up e ed i)) in
+          let inside : (d : ℕ) → d < length c.in_ok-children.children.items →
+          (child_at c.in_ok-children.children.items d).number < length (row h e.working (suc l)) = λ d below.
           let w = one.next_within d below in
-          let m : length (row h e.working (suc l)) ≡ row_len k n (suc l) = length-row h e.working (suc l) (let b = ok.branching in omega arith) ∙ (λ i. row_len (width i) (ed.working i) (suc l)) in
+          let m : length (row h e.working (suc l)) ≡ row_len k n (suc l) = length-row h e.working (suc l) (let b = ok.branching in
+          omega arith) ∙ (λ i. row_len (width i) (ed.working i) (suc l)) in
           omega arith in (
             made.0 ∙ (λ i. c.loop-level.plan.items ++ made_blocks (same i) new (change.first + start_of change.new l) (up e ed i))
                 ∙ touched_blocks-more h e change.first k n l (l + 1) c.loop-level.plan.items width refl before.0,
             subst (λ (m : ℕ). AreNamed (λ j. get_or (digests_of h e.working m) j []) c.in_ok-children.children.items) (sym step)
                 (named_next h e l (touched k e l) c.in_ok-children.children.items next inside),
           );
-      planned = subst (λ (m : ℕ). ArePlanned m c.make_next.new.plan.items) (let e : length c.loop-level.block ≡ length c.args.block.now = omega arith in e) (one.planned (subst (λ (m : ℕ). ArePlanned m c.loop-level.plan.items) (let e : length c.args.block.now ≡ length c.loop-level.block = omega arith in e) inv.planned));
+      planned = subst (λ (m : ℕ). ArePlanned m c.make_next.new.plan.items)
+          (let e : length c.loop-level.block ≡ length c.args.block.now = omega arith in
+          e) (one.planned (subst (λ (m : ℕ). ArePlanned m c.loop-level.plan.items)
+          (let e : length c.args.block.now ≡ length c.loop-level.block = omega arith in e) inv.planned));
       salted = one.salted ∙ inv.salted;
-      hashed = λ e ed. let more = touched_below-more k e l (l + 1) refl in let now = ap length (up e ed) in let was = inv.hashed e ed in let h = one.hashed in omega arith;
+      hashed = λ e ed. let more = touched_below-more k e l (l + 1) refl in let now = ap length (up e ed) in let was =
+          inv.hashed e ed in let h = one.hashed in omega arith;
       unfailed = one.fails ∙ inv.unfailed;
-      reads = λ e ed. let more = touched_below-more k e l (l + 1) refl in let now = ap length (up e ed) in let was = inv.reads e ed in let r = one.reads in omega arith;
+      reads = λ e ed. let more = touched_below-more k e l (l + 1) refl in let now = ap length (up e ed) in let was =
+          inv.reads e ed in let r = one.reads in omega arith;
       read_only = only_read_then g.H.BlockStore _ _ _ inv.read_only one.read_only;
     }
 
@@ -134,10 +163,12 @@ returns-in_err-children-clause-reads g c = λ e ed.
     let l : ℕ = c.loop-level.level in
     let two = branching change.new c.requires.change.new_shape in
     let left : 0 < length e.working = (let s = ed.left in let w = ed.working in omega arith) in
-    let up : parents k (numbers_of c.deref.result.now) ≡ touched k e l = ap (λ xs. parents k (numbers_of xs)) c.deref.ensures.value ∙ ap (parents k) (inv.numbers e ed) ∙ parents-renewed k e l (omega arith) left in
+    let up : parents k (numbers_of c.deref.result.now) ≡ touched k e l = ap (λ xs. parents k (numbers_of xs)) c.deref.ensures.value
+    ∙ ap (parents k) (inv.numbers e ed) ∙ parents-renewed k e l (omega arith) left in
     let count : levels_of change.new ≡ level_count k (length e.working) = ap (level_count k) (sym ed.working) in
     let most = touched_below-mono k e (l + 1) (level_count k (length e.working)) (omega arith) in
-    let more = touched_below-more k e l (l + 1) refl in let now = ap length up in let was = inv.reads e ed in let r = one.reads in omega arith
+    let more = touched_below-more k e l (l + 1) refl in let now = ap length up in let was = inv.reads e ed in let r = one.reads in
+    omega arith
 
 pub returns-clause-made : goal.returns-clause-made
 returns-clause-made g c = λ told e ed stands.
@@ -145,32 +176,39 @@ returns-clause-made g c = λ told e ed stands.
     let change = c.args.change.now in
     let change_ok = c.requires.change in
     let h : Hashing = hashing c.args.hasher.now.salted (length c.args.block.now) in
-    let big : 512 ≤ length c.args.block.now = (let low = block_size_low change.new.hash_size change_ok.new_shape.hash_size in let s = change_ok.new_size in let q = c.requires.sized in omega arith) in
+    let big : 512 ≤ length c.args.block.now = (let low = block_size_low change.new.hash_size change_ok.new_shape.hash_size in
+    let s = change_ok.new_size in let q = c.requires.sized in omega arith) in
     let ok : IsHashing h = IsHashing-hashing c.args.hasher.now.salted (length c.args.block.now) big in
     let at : c.loop-level.level ≡ levels_of change.new = omega arith in
     let made = inv.made told e ed stands in (
       made.0 ∙ ap (touched_blocks h e change.first change.new.blocks) at,
-      finish h change e (length (g.H.BlockStore.content c.args.hash_store.now)) (g.H.BlockStore.size c.args.hash_store.now) (size_of c.args.hasher.now.salted.algorithm) c.loop-level.level (g.H.BlockStore.content c.args.hash_store.now) c.args.leaves.items c.loop-level.children.items c.top_digest.result
+      finish h change e (length (g.H.BlockStore.content c.args.hash_store.now)) (g.H.BlockStore.size c.args.hash_store.now)
+          (size_of c.args.hasher.now.salted.algorithm) c.loop-level.level (g.H.BlockStore.content c.args.hash_store.now)
+          c.args.leaves.items c.loop-level.children.items c.top_digest.result
           ok c.requires.sized refl change_ok ed stands at inv.within (inv.numbers e ed) made.1
-          (λ some. c.top_digest.ensures.some (subst (λ (xs : List Child). 0 < length xs) (sym c.deref-2.ensures.value) some) ∙ ap (λ xs. (child_at xs 0).digest) c.deref-2.ensures.value)
+          (λ some. c.top_digest.ensures.some (subst (λ (xs : List Child). 0 < length xs) (sym c.deref-2.ensures.value) some)
+          ∙ ap (λ xs. (child_at xs 0).digest) c.deref-2.ensures.value)
           (λ none. c.top_digest.ensures.none (ap length c.deref-2.ensures.value ∙ none)),
     )
 
 pub returns-clause-places : goal.returns-clause-places
 returns-clause-places g c = λ e ed.
     let at : c.loop-level.level ≡ levels_of c.args.change.now.new = omega arith in
-    c.loop-level.invariant.places e ed ∙ ap (touched_places (digests_per_block c.args.change.now.new) e c.args.change.now.first c.args.change.now.new.blocks) at
+    c.loop-level.invariant.places e ed ∙ ap (touched_places (digests_per_block c.args.change.now.new) e c.args.change.now.first
+    c.args.change.now.new.blocks) at
 
 pub returns-clause-hashed : goal.returns-clause-hashed
 returns-clause-hashed g c = λ e ed.
     let k : ℕ = digests_per_block c.args.change.now.new in
-    let at : c.loop-level.level ≡ level_count k (length e.working) = (let l : c.loop-level.level ≡ levels_of c.args.change.now.new = omega arith in l) ∙ ap (level_count k) (sym ed.working) in
+    let at : c.loop-level.level ≡ level_count k (length e.working) =
+    (let l : c.loop-level.level ≡ levels_of c.args.change.now.new = omega arith in l) ∙ ap (level_count k) (sym ed.working) in
     c.loop-level.invariant.hashed e ed ∙ ap (λ m. c.args.hasher.now.hashed + touched_below k e m) at
 
 pub returns-clause-reads : goal.returns-clause-reads
 returns-clause-reads g c = λ e ed.
     let k : ℕ = digests_per_block c.args.change.now.new in
-    let at : c.loop-level.level ≡ level_count k (length e.working) = (let l : c.loop-level.level ≡ levels_of c.args.change.now.new = omega arith in l) ∙ ap (level_count k) (sym ed.working) in
+    let at : c.loop-level.level ≡ level_count k (length e.working) =
+    (let l : c.loop-level.level ≡ levels_of c.args.change.now.new = omega arith in l) ∙ ap (level_count k) (sym ed.working) in
     let same = ap (touched_below k e) at in
     let reads = c.loop-level.invariant.reads e ed in omega arith
 
@@ -180,6 +218,7 @@ returns-clause-digest_size g c =
     let same = c.deref-2.ensures.value in
     ⊎_elim
     (λ some.
-    ap length (c.top_digest.ensures.some (subst (λ (xs : List Child). 0 < length xs) (sym same) some) ∙ ap (λ xs. (child_at xs 0).digest) same) ∙ c.loop-level.invariant.sized 0 some)
+    ap length (c.top_digest.ensures.some (subst (λ (xs : List Child). 0 < length xs) (sym same) some)
+    ∙ ap (λ xs. (child_at xs 0).digest) same) ∙ c.loop-level.invariant.sized 0 some)
     (λ none. (let e = ap length same in ap length (c.top_digest.ensures.none (omega arith))) ∙ c.requires.change.sized)
     (cases_lt 0 (length children))

@@ -15,7 +15,8 @@ returns g c = λ history after image fits client read wrote served.
     let D = g.D.BlockStore in
     let H = g.H.BlockStore in
     let v : HubState × Verifying g.row.D.Denot g.row.H.Denot = c.args.hub.now in
-    let ok : IsVerifier D H v.1 = subst (λ (x : HubState × Verifying g.row.D.Denot g.row.H.Denot). IsVerifier D H x.1) c.hub.view_is (subst (λ x. IsVerifier D H x) c.export.ensures c.check.ensures) in
+    let ok : IsVerifier D H v.1 = subst (λ (x : HubState × Verifying g.row.D.Denot g.row.H.Denot). IsVerifier D H x.1) c.hub.view_is
+    (subst (λ x. IsVerifier D H x) c.export.ensures c.check.ensures) in
     let s = is_said (facts_of D H v.1) v.0 history client read wrote after served in
     record {
       fed = s.fed;

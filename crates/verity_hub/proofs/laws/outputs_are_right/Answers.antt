@@ -12,6 +12,7 @@ returns g c = λ history after image fits k below.
     let D = g.D.BlockStore in
     let H = g.H.BlockStore in
     let v : HubState × Verifying g.row.D.Denot g.row.H.Denot = c.args.hub.now in
-    let ok : IsVerifier D H v.1 = subst (λ (x : HubState × Verifying g.row.D.Denot g.row.H.Denot). IsVerifier D H x.1) c.hub.view_is (subst (λ x. IsVerifier D H x) c.export.ensures c.check.ensures) in
+    let ok : IsVerifier D H v.1 = subst (λ (x : HubState × Verifying g.row.D.Denot g.row.H.Denot). IsVerifier D H x.1) c.hub.view_is
+    (subst (λ x. IsVerifier D H x) c.export.ensures c.check.ensures) in
     told_weaker (Given (facts_of D H v.1)) (IsRightFor D H v.1 image) v.0.offer history k
     (given_right D H v.1 ok image fits) (after.told k below)

@@ -31,7 +31,8 @@ write_at-requires g c =
     let list = c.changes-changes.result.now in
     let below : n < length list = c.loop-change-test.true in
     let is : c.change-item.result ≡ get_or list n (0, []) = get_or_read list n c.change-item.result below c.change-item.is (0, []) in
-    let fits = fits_at c.args.side.now n c.change-item.result c.requires.side (omega (arith, below, ap length inv.list)) (is ∙ ap (λ l. get_or l n (0, [])) inv.list) in
+    let fits = fits_at c.args.side.now n c.change-item.result c.requires.side (omega (arith, below, ap length inv.list)) (is
+    ∙ ap (λ l. get_or l n (0, [])) inv.list) in
     omega (arith, fits, inv.len, c.at.ensures)
 
 pub returns-in_err-write_at-clause-crash : goal.returns-in_err-write_at-clause-crash
@@ -41,11 +42,14 @@ returns-in_err-write_at-clause-crash g c =
     let list = c.changes-changes.result.now in
     let below : n < length list = c.loop-change-test.true in
     let is : c.change-item.result ≡ get_or list n (0, []) = get_or_read list n c.change-item.result below c.change-item.is (0, []) in
-    change_crash c.args.side.now c.args.device (g.K.Disks.may_leave c.args.disks.now) _ _ n _ _ c.change-item.result (omega (arith, below, ap length inv.list)) (is ∙ ap (λ l. get_or l n (0, [])) inv.list) c.at.ensures c.bytes.ensures inv.crash c.write_at.ensures.crash
+    change_crash c.args.side.now c.args.device (g.K.Disks.may_leave c.args.disks.now) _ _ n _ _ c.change-item.result
+    (omega (arith, below, ap length inv.list)) (is ∙ ap (λ l. get_or l n (0, [])) inv.list) c.at.ensures c.bytes.ensures
+    inv.crash c.write_at.ensures.crash
 
 pub returns-in_err-write_at-clause-any_moment : goal.returns-in_err-write_at-clause-any_moment
 returns-in_err-write_at-clause-any_moment g c =
-    goes_on g.K.Disks.moment g.K.Disks.left_since c.args.disks.now c.loop-change.disks c.write_at.new.self _ _ c.loop-change.invariant.moments c.write_at.ensures.time (returns-in_err-write_at-clause-crash g c)
+    goes_on g.K.Disks.moment g.K.Disks.left_since c.args.disks.now c.loop-change.disks c.write_at.new.self _ _
+    c.loop-change.invariant.moments c.write_at.ensures.time (returns-in_err-write_at-clause-crash g c)
 
 pub loop-change-preserved : goal.loop-change-preserved
 loop-change-preserved g c =
@@ -60,13 +64,16 @@ loop-change-preserved g c =
     let in_side = is ∙ ap (λ l. get_or l n (0, [])) inv.list in
     let in_bounds : n < length side.changes = omega (arith, below, ap length inv.list) in
     let fits = fits_at side n item c.requires.side in_bounds in_side in
-    let crash = change_crash side device (g.K.Disks.may_leave c.args.disks.now) _ _ n _ _ item in_bounds in_side c.at.ensures c.bytes.ensures inv.crash c.write_at.ensures.crash in
+    let crash = change_crash side device (g.K.Disks.may_leave c.args.disks.now) _ _ n _ _ item in_bounds in_side c.at.ensures
+    c.bytes.ensures inv.crash c.write_at.ensures.crash in
     let seen = c.in_ok-write_at.ensures.written in
     let before = g.K.Disks.seen c.loop-change.disks device in
-    let here = seen_here device _ _ _ seen ∙ ap (λ (m : ℕ). overwritten m c.bytes.result.now before) c.at.ensures ∙ ap (λ (l : List ℕ). overwritten item.0 l before) c.bytes.ensures in
+    let here = seen_here device _ _ _ seen ∙ ap (λ (m : ℕ). overwritten m c.bytes.result.now before) c.at.ensures
+    ∙ ap (λ (l : List ℕ). overwritten item.0 l before) c.bytes.ensures in
     record {
       list = inv.list;
-      moments = goes_on g.K.Disks.moment g.K.Disks.left_since c.args.disks.now c.loop-change.disks c.write_at.new.self _ _ inv.moments c.write_at.ensures.time crash;
+      moments = goes_on g.K.Disks.moment g.K.Disks.left_since c.args.disks.now c.loop-change.disks c.write_at.new.self _ _
+          inv.moments c.write_at.ensures.time crash;
       crash = crash;
       seen = seen_more device _ _ _ _ inv.seen seen;
       len = ap length here ∙ length-written item.0 item.1 before (omega (arith, fits, inv.len)) ∙ inv.len;

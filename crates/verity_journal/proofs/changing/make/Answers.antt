@@ -14,7 +14,12 @@ returns-in_err-set_len-clause-crash g c =
     let Q = Reached device (Amid side) (g.K.Disks.may_leave old) in
     let self = here_self side device (g.K.Disks.may_leave old) in
     let start = started g.K.Disks.moment g.K.Disks.left_since old Q (λ f left. self f (g.met.K.Disks.only_now old f left)) in
-    let first = stretch_crash side device (g.K.Disks.may_leave old) _ _ _ (omega (arith, c.keep-keep.ensures, c.len-len.ensures, c.requires.kept)) self c.set_len.ensures.crash in
+    let first = stretch_crash side device (g.K.Disks.may_leave old) _ _ _ (omega (
+      arith,
+      c.keep-keep.ensures,
+      c.len-len.ensures,
+      c.requires.kept,
+    )) self c.set_len.ensures.crash in
     let kept = goes_on g.K.Disks.moment g.K.Disks.left_since old old c.set_len.new.self Q _ start c.set_len.ensures.time first in
     first
 
@@ -26,7 +31,12 @@ returns-in_err-set_len-clause-any_moment g c =
     let Q = Reached device (Amid side) (g.K.Disks.may_leave old) in
     let self = here_self side device (g.K.Disks.may_leave old) in
     let start = started g.K.Disks.moment g.K.Disks.left_since old Q (λ f left. self f (g.met.K.Disks.only_now old f left)) in
-    let first = stretch_crash side device (g.K.Disks.may_leave old) _ _ _ (omega (arith, c.keep-keep.ensures, c.len-len.ensures, c.requires.kept)) self c.set_len.ensures.crash in
+    let first = stretch_crash side device (g.K.Disks.may_leave old) _ _ _ (omega (
+      arith,
+      c.keep-keep.ensures,
+      c.len-len.ensures,
+      c.requires.kept,
+    )) self c.set_len.ensures.crash in
     let kept = goes_on g.K.Disks.moment g.K.Disks.left_since old old c.set_len.new.self Q _ start c.set_len.ensures.time first in
     kept
 
@@ -38,10 +48,21 @@ returns-in_err-set_len-2-clause-crash g c =
     let Q = Reached device (Amid side) (g.K.Disks.may_leave old) in
     let self = here_self side device (g.K.Disks.may_leave old) in
     let start = started g.K.Disks.moment g.K.Disks.left_since old Q (λ f left. self f (g.met.K.Disks.only_now old f left)) in
-    let first = stretch_crash side device (g.K.Disks.may_leave old) _ _ _ (omega (arith, c.keep-keep.ensures, c.len-len.ensures, c.requires.kept)) self c.set_len.ensures.crash in
+    let first = stretch_crash side device (g.K.Disks.may_leave old) _ _ _ (omega (
+      arith,
+      c.keep-keep.ensures,
+      c.len-len.ensures,
+      c.requires.kept,
+    )) self c.set_len.ensures.crash in
     let kept = goes_on g.K.Disks.moment g.K.Disks.left_since old old c.set_len.new.self Q _ start c.set_len.ensures.time first in
-    let second = stretch_crash side device (g.K.Disks.may_leave old) _ _ _ (omega (arith, c.keep-keep.ensures, c.len-len.ensures, c.requires.kept)) first c.set_len-2.ensures.crash in
-    let resized = goes_on g.K.Disks.moment g.K.Disks.left_since old c.set_len.new.self c.set_len-2.new.self Q _ kept c.set_len-2.ensures.time second in
+    let second = stretch_crash side device (g.K.Disks.may_leave old) _ _ _ (omega (
+      arith,
+      c.keep-keep.ensures,
+      c.len-len.ensures,
+      c.requires.kept,
+    )) first c.set_len-2.ensures.crash in
+    let resized = goes_on g.K.Disks.moment g.K.Disks.left_since old c.set_len.new.self c.set_len-2.new.self Q _ kept
+    c.set_len-2.ensures.time second in
     second
 
 pub returns-in_err-set_len-2-clause-any_moment : goal.returns-in_err-set_len-2-clause-any_moment
@@ -52,10 +73,21 @@ returns-in_err-set_len-2-clause-any_moment g c =
     let Q = Reached device (Amid side) (g.K.Disks.may_leave old) in
     let self = here_self side device (g.K.Disks.may_leave old) in
     let start = started g.K.Disks.moment g.K.Disks.left_since old Q (λ f left. self f (g.met.K.Disks.only_now old f left)) in
-    let first = stretch_crash side device (g.K.Disks.may_leave old) _ _ _ (omega (arith, c.keep-keep.ensures, c.len-len.ensures, c.requires.kept)) self c.set_len.ensures.crash in
+    let first = stretch_crash side device (g.K.Disks.may_leave old) _ _ _ (omega (
+      arith,
+      c.keep-keep.ensures,
+      c.len-len.ensures,
+      c.requires.kept,
+    )) self c.set_len.ensures.crash in
     let kept = goes_on g.K.Disks.moment g.K.Disks.left_since old old c.set_len.new.self Q _ start c.set_len.ensures.time first in
-    let second = stretch_crash side device (g.K.Disks.may_leave old) _ _ _ (omega (arith, c.keep-keep.ensures, c.len-len.ensures, c.requires.kept)) first c.set_len-2.ensures.crash in
-    let resized = goes_on g.K.Disks.moment g.K.Disks.left_since old c.set_len.new.self c.set_len-2.new.self Q _ kept c.set_len-2.ensures.time second in
+    let second = stretch_crash side device (g.K.Disks.may_leave old) _ _ _ (omega (
+      arith,
+      c.keep-keep.ensures,
+      c.len-len.ensures,
+      c.requires.kept,
+    )) first c.set_len-2.ensures.crash in
+    let resized = goes_on g.K.Disks.moment g.K.Disks.left_since old c.set_len.new.self c.set_len-2.new.self Q _ kept
+    c.set_len-2.ensures.time second in
     resized
 
 pub returns-in_err-change-clause-crash : goal.returns-in_err-change-clause-crash
@@ -66,13 +98,26 @@ returns-in_err-change-clause-crash g c =
     let Q = Reached device (Amid side) (g.K.Disks.may_leave old) in
     let self = here_self side device (g.K.Disks.may_leave old) in
     let start = started g.K.Disks.moment g.K.Disks.left_since old Q (λ f left. self f (g.met.K.Disks.only_now old f left)) in
-    let first = stretch_crash side device (g.K.Disks.may_leave old) _ _ _ (omega (arith, c.keep-keep.ensures, c.len-len.ensures, c.requires.kept)) self c.set_len.ensures.crash in
+    let first = stretch_crash side device (g.K.Disks.may_leave old) _ _ _ (omega (
+      arith,
+      c.keep-keep.ensures,
+      c.len-len.ensures,
+      c.requires.kept,
+    )) self c.set_len.ensures.crash in
     let kept = goes_on g.K.Disks.moment g.K.Disks.left_since old old c.set_len.new.self Q _ start c.set_len.ensures.time first in
-    let second = stretch_crash side device (g.K.Disks.may_leave old) _ _ _ (omega (arith, c.keep-keep.ensures, c.len-len.ensures, c.requires.kept)) first c.set_len-2.ensures.crash in
-    let resized = goes_on g.K.Disks.moment g.K.Disks.left_since old c.set_len.new.self c.set_len-2.new.self Q _ kept c.set_len-2.ensures.time second in
+    let second = stretch_crash side device (g.K.Disks.may_leave old) _ _ _ (omega (
+      arith,
+      c.keep-keep.ensures,
+      c.len-len.ensures,
+      c.requires.kept,
+    )) first c.set_len-2.ensures.crash in
+    let resized = goes_on g.K.Disks.moment g.K.Disks.left_since old c.set_len.new.self c.set_len-2.new.self Q _ kept
+    c.set_len-2.ensures.time second in
     let third = amid_crash side device (g.K.Disks.may_leave old) _ _ second c.change.ensures.crash in
-    let changed = joined g.K.Disks.moment g.K.Disks.left_since old c.set_len-2.new.self c.change.new.disks Q _ resized c.change.ensures.any_moment
-    (λ f q. reached_more device (Amid side) (Amid side) (g.K.Disks.may_leave old) (g.K.Disks.may_leave c.set_len-2.new.self) (amid_trans side) second f q) in
+    let changed = joined g.K.Disks.moment g.K.Disks.left_since old c.set_len-2.new.self c.change.new.disks Q _ resized
+    c.change.ensures.any_moment
+    (λ f q. reached_more device (Amid side) (Amid side) (g.K.Disks.may_leave old) (g.K.Disks.may_leave c.set_len-2.new.self)
+    (amid_trans side) second f q) in
     third
 
 pub returns-in_err-change-clause-any_moment : goal.returns-in_err-change-clause-any_moment
@@ -83,13 +128,26 @@ returns-in_err-change-clause-any_moment g c =
     let Q = Reached device (Amid side) (g.K.Disks.may_leave old) in
     let self = here_self side device (g.K.Disks.may_leave old) in
     let start = started g.K.Disks.moment g.K.Disks.left_since old Q (λ f left. self f (g.met.K.Disks.only_now old f left)) in
-    let first = stretch_crash side device (g.K.Disks.may_leave old) _ _ _ (omega (arith, c.keep-keep.ensures, c.len-len.ensures, c.requires.kept)) self c.set_len.ensures.crash in
+    let first = stretch_crash side device (g.K.Disks.may_leave old) _ _ _ (omega (
+      arith,
+      c.keep-keep.ensures,
+      c.len-len.ensures,
+      c.requires.kept,
+    )) self c.set_len.ensures.crash in
     let kept = goes_on g.K.Disks.moment g.K.Disks.left_since old old c.set_len.new.self Q _ start c.set_len.ensures.time first in
-    let second = stretch_crash side device (g.K.Disks.may_leave old) _ _ _ (omega (arith, c.keep-keep.ensures, c.len-len.ensures, c.requires.kept)) first c.set_len-2.ensures.crash in
-    let resized = goes_on g.K.Disks.moment g.K.Disks.left_since old c.set_len.new.self c.set_len-2.new.self Q _ kept c.set_len-2.ensures.time second in
+    let second = stretch_crash side device (g.K.Disks.may_leave old) _ _ _ (omega (
+      arith,
+      c.keep-keep.ensures,
+      c.len-len.ensures,
+      c.requires.kept,
+    )) first c.set_len-2.ensures.crash in
+    let resized = goes_on g.K.Disks.moment g.K.Disks.left_since old c.set_len.new.self c.set_len-2.new.self Q _ kept
+    c.set_len-2.ensures.time second in
     let third = amid_crash side device (g.K.Disks.may_leave old) _ _ second c.change.ensures.crash in
-    let changed = joined g.K.Disks.moment g.K.Disks.left_since old c.set_len-2.new.self c.change.new.disks Q _ resized c.change.ensures.any_moment
-    (λ f q. reached_more device (Amid side) (Amid side) (g.K.Disks.may_leave old) (g.K.Disks.may_leave c.set_len-2.new.self) (amid_trans side) second f q) in
+    let changed = joined g.K.Disks.moment g.K.Disks.left_since old c.set_len-2.new.self c.change.new.disks Q _ resized
+    c.change.ensures.any_moment
+    (λ f q. reached_more device (Amid side) (Amid side) (g.K.Disks.may_leave old) (g.K.Disks.may_leave c.set_len-2.new.self)
+    (amid_trans side) second f q) in
     changed
 
 pub returns-clause-crash : goal.returns-clause-crash
@@ -100,15 +158,29 @@ returns-clause-crash g c =
     let Q = Reached device (Amid side) (g.K.Disks.may_leave old) in
     let self = here_self side device (g.K.Disks.may_leave old) in
     let start = started g.K.Disks.moment g.K.Disks.left_since old Q (λ f left. self f (g.met.K.Disks.only_now old f left)) in
-    let first = stretch_crash side device (g.K.Disks.may_leave old) _ _ _ (omega (arith, c.keep-keep.ensures, c.len-len.ensures, c.requires.kept)) self c.set_len.ensures.crash in
+    let first = stretch_crash side device (g.K.Disks.may_leave old) _ _ _ (omega (
+      arith,
+      c.keep-keep.ensures,
+      c.len-len.ensures,
+      c.requires.kept,
+    )) self c.set_len.ensures.crash in
     let kept = goes_on g.K.Disks.moment g.K.Disks.left_since old old c.set_len.new.self Q _ start c.set_len.ensures.time first in
-    let second = stretch_crash side device (g.K.Disks.may_leave old) _ _ _ (omega (arith, c.keep-keep.ensures, c.len-len.ensures, c.requires.kept)) first c.set_len-2.ensures.crash in
-    let resized = goes_on g.K.Disks.moment g.K.Disks.left_since old c.set_len.new.self c.set_len-2.new.self Q _ kept c.set_len-2.ensures.time second in
+    let second = stretch_crash side device (g.K.Disks.may_leave old) _ _ _ (omega (
+      arith,
+      c.keep-keep.ensures,
+      c.len-len.ensures,
+      c.requires.kept,
+    )) first c.set_len-2.ensures.crash in
+    let resized = goes_on g.K.Disks.moment g.K.Disks.left_since old c.set_len.new.self c.set_len-2.new.self Q _ kept
+    c.set_len-2.ensures.time second in
     let third = amid_crash side device (g.K.Disks.may_leave old) _ _ second c.change.ensures.crash in
-    let changed = joined g.K.Disks.moment g.K.Disks.left_since old c.set_len-2.new.self c.change.new.disks Q _ resized c.change.ensures.any_moment
-    (λ f q. reached_more device (Amid side) (Amid side) (g.K.Disks.may_leave old) (g.K.Disks.may_leave c.set_len-2.new.self) (amid_trans side) second f q) in
+    let changed = joined g.K.Disks.moment g.K.Disks.left_since old c.set_len-2.new.self c.change.new.disks Q _ resized
+    c.change.ensures.any_moment
+    (λ f q. reached_more device (Amid side) (Amid side) (g.K.Disks.may_leave old) (g.K.Disks.may_leave c.set_len-2.new.self)
+    (amid_trans side) second f q) in
     let fourth : (f : Contents) → g.K.Disks.may_leave c.sync.new.self f → Q f = λ f now. third f (c.sync.ensures.crash f now) in
-    let ended = goes_on g.K.Disks.moment g.K.Disks.left_since old c.change.new.disks c.sync.new.self Q _ changed c.sync.ensures.time fourth in
+    let ended = goes_on g.K.Disks.moment g.K.Disks.left_since old c.change.new.disks c.sync.new.self Q _ changed c.sync.ensures.time
+    fourth in
     fourth
 
 pub returns-clause-any_moment : goal.returns-clause-any_moment
@@ -119,13 +191,27 @@ returns-clause-any_moment g c =
     let Q = Reached device (Amid side) (g.K.Disks.may_leave old) in
     let self = here_self side device (g.K.Disks.may_leave old) in
     let start = started g.K.Disks.moment g.K.Disks.left_since old Q (λ f left. self f (g.met.K.Disks.only_now old f left)) in
-    let first = stretch_crash side device (g.K.Disks.may_leave old) _ _ _ (omega (arith, c.keep-keep.ensures, c.len-len.ensures, c.requires.kept)) self c.set_len.ensures.crash in
+    let first = stretch_crash side device (g.K.Disks.may_leave old) _ _ _ (omega (
+      arith,
+      c.keep-keep.ensures,
+      c.len-len.ensures,
+      c.requires.kept,
+    )) self c.set_len.ensures.crash in
     let kept = goes_on g.K.Disks.moment g.K.Disks.left_since old old c.set_len.new.self Q _ start c.set_len.ensures.time first in
-    let second = stretch_crash side device (g.K.Disks.may_leave old) _ _ _ (omega (arith, c.keep-keep.ensures, c.len-len.ensures, c.requires.kept)) first c.set_len-2.ensures.crash in
-    let resized = goes_on g.K.Disks.moment g.K.Disks.left_since old c.set_len.new.self c.set_len-2.new.self Q _ kept c.set_len-2.ensures.time second in
+    let second = stretch_crash side device (g.K.Disks.may_leave old) _ _ _ (omega (
+      arith,
+      c.keep-keep.ensures,
+      c.len-len.ensures,
+      c.requires.kept,
+    )) first c.set_len-2.ensures.crash in
+    let resized = goes_on g.K.Disks.moment g.K.Disks.left_since old c.set_len.new.self c.set_len-2.new.self Q _ kept
+    c.set_len-2.ensures.time second in
     let third = amid_crash side device (g.K.Disks.may_leave old) _ _ second c.change.ensures.crash in
-    let changed = joined g.K.Disks.moment g.K.Disks.left_since old c.set_len-2.new.self c.change.new.disks Q _ resized c.change.ensures.any_moment
-    (λ f q. reached_more device (Amid side) (Amid side) (g.K.Disks.may_leave old) (g.K.Disks.may_leave c.set_len-2.new.self) (amid_trans side) second f q) in
+    let changed = joined g.K.Disks.moment g.K.Disks.left_since old c.set_len-2.new.self c.change.new.disks Q _ resized
+    c.change.ensures.any_moment
+    (λ f q. reached_more device (Amid side) (Amid side) (g.K.Disks.may_leave old) (g.K.Disks.may_leave c.set_len-2.new.self)
+    (amid_trans side) second f q) in
     let fourth : (f : Contents) → g.K.Disks.may_leave c.sync.new.self f → Q f = λ f now. third f (c.sync.ensures.crash f now) in
-    let ended = goes_on g.K.Disks.moment g.K.Disks.left_since old c.change.new.disks c.sync.new.self Q _ changed c.sync.ensures.time fourth in
+    let ended = goes_on g.K.Disks.moment g.K.Disks.left_since old c.change.new.disks c.sync.new.self Q _ changed c.sync.ensures.time
+    fourth in
     ended

@@ -6,4 +6,6 @@ use Rattle.verity_journal.proofs.reading.parse_journal.Goals as goal
 
 pub returns-in-Some-clause-some : goal.returns-in-Some-clause-some
 returns-in-Some-clause-some g c =
-    opened_is c.args.journal.now _ (search rules) (search rules) (subst (λ r. IfSome r (λ plan. read_plan (take (length c.args.journal.now - 1) (drop 1 c.args.journal.now)) ≡ Some plan)) c.in-Some.is c.in_ok-plan.ensures.some)
+    opened_is c.args.journal.now _ (search rules) (search rules)
+    (subst (λ r. IfSome r (λ plan. read_plan (take (length c.args.journal.now - 1) (drop 1 c.args.journal.now)) ≡ Some plan))
+    c.in-Some.is c.in_ok-plan.ensures.some)

@@ -4,12 +4,24 @@ use Rattle.verity_promise.proofs.delivery.edit_and_serve.Goals as goal
 
 pub returns-in-Ok-clause-delivers : goal.returns-in-Ok-clause-delivers
 returns-in-Ok-clause-delivers g c =
-    let e : Ends = record { reader = g.R.Read.remaining c.args.reader.now; reader' = g.R.Read.remaining c.serve_edited.new.reader; writer = g.W.Write.contents c.args.writer.now; writer' = g.W.Write.contents c.serve_edited.new.writer } in
-    all_delivered g.D.BlockStore g.H.BlockStore c.in-Ok.edited c.args.name e c.args.limit c.args.data_store c.args.hash_store c.args.offset c.args.commands.now c.args.replies.now.items c.edit_from_scratch.new.replies.items
+    let e : Ends = record {
+      reader = g.R.Read.remaining c.args.reader.now;
+      reader' = g.R.Read.remaining c.serve_edited.new.reader;
+      writer = g.W.Write.contents c.args.writer.now;
+      writer' = g.W.Write.contents c.serve_edited.new.writer;
+    } in
+    all_delivered g.D.BlockStore g.H.BlockStore c.in-Ok.edited c.args.name e c.args.limit c.args.data_store c.args.hash_store
+    c.args.offset c.args.commands.now c.args.replies.now.items c.edit_from_scratch.new.replies.items
     c.in-Ok.ensures.edited c.serve_edited.result c.serve_edited.ensures.served
 
 pub returns-in-Ok-clause-refused : goal.returns-in-Ok-clause-refused
 returns-in-Ok-clause-refused g c =
-    let e : Ends = record { reader = g.R.Read.remaining c.args.reader.now; reader' = g.R.Read.remaining c.serve_edited.new.reader; writer = g.W.Write.contents c.args.writer.now; writer' = g.W.Write.contents c.serve_edited.new.writer } in
-    all_explained g.D.BlockStore g.H.BlockStore c.in-Ok.edited c.args.name e c.args.limit c.args.data_store c.args.hash_store c.args.offset c.args.commands.now c.args.replies.now.items c.edit_from_scratch.new.replies.items
+    let e : Ends = record {
+      reader = g.R.Read.remaining c.args.reader.now;
+      reader' = g.R.Read.remaining c.serve_edited.new.reader;
+      writer = g.W.Write.contents c.args.writer.now;
+      writer' = g.W.Write.contents c.serve_edited.new.writer;
+    } in
+    all_explained g.D.BlockStore g.H.BlockStore c.in-Ok.edited c.args.name e c.args.limit c.args.data_store c.args.hash_store
+    c.args.offset c.args.commands.now c.args.replies.now.items c.edit_from_scratch.new.replies.items
     c.in-Ok.ensures.edited c.serve_edited.result c.serve_edited.ensures.refused

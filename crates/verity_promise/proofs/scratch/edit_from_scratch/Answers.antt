@@ -17,10 +17,13 @@ returns-clause-edited g c =
     let opened : Editing g.row.D.Denot g.row.H.Denot = c.in-Ok.editor in
     let closed : Editing g.row.D.Denot g.row.H.Denot = c.run-done.new.self in
     let opens : IsOpened D H d h c.args.offset opened = c.in-Ok.ensures.opened in
-    let runs : AreAnswered D H commands _ opened closed c.args.replies.now.items c.run-done.new.replies.items = c.run-done.ensures.answered in
+    let runs : AreAnswered D H commands _ opened closed c.args.replies.now.items c.run-done.new.replies.items =
+    c.run-done.ensures.answered in
     let shut : IsClosed D H closed c.start_of-start.result c.run-done.result c.close.result = c.close.ensures in
     let size : c.block_size.result ≡ H.size h = c.block_size.ensures.value in
     let begins : c.start_of-start.result ≡ start_behind c.args.offset (H.size h) =
-    subst (λ n. CanBegin c.args.offset n → c.start_of-start.result ≡ start_behind c.args.offset n) size c.start_of-start.ensures opens.can_begin in
-    edited_by D H d h c.args.offset commands _ c.start_of-start.result _ _ opened closed opens runs c.close.result shut.data_store shut.hash_store shut.root shut.fits shut.stands begins shut.table
+    subst (λ n. CanBegin c.args.offset n → c.start_of-start.result ≡ start_behind c.args.offset n) size c.start_of-start.ensures
+    opens.can_begin in
+    edited_by D H d h c.args.offset commands _ c.start_of-start.result _ _ opened closed opens runs c.close.result shut.data_store
+    shut.hash_store shut.root shut.fits shut.stands begins shut.table
     (on_ok c.run-done.result c.close.result.done _ _ shut.done_is (λ e. omega (arith, e, runs.each)) c.run-done.ensures.all)

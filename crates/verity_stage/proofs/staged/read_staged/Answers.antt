@@ -19,4 +19,5 @@ returns-then-least-n-clause-right g c = λ told.
 pub returns-in-Ok-clause-right : goal.returns-in-Ok-clause-right
 returns-in-Ok-clause-right g c = λ told.
     let is : written_at c.args.stage.now c.args.n ≡ None = search rules in
-    at_below (g.S.BlockStore.content c.args.store.now) c.args.stage.now c.args.n c.requires.within is (omega arith) ∙ c.in-Ok.ensures.right told
+    at_below (g.S.BlockStore.content c.args.store.now) c.args.stage.now c.args.n c.requires.within is (omega arith)
+    ∙ c.in-Ok.ensures.right told

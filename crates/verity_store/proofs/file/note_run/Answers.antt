@@ -12,4 +12,5 @@ each-preserved c =
     let width : j * size + size - j * size ≡ size = omega arith in
     c.note.ensures
     ∙ ap (λ rows. rows ++ (first + j, take (j * size + size - j * size) behind) ∷ []) c.each.invariant
-    ∙ run_step c.args.given.now.blocks first size j out out (take (j * size + size - j * size) behind) (λ k lt. refl) (ap (λ n. take n behind) (sym width))
+    ∙ run_step c.args.given.now.blocks first size j out out (take (j * size + size - j * size) behind) (λ k lt. refl)
+    (ap (λ n. take n behind) (sym width))

@@ -11,7 +11,8 @@ loop-i-preserved g c =
     let now = g.S.BlockStore.content c.loop-i.store in
     let new = g.S.BlockStore.content c.move_block.new.store in
     record {
-      moved = λ told. moved_down_more c.args.from c.args.to c.loop-i.i old now new c.requires.down (before.moved told) before.others (one.moved (before.tells ∙ told)) one.others;
+      moved = λ told. moved_down_more c.args.from c.args.to c.loop-i.i old now new c.requires.down (before.moved told) before.others
+          (one.moved (before.tells ∙ told)) one.others;
       others = ChangesWithin-then c.args.to (c.loop-i.i + 1) old now new
           (ChangesWithin-part c.args.to (c.loop-i.i + 1) c.args.to c.loop-i.i old now (omega arith) (omega arith) before.others)
           (ChangesWithin-part c.args.to (c.loop-i.i + 1) (c.args.to + c.loop-i.i) 1 now new (omega arith) (omega arith) one.others);

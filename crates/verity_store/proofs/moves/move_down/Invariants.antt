@@ -6,7 +6,8 @@ use Rattle.verity_store.proofs.moves.move_down.Given as goal
 abbrev pub invariant-loop-i : goal.invariant-loop-i
 invariant-loop-i g l =
     record {
-      moved : g.S.BlockStore.tells l.initial.store ≡ true → IsMoved l.from l.to l.i (g.S.BlockStore.content l.initial.store) (g.S.BlockStore.content l.store);
+      moved : g.S.BlockStore.tells l.initial.store ≡ true →
+          IsMoved l.from l.to l.i (g.S.BlockStore.content l.initial.store) (g.S.BlockStore.content l.store);
       others : ChangesWithin l.to l.i (g.S.BlockStore.content l.initial.store) (g.S.BlockStore.content l.store);
       tells : g.S.BlockStore.tells l.store ≡ g.S.BlockStore.tells l.initial.store;
       size : g.S.BlockStore.size l.store ≡ g.S.BlockStore.size l.initial.store;

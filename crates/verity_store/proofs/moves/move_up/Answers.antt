@@ -15,9 +15,11 @@ loop-left-preserved g c =
     let to = c.args.to in
     record {
       low = omega arith;
-      moved = λ told. moved_up_more c.args.from to c.args.count left rest old now new c.requires.up (omega arith) before.low (before.moved told) before.others (one.moved (before.tells ∙ told)) one.others;
+      moved = λ told. moved_up_more c.args.from to c.args.count left rest old now new c.requires.up (omega arith) before.low
+          (before.moved told) before.others (one.moved (before.tells ∙ told)) one.others;
       others = ChangesWithin-then (to + rest) (c.args.count - rest) old now new
-          (ChangesWithin-part (to + rest) (c.args.count - rest) (to + left) (c.args.count - left) old now (omega arith) (omega arith) before.others)
+          (ChangesWithin-part (to + rest) (c.args.count - rest) (to + left) (c.args.count - left) old now (omega arith)
+          (omega arith) before.others)
           (ChangesWithin-part (to + rest) (c.args.count - rest) (to + rest) 1 now new (omega arith) (omega arith) one.others);
       tells = one.tells ∙ before.tells;
       size = one.size ∙ before.size;

@@ -7,7 +7,9 @@ abbrev pub invariant-loop-left : goal.invariant-loop-left
 invariant-loop-left g l =
     record {
       low : l.left ≤ l.count;
-      moved : g.S.BlockStore.tells l.initial.store ≡ true → IsMoved (l.from + l.left) (l.to + l.left) (l.count - l.left) (g.S.BlockStore.content l.initial.store) (g.S.BlockStore.content l.store);
+      moved : g.S.BlockStore.tells l.initial.store ≡ true →
+          IsMoved (l.from + l.left) (l.to + l.left) (l.count - l.left) (g.S.BlockStore.content l.initial.store)
+          (g.S.BlockStore.content l.store);
       others : ChangesWithin (l.to + l.left) (l.count - l.left) (g.S.BlockStore.content l.initial.store) (g.S.BlockStore.content l.store);
       tells : g.S.BlockStore.tells l.store ≡ g.S.BlockStore.tells l.initial.store;
       size : g.S.BlockStore.size l.store ≡ g.S.BlockStore.size l.initial.store;

@@ -15,7 +15,8 @@ returns-in-Err-clause-behind g c =
     let zeros : take count (replicate {A = ℕ} 4096 0) ≡ replicate count 0 = take-replicate count 4096 0 (omega arith) in
     let len : length w.0 ≡ count = w.1 ∙ (rw zeros (length-replicate count 0)) in
     let done : length (replicate {A = ℕ} (at - from) 0) ≡ at - from = length-replicate (at - from) 0 in
-    let whole : HasLength mid room = window_whole room from old mid (replicate (at - from) 0) c.requires.whole (omega arith) before.filled in
+    let whole : HasLength mid room = window_whole room from old mid (replicate (at - from) 0) c.requires.whole (omega arith)
+    before.filled in
     window_behind to room at mid new w.0 whole (omega arith) (omega arith) w.2
     ∙ window_behind to room from old mid (replicate (at - from) 0) c.requires.whole (omega arith) (omega arith) before.filled
 
@@ -31,7 +32,8 @@ loop-at-preserved g c =
     record {
       low = omega arith;
       high = omega arith;
-      filled = zeros_more c.args.from at count c.args.room old mid new c.requires.whole before.low (omega arith) before.filled (rw zeros at written);
+      filled = zeros_more c.args.from at count c.args.room old mid new c.requires.whole before.low (omega arith) before.filled
+          (rw zeros at written);
     }
 
 pub returns-clause-behind : goal.returns-clause-behind

@@ -11,6 +11,7 @@ invariant_of-result g c =
       profile = search rules;
       room = omega (arith, c.reverse.ensures.len, c.in-Ok.ensures.len, c.in-Ok.ensures.capacity, c.len.ensures);
       left_sized = All-permutation (IsSized c.args.size) c.args.answers.items c.reverse.new.self.items c.reverse.ensures.permutation
-          (All-same (IsSized c.args.size) c.args.answers.items c.deref.result.now (sym c.deref.ensures.value) (c.are_sized.ensures.0 (search rules)));
+          (All-same (IsSized c.args.size) c.args.answers.items c.deref.result.now (sym c.deref.ensures.value)
+          (c.are_sized.ensures.0 (search rules)));
       given_sized = All-same IsWhole c.in-Ok.given.items [] c.in-Ok.ensures.items (All-nil IsWhole);
     }

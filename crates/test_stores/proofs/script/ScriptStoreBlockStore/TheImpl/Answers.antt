@@ -10,7 +10,8 @@ pub read-tells : goal.read-tells
 read-tells g c =
     let old = c.args.self.now in
     let new = c.new.self.now in
-    let t = read_tells c.args.n (next_block old.answers) old new c.new.out.now c.result c.ensures.whole c.ensures.after c.ensures.gives c.ensures.fails in
+    let t = read_tells c.args.n (next_block old.answers) old new c.new.out.now c.result c.ensures.whole c.ensures.after
+    c.ensures.gives c.ensures.fails in
     record {
       given = t.given;
       ungiven = t.ungiven;

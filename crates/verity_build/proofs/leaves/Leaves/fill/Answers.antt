@@ -17,4 +17,5 @@ returns-clause-ahead g c =
     (omega (arith, ap length read.content))
     (λ j below. c.digest_run.ensures.digests j (omega (arith, room)))
     (λ tells j below.
-    ap (λ blocks. get_or blocks (n + j) []) read.content ∙ read.right (sym read.tells ∙ tells) j below ∙ ap (λ size. slice_chunk run size j) c.requires.size)
+    ap (λ blocks. get_or blocks (n + j) []) read.content ∙ read.right (sym read.tells ∙ tells) j below
+    ∙ ap (λ size. slice_chunk run size j) c.requires.size)

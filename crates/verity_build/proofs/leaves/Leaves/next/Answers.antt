@@ -17,7 +17,8 @@ returns-clause-ahead g c =
           let filled = w.in_ok-fill.ensures in
           taken (omega (arith, filled.some, ap (λ x. x.taken) w.self-is, ap (λ x. x.held) w.self-is))
           (subst (λ x. AreAhead D salted n c.if-self.data_store x.digests x.taken x.held) (sym w.self-is)
-          (subst (λ s. AreAhead D salted n s w.fill.new.self.digests w.fill.new.self.taken w.fill.new.self.held) (sym w.data_store-is) filled.ahead))
+          (subst (λ s. AreAhead D salted n s w.fill.new.self.digests w.fill.new.self.taken w.fill.new.self.held)
+          (sym w.data_store-is) filled.ahead))
       | else-self w ↦
           let old = c.args.self.now in
           taken (omega (arith, old.order, ap (λ x. x.taken) w.self-is, ap (λ x. x.held) w.self-is))

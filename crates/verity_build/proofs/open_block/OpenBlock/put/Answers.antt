@@ -1,4 +1,5 @@
-use Rattle.std.proofs.Common.{◌≡◌, ℕ, ◌+◌, ◌-◌, ◌*◌, ◌/◌, ◌<◌, ◌≤◌, ◌++◌, ◌∷◌, [], List, length, take, drop, replicate, ap, ◌∙◌, sym, subst, arith}
+use Rattle.std.proofs.Common.{◌≡◌, ℕ, ◌+◌, ◌-◌, ◌*◌, ◌/◌, ◌<◌, ◌≤◌, ◌++◌, ◌∷◌, [], List, length, take, drop, replicate, ap, ◌∙◌}
+use Rattle.std.proofs.Common.{sym, subst, arith}
 use Rattle.std.proofs.Math.Nat.{add-mul}
 use Rattle.verity_build.specs.Open.{Open}
 use Rattle.verity_build.proofs.SlotLemmas.{Put, put_slot, room_for_one, length-slots, same_open}
@@ -22,11 +23,14 @@ invariant_of-self g c =
     let fits = rw (← c.self.view_is) at c.requires.room in
     let room : (b.filled + 1) * b.digest_size ≤ length b.bytes.items =
     room_for_one b.digest_size b.filled (length b.bytes.items) (omega (arith, fits, length-slots b.digest_size b.filled b.bytes.items)) in
-    let put = put_slot b.digest_size b.filled b.bytes.items d sized room (record { within = c.self.invariant.within; zeros = c.self.invariant.zeros }) in
-    let is : c.write_over.new.bytes.items ≡ take (b.filled * b.digest_size) b.bytes.items ++ (d ++ drop (b.filled * b.digest_size + length d) b.bytes.items) =
+    let put = put_slot b.digest_size b.filled b.bytes.items d sized room
+    (record { within = c.self.invariant.within; zeros = c.self.invariant.zeros }) in
+    let is : c.write_over.new.bytes.items ≡ take (b.filled * b.digest_size) b.bytes.items ++
+    (d ++ drop (b.filled * b.digest_size + length d) b.bytes.items) =
     rw (← c.bytes.ensures) c.write_over.ensures in
     let P : List ℕ → Type 0 = λ bytes. (b.filled + 1) * b.digest_size ≤ length bytes in
-    let Q : List ℕ → Type 0 = λ bytes. drop ((b.filled + 1) * b.digest_size) bytes ≡ replicate (length bytes - (b.filled + 1) * b.digest_size) 0 in
+    let Q : List ℕ → Type 0 = λ bytes. drop ((b.filled + 1) * b.digest_size) bytes ≡ replicate
+    (length bytes - (b.filled + 1) * b.digest_size) 0 in
     record { some = c.self.invariant.some; within = subst P (sym is) put.holds.within; zeros = subst Q (sym is) put.holds.zeros }
 
 pub returns : goal.returns
@@ -37,7 +41,9 @@ returns g c =
     let fits = rw (← c.self.view_is) at c.requires.room in
     let room : (b.filled + 1) * b.digest_size ≤ length b.bytes.items =
     room_for_one b.digest_size b.filled (length b.bytes.items) (omega (arith, fits, length-slots b.digest_size b.filled b.bytes.items)) in
-    let put = put_slot b.digest_size b.filled b.bytes.items d sized room (record { within = c.self.invariant.within; zeros = c.self.invariant.zeros }) in
-    let is : c.write_over.new.bytes.items ≡ take (b.filled * b.digest_size) b.bytes.items ++ (d ++ drop (b.filled * b.digest_size + length d) b.bytes.items) =
+    let put = put_slot b.digest_size b.filled b.bytes.items d sized room
+    (record { within = c.self.invariant.within; zeros = c.self.invariant.zeros }) in
+    let is : c.write_over.new.bytes.items ≡ take (b.filled * b.digest_size) b.bytes.items ++
+    (d ++ drop (b.filled * b.digest_size + length d) b.bytes.items) =
     rw (← c.bytes.ensures) c.write_over.ensures in
     same_open b.digest_size b.filled b.index b.bytes.items d c.write_over.new.bytes.items c.args.self.now is put c.self.view_is

@@ -10,7 +10,8 @@ loop-preserved g c =
     let e : Open = empty c.args.geometry.hash_size c.args.geometry.digest_size in
     c.in_ok-push.ensures.items
     ∙ ap (λ xs. xs ++ c.in_ok-block.block ∷ []) c.loop.invariant
-    ∙ ap {A = Open} (λ o. replicate c.loop.counter e ++ o ∷ []) (c.in_ok-block.ensures ∙ (λ i. empty (c.hash_size.ensures.value i) (c.digest_size.ensures.value i)))
+    ∙ ap {A = Open} (λ o. replicate c.loop.counter e ++ o ∷ []) (c.in_ok-block.ensures
+    ∙ (λ i. empty (c.hash_size.ensures.value i) (c.digest_size.ensures.value i)))
     ∙ replicate-append-replicate c.loop.counter 1 e
 
 pub invariant_of-result : goal.invariant_of-result

@@ -8,14 +8,54 @@ pub invariant_of-self : goal.invariant_of-self
 invariant_of-self g c =
     let e = c.in-Ok.ensures in
     let i = c.self.inside in
-    let was : Checking g.row.H.Denot = record { table = i.tree; hash_store = i.hash_store; notes = i.notes.items; given = i.given.blocks; asked = i.asked.steps; refused = i.refused.steps; refusal = i.refusal; blocks = i.blocks; since = i.since.steps; failed = i.failed.steps } in
-    subst (λ (t : Table). IsChecking {H = g.row.H.Denot} g.H.BlockStore (record was { table = t; hash_store = c.look_up.new.store; notes = c.look_up.new.notes.items; given = c.note.new.self.blocks; asked = c.step.new.self.steps })) (sym e.same)
-    (checking_answered g.H.BlockStore was c.look_up.new.store c.look_up.new.notes.items c.self.invariant e.keeps e.checked e.given e.kept c.note.new.self.blocks c.step.new.self.steps c.args.n c.look_up.new.out c.note.ensures e.gave e.unfailed)
+    let was : Checking g.row.H.Denot = record {
+      table = i.tree;
+      hash_store = i.hash_store;
+      notes = i.notes.items;
+      given = i.given.blocks;
+      asked = i.asked.steps;
+      refused = i.refused.steps;
+      refusal = i.refusal;
+      blocks = i.blocks;
+      since =
+          i.since.steps;
+      failed = i.failed.steps;
+    } in
+    subst (λ (t : Table). IsChecking {H = g.row.H.Denot} g.H.BlockStore (record was {
+      table = t;
+      hash_store = c.look_up.new.store;
+      notes = c.look_up.new.notes.items;
+      given = c.note.new.self.blocks;
+      asked = c.step.new.self.steps;
+    })) (sym e.same)
+    (checking_answered g.H.BlockStore was c.look_up.new.store c.look_up.new.notes.items c.self.invariant e.keeps e.checked e.given
+    e.kept c.note.new.self.blocks c.step.new.self.steps c.args.n c.look_up.new.out c.note.ensures e.gave e.unfailed)
 
 pub invariant_of-self-in-Err : goal.invariant_of-self-in-Err
 invariant_of-self-in-Err g c =
     let e = c.in-Err.ensures in
     let i = c.self.inside in
-    let was : Checking g.row.H.Denot = record { table = i.tree; hash_store = i.hash_store; notes = i.notes.items; given = i.given.blocks; asked = i.asked.steps; refused = i.refused.steps; refusal = i.refusal; blocks = i.blocks; since = i.since.steps; failed = i.failed.steps } in
-    subst (λ (t : Table). IsChecking {H = g.row.H.Denot} g.H.BlockStore (record was { table = t; hash_store = c.look_up.new.store; notes = c.look_up.new.notes.items; asked = c.step.new.self.steps; refused = c.step-in-Err.new.self.steps; refusal = Some c.in-Err.why })) (sym e.same)
-    (checking_refused g.H.BlockStore was c.look_up.new.store c.look_up.new.notes.items c.self.invariant e.keeps e.checked e.given e.kept c.step.new.self.steps c.step-in-Err.new.self.steps c.in-Err.why c.step-in-Err.ensures e.err)
+    let was : Checking g.row.H.Denot = record {
+      table = i.tree;
+      hash_store = i.hash_store;
+      notes = i.notes.items;
+      given = i.given.blocks;
+      asked = i.asked.steps;
+      refused = i.refused.steps;
+      refusal = i.refusal;
+      blocks = i.blocks;
+      since =
+          i.since.steps;
+      failed = i.failed.steps;
+    } in
+    subst (λ (t : Table). IsChecking {H = g.row.H.Denot} g.H.BlockStore (record was {
+      table = t;
+      hash_store = c.look_up.new.store;
+      notes = c.look_up.new.notes.items;
+      asked = c.step.new.self.steps;
+      refused = c.step-in-Err.new.self.steps;
+      refusal =
+          Some c.in-Err.why;
+    })) (sym e.same)
+    (checking_refused g.H.BlockStore was c.look_up.new.store c.look_up.new.notes.items c.self.invariant e.keeps e.checked e.given
+    e.kept c.step.new.self.steps c.step-in-Err.new.self.steps c.in-Err.why c.step-in-Err.ensures e.err)

@@ -36,7 +36,8 @@ lanes-preserved g c =
             let salt : c.bytes.result.now ≡ s.salt = c.bytes.ensures.value ∙ ap (λ (r : Salted). r.salt) c.groups.invariant.2 in
             rw (← e) (get_or-set_same c.lanes.out at _ [] (omega (arith, c.lanes.invariant.0))
             ∙ c.from_bytes.ensures ∙ c.digest_eight-group.ensures c.lanes.j (omega arith)
-            ∙ ap (λ b. sha256 (c.bytes.result.now ++ b)) (rw width (block_in_group c.args.blocks.now c.args.size start c.lanes.j 8 (8 * c.groups.g) (omega arith) place))
+            ∙ ap (λ b. sha256 (c.bytes.result.now ++ b))
+            (rw width (block_in_group c.args.blocks.now c.args.size start c.lanes.j 8 (8 * c.groups.g) (omega arith) place))
             ∙ sha256_salted s c.bytes.result.now _ c.requires.algorithm salt)
       ],
     )

@@ -36,7 +36,8 @@ lanes-preserved g c =
             let salt : c.bytes.result.now ≡ s.salt = c.bytes.ensures.value ∙ ap (λ (r : Salted). r.salt) c.groups.invariant.2 in
             rw (← e) (get_or-set_same c.lanes.out at _ [] (omega (arith, c.lanes.invariant.0))
             ∙ c.from_wide.ensures ∙ c.digest_four-group.ensures c.lanes.j (omega arith)
-            ∙ ap (λ b. sha512 (c.bytes.result.now ++ b)) (rw width (block_in_group c.args.blocks.now c.args.size start c.lanes.j 4 (4 * c.groups.g) (omega arith) place))
+            ∙ ap (λ b. sha512 (c.bytes.result.now ++ b))
+            (rw width (block_in_group c.args.blocks.now c.args.size start c.lanes.j 4 (4 * c.groups.g) (omega arith) place))
             ∙ sha512_salted s c.bytes.result.now _ c.requires.algorithm salt)
       ],
     )

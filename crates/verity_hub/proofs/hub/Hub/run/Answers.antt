@@ -21,8 +21,10 @@ returns-clause-ran g c =
     let ran : (history : List Step) → IsAfter (facts_of D H v.1) v.0 history
     → EachAfter (Given (facts_of D H w.1)) v.0.offer history events r.0 × IsAfter (facts_of D H w.1) w.0 (history ++ steps events r.0) =
     subst (λ (x : HubState × Verifying g.row.D.Denot g.row.H.Denot). (history : List Step) → IsAfter (facts_of D H x.1) x.0 history
-    → EachAfter (Given (facts_of D H w.1)) x.0.offer history events r.0 × IsAfter (facts_of D H w.1) w.0 (history ++ steps events r.0)) c.self.view_is r.3 in
-    let keeps : IsOnlyReading D H v.1 w.1 = subst (λ (x : HubState × Verifying g.row.D.Denot g.row.H.Denot). IsOnlyReading D H x.1 w.1) c.self.view_is c.run-result.ensures.later in
+    → EachAfter (Given (facts_of D H w.1)) x.0.offer history events r.0 ×
+    IsAfter (facts_of D H w.1) w.0 (history ++ steps events r.0)) c.self.view_is r.3 in
+    let keeps : IsOnlyReading D H v.1 w.1 = subst (λ (x : HubState × Verifying g.row.D.Denot g.row.H.Denot). IsOnlyReading D H x.1
+    w.1) c.self.view_is c.run-result.ensures.later in
     let ok : IsVerifier D H w.1 = subst (λ x. IsVerifier D H x) c.export.ensures c.check.ensures in (
       r.0,
       r.1,

@@ -25,10 +25,13 @@ returns-clause-ok g c =
     let v : Verifying g.row.D.Denot g.row.H.Denot = c.args.self.now in
     let w : Verifying g.row.D.Denot g.row.H.Denot = c.read_at-answer.new.self in
     let keeps : IsOnlyReading D H v w = subst (λ x. IsOnlyReading D H x w) c.self.view_is c.read_at-answer.ensures.keeps in
-    let Given : Type 0 = (bytes : List ℕ) × (c.read_at-answer.new.out.items ≡ c.args.out.now.items ++ bytes) × ServesBytes w.table (given_to D H w) c.args.offset c.args.len bytes in
-    let Gives : Type 0 = (bytes : List ℕ) × (c.read_at-answer.new.out.items ≡ c.args.out.now.items ++ bytes) × Served (facts_of D H v) (facts_of D H w) c.args.offset c.args.len bytes in
+    let Given : Type 0 = (bytes : List ℕ) × (c.read_at-answer.new.out.items ≡ c.args.out.now.items ++ bytes) ×
+    ServesBytes w.table (given_to D H w) c.args.offset c.args.len bytes in
+    let Gives : Type 0 = (bytes : List ℕ) × (c.read_at-answer.new.out.items ≡ c.args.out.now.items ++ bytes) ×
+    Served (facts_of D H v) (facts_of D H w) c.args.offset c.args.len bytes in
     subst (λ r. OnOk r Gives) (sym c.export_answer.ensures)
-    (ok_answer c.read_at-answer.result Given Gives (λ x. (x.0, x.1, served D H v w c.check.ensures keeps c.args.offset c.args.len x.0 x.2)) c.read_at-answer.ensures.ok)
+    (ok_answer c.read_at-answer.result Given Gives
+    (λ x. (x.0, x.1, served D H v w c.check.ensures keeps c.args.offset c.args.len x.0 x.2)) c.read_at-answer.ensures.ok)
 
 pub returns-clause-io : goal.returns-clause-io
 returns-clause-io g c = λ is.
@@ -37,11 +40,13 @@ returns-clause-io g c = λ is.
     let v : Verifying g.row.D.Denot g.row.H.Denot = c.args.self.now in
     let w : Verifying g.row.D.Denot g.row.H.Denot = c.read_at-answer.new.self in
     let keeps : IsOnlyReading D H v w = subst (λ x. IsOnlyReading D H x w) c.self.view_is c.read_at-answer.ensures.keeps in
-    let P : Verifying g.row.D.Denot g.row.H.Denot → CheckFault → Type 0 = λ x fault. Refuses w.table (given_to D H w) (DataFailed D H x w) (HashFailed D H x w) c.args.offset c.args.len fault in
+    let P : Verifying g.row.D.Denot g.row.H.Denot → CheckFault → Type 0 =
+    λ x fault. Refuses w.table (given_to D H w) (DataFailed D H x w) (HashFailed D H x w) c.args.offset c.args.len fault in
     let Q : CheckFault → Type 0 = λ fault. fault ≢ faults.NoMemory → MayRefuse D H w c.args.offset c.args.len in
     io_answer c.read_at-answer.result (P v) Q (Failed (facts_of D H v) (facts_of D H w) c.args.offset c.args.len)
     (λ fault other why may. failed D H v w c.check.ensures keeps c.args.offset c.args.len c.requires fault other why (may other))
-    (subst (λ x. IfErr c.read_at-answer.result (P x)) c.self.view_is c.read_at-answer.ensures.refused) c.read_at-answer.ensures.may_refuse (sym c.export_answer.ensures ∙ is)
+    (subst (λ x. IfErr c.read_at-answer.result (P x)) c.self.view_is c.read_at-answer.ensures.refused)
+    c.read_at-answer.ensures.may_refuse (sym c.export_answer.ensures ∙ is)
 
 pub returns-clause-costs : goal.returns-clause-costs
 returns-clause-costs g c =
@@ -49,7 +54,8 @@ returns-clause-costs g c =
     let H = g.H.BlockStore in
     let v : Verifying g.row.D.Denot g.row.H.Denot = c.args.self.now in
     let w : Verifying g.row.D.Denot g.row.H.Denot = c.read_at-answer.new.self in
-    costs D H v w c.check.ensures (subst (λ x. IsOnlyReading D H x w) c.self.view_is c.read_at-answer.ensures.keeps) c.args.offset c.args.len
+    costs D H v w c.check.ensures (subst (λ x. IsOnlyReading D H x w) c.self.view_is c.read_at-answer.ensures.keeps) c.args.offset
+    c.args.len
 
 pub returns-clause-unread : goal.returns-clause-unread
 returns-clause-unread g c = λ is.
@@ -57,11 +63,14 @@ returns-clause-unread g c = λ is.
     let H = g.H.BlockStore in
     let v : Verifying g.row.D.Denot g.row.H.Denot = c.args.self.now in
     let w : Verifying g.row.D.Denot g.row.H.Denot = c.read_at-answer.new.self in
-    let Unread : Verifying g.row.D.Denot g.row.H.Denot → Type 0 = λ x. (D.reads w.data_store ≡ D.reads x.data_store) × (H.reads w.hash_store ≡ H.reads x.hash_store) in
+    let Unread : Verifying g.row.D.Denot g.row.H.Denot → Type 0 = λ x. (D.reads w.data_store ≡ D.reads x.data_store) ×
+    (H.reads w.hash_store ≡ H.reads x.hash_store) in
     let unread = lack_answer c.read_at-answer.result (Unread v)
-    (subst (λ x. IfErr c.read_at-answer.result (λ fault. fault ≡ faults.NoMemory → Unread x)) c.self.view_is c.read_at-answer.ensures.unread) (sym c.export_answer.ensures ∙ is) in
+    (subst (λ x. IfErr c.read_at-answer.result (λ fault. fault ≡ faults.NoMemory → Unread x)) c.self.view_is
+    c.read_at-answer.ensures.unread) (sym c.export_answer.ensures ∙ is) in
     let same = unread.0 in let hashes = unread.1 in omega arith
 
 pub returns-clause-room : goal.returns-clause-room
 returns-clause-room g c = λ is.
-    lack_answer c.read_at-answer.result (vec_capacity c.args.out.now < vec_len c.args.out.now + c.args.len) c.read_at-answer.ensures.memory (sym c.export_answer.ensures ∙ is)
+    lack_answer c.read_at-answer.result (vec_capacity c.args.out.now < vec_len c.args.out.now + c.args.len)
+    c.read_at-answer.ensures.memory (sym c.export_answer.ensures ∙ is)

@@ -7,7 +7,9 @@ pub returns-then-resize-clause-resized : goal.returns-then-resize-clause-resized
 returns-then-resize-clause-resized g c = step_seen c.args.device (resized c.args.len) c.args.self.now.files _ c.resize.ensures
 
 pub returns-then-resize-clause-crash : goal.returns-then-resize-clause-crash
-returns-then-resize-clause-crash g c = step_crash c.args.device (resized c.args.len) c.args.self.now.files _ c.resize.ensures (stretched_whole c.args.len _)
+returns-then-resize-clause-crash g c = step_crash c.args.device (resized c.args.len) c.args.self.now.files _ c.resize.ensures
+    (stretched_whole c.args.len _)
 
 pub returns-clause-crash : goal.returns-clause-crash
-returns-clause-crash g c = step_crash c.args.device (resized c.args.len) c.args.self.now.files _ c.resize.ensures (stretched_whole c.args.len _)
+returns-clause-crash g c = step_crash c.args.device (resized c.args.len) c.args.self.now.files _ c.resize.ensures
+    (stretched_whole c.args.len _)

@@ -23,4 +23,5 @@ returns-then-is_ok-clause-crash g c =
 pub returns-clause-crash : goal.returns-clause-crash
 returns-clause-crash g c =
     let same : c.else-goes_on.self.devices ≡ c.args.self.now.devices = search rules in
-    still_crash c.args.device (Torn c.args.at (length c.args.bytes.now)) c.args.self.now.devices _ same (torn_self c.args.at (length c.args.bytes.now))
+    still_crash c.args.device (Torn c.args.at (length c.args.bytes.now)) c.args.self.now.devices _ same
+    (torn_self c.args.at (length c.args.bytes.now))

@@ -8,5 +8,6 @@ returns-clause-done g c = λ content.
     let updates = c.in_ok-insert.ensures.updates in
     let copied : c.in_ok-bytes.bytes.items ≡ c.args.block.now = search rules in
     let here : c.self.inside.blocks ≡ c.args.self.now.blocks = ap (λ s. s.blocks) c.self.view_is in
-    rw (← c.self.view_is) (staged_write content (stage_of c.self.inside) c.insert.new.self.entries c.args.n c.args.block.now (omega (arith, c.requires.within))
+    rw (← c.self.view_is) (staged_write content (stage_of c.self.inside) c.insert.new.self.entries c.args.n c.args.block.now
+    (omega (arith, c.requires.within))
     (updates.1 ∙ ap Some (c.new.ensures ∙ copied)) updates.2)

@@ -10,11 +10,13 @@ returns-clause-made g c =
     let s = c.args.self.now in let content = g.S.BlockStore.content s.store in
     let is : c.block_size-size.result ≡ s.stage.size = c.block_size-size.ensures.value ∙ s.size in
     let all : AllSized s.stage.size content = subst (λ (n : ℕ). AllSized n content) is c.block_size-size.ensures.blocks in
-    ap (λ x. made x (concat content)) c.in_ok-side.ensures.side ∙ made-staged content s.stage c.facts.ensures.stage s.kept all c.facts.ensures.ordered
+    ap (λ x. made x (concat content)) c.in_ok-side.ensures.side ∙ made-staged content s.stage c.facts.ensures.stage s.kept all
+    c.facts.ensures.ordered
 
 pub returns-clause-kept : goal.returns-clause-kept
 returns-clause-kept g c =
     let s = c.args.self.now in let content = g.S.BlockStore.content s.store in
     let is : c.block_size-size.result ≡ s.stage.size = c.block_size-size.ensures.value ∙ s.size in
     let all : AllSized s.stage.size content = subst (λ (n : ℕ). AllSized n content) is c.block_size-size.ensures.blocks in
-    subst (λ (n : ℕ). n ≤ length (concat content)) (sym (ap (λ x. x.keep) c.in_ok-side.ensures.side)) (kept_bytes content s.stage.size s.stage.least all s.kept)
+    subst (λ (n : ℕ). n ≤ length (concat content)) (sym (ap (λ x. x.keep) c.in_ok-side.ensures.side))
+    (kept_bytes content s.stage.size s.stage.least all s.kept)

@@ -12,8 +12,10 @@ whole g c = let even : c.in-Ok.len / c.args.size * c.args.size ≡ c.in-Ok.len =
     subst (HasLength (g.F.RawFile.bytes c.args.file)) (sym even) c.in-Ok.ensures.len
 
 pub returns-clause-content : goal.returns-clause-content
-returns-clause-content g c = concat-file_blocks c.args.size _ (g.F.RawFile.bytes c.args.file) (whole g (goal.at.returns-clause-content g c).After-new-2)
+returns-clause-content g c = concat-file_blocks c.args.size _ (g.F.RawFile.bytes c.args.file)
+    (whole g (goal.at.returns-clause-content g c).After-new-2)
 
 pub returns-clause-len : goal.returns-clause-len
 returns-clause-len g c =
-    let count = length-file_blocks c.args.size (c.in-Ok.len / c.args.size) (g.F.RawFile.bytes c.args.file) in rw count (whole g (goal.at.returns-clause-len g c).After-new-2)
+    let count = length-file_blocks c.args.size (c.in-Ok.len / c.args.size) (g.F.RawFile.bytes c.args.file) in
+    rw count (whole g (goal.at.returns-clause-len g c).After-new-2)

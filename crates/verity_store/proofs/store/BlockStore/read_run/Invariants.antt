@@ -10,7 +10,8 @@ invariant-each g l =
     let size = S.size l.fn.self in
     record {
       given : S.given l.self ≡ S.given l.fn.self ++ run_of l.first size l.j l.out;
-      right : S.tells l.fn.self ≡ true → (k : ℕ) → k < l.j → slice_index_or (S.content l.fn.self) (l.first + k) [] ≡ slice_chunk l.out size k;
+      right : S.tells l.fn.self ≡ true → (k : ℕ) → k < l.j →
+          slice_index_or (S.content l.fn.self) (l.first + k) [] ≡ slice_chunk l.out size k;
       unfailed : S.failures l.self ≡ S.failures l.fn.self;
       counted : S.reads l.self ≡ S.reads l.fn.self + l.j;
       read : IsOnlyRead S l.fn.self l.self;
