@@ -1,5 +1,6 @@
 //! Builds a hash device.
-ghost use Rattle.std.specs.Prelude.{◌≡◌, ◌≢◌, ℕ, suc, ◌+◌, ◌-◌, ◌/◌, ◌^◌, ◌<◌, ◌≤◌, ◌↔◌, ◌++◌, ◌∷◌, [], true, length, slice_index_or, slice_set, OnOk, OnErr, IfOk, IfErr, IsErrOf, None};
+ghost use Rattle.std.specs.Prelude.{◌≡◌, ◌≢◌, ℕ, suc, ◌+◌, ◌-◌, ◌/◌, ◌^◌, ◌<◌, ◌≤◌, ◌↔◌, ◌++◌, ◌∷◌, [], true, length, slice_index_or};
+ghost use Rattle.std.specs.Prelude.{slice_set, OnOk, OnErr, IfOk, IfErr, IsErrOf, None};
 ghost use Rattle.std.specs.List.{concat};
 ghost use Rattle.verity_digest.specs.Hash.{hashing};
 ghost use Rattle.verity_digest.specs.Tree.{root, tree as tree_of};
@@ -37,12 +38,15 @@ fn write_done<A: Allocator, H: BlockStore>(
     requires near { start ≤ 2 ^ 40 }
     requires room { start + total_of tree.old.geometry ≤ length (H.content hash_store.old) }
     requires size { H.size hash_store.old ≡ tree.old.geometry.hash_size }
-    ensures growing { OnOk result (blocks < tree.old.geometry.blocks → Growing (digests_per_block tree.old.geometry) blocks tree.new.blocks.items tree.new.root) }
-    ensures grown { OnOk result (blocks ≡ tree.old.geometry.blocks → Grown (digests_per_block tree.old.geometry) blocks tree.new.blocks.items tree.new.root) }
+    ensures growing { OnOk result (blocks < tree.old.geometry.blocks
+        → Growing (digests_per_block tree.old.geometry) blocks tree.new.blocks.items tree.new.root) }
+    ensures grown { OnOk result (blocks ≡ tree.old.geometry.blocks
+        → Grown (digests_per_block tree.old.geometry) blocks tree.new.blocks.items tree.new.root) }
     ensures right { OnOk result (let h = hashing tree.old.hasher.salted tree.old.geometry.hash_size in
         StaysRight h tree.old.geometry.blocks tree.old.blocks.items tree.old.root tree.new.blocks.items tree.new.root) }
     ensures stored { OnOk result (H.tells hash_store.old ≡ true → let h = hashing tree.old.hasher.salted tree.old.geometry.hash_size in
-        StaysStored h tree.old.geometry start tree.old.blocks.items tree.old.root (H.content hash_store.old) tree.new.blocks.items (H.content hash_store.new)) }
+        StaysStored h tree.old.geometry start tree.old.blocks.items tree.old.root (H.content hash_store.old) tree.new.blocks.items
+        (H.content hash_store.new)) }
     ensures salted { tree.new.hasher.salted ≡ tree.old.hasher.salted }
     ensures geometry { tree.new.geometry ≡ tree.old.geometry }
     ensures from { WritesFrom H.BlockStore start hash_store.old hash_store.new }
@@ -81,7 +85,8 @@ fn write_tree<A: Allocator, D: BlockStore, H: BlockStore>(
     ensures grown { OnOk result (Grown (digests_per_block tree.old.geometry) tree.old.geometry.blocks tree.new.blocks.items tree.new.root) }
     ensures right { OnOk result (D.tells data_store.old ≡ true → let h = hashing tree.old.hasher.salted tree.old.geometry.hash_size in
         IsRight h (D.content data_store.old) tree.new.blocks.items tree.new.root) }
-    ensures stored { OnOk result (D.tells data_store.old ≡ true → H.tells hash_store.old ≡ true → let h = hashing tree.old.hasher.salted tree.old.geometry.hash_size in
+    ensures stored { OnOk result (D.tells data_store.old ≡ true → H.tells hash_store.old ≡ true
+        → let h = hashing tree.old.hasher.salted tree.old.geometry.hash_size in
         AreStored tree.old.geometry start (tree_of h (D.content data_store.old)) tree.new.blocks.items (H.content hash_store.new)) }
     ensures geometry { tree.new.geometry ≡ tree.old.geometry }
     ensures data_store { IsOnlyRead D.BlockStore data_store.old data_store.new }
@@ -95,9 +100,7 @@ fn write_tree<A: Allocator, D: BlockStore, H: BlockStore>(
 {
     let mut leaves = Leaves::new();
     for n in 0..tree.geometry.blocks() {
-        let Ok(digest) = leaves.next(tree, data_store, n, buffer) else {
-            return Err(Which::Data);
-        };
+        let digest = leaves.next(tree, data_store, n, buffer)?;
         tree.take(digest);
         let Ok(()) = write_done(tree, hash_store, start, n + 1) else {
             return Err(Which::Hash);
@@ -106,7 +109,7 @@ fn write_tree<A: Allocator, D: BlockStore, H: BlockStore>(
     Ok(())
 }
 
-/// Writes a superblock, and zeros behind it, to a block.
+/// Writes a superblock, and zeros behind it, to a block, as the last one before a sync.
 fn write_superblock<H: BlockStore>(
     hash_store: &mut H,
     place: u64,
@@ -121,13 +124,15 @@ fn write_superblock<H: BlockStore>(
     ensures others { ChangesAt place (H.content hash_store.old) (H.content hash_store.new) }
     ensures reads { H.reads hash_store.new ≡ H.reads hash_store.old }
     ensures later { IsLater H.BlockStore hash_store.old hash_store.new }
+    ensures synced { OnOk result (H.synced hash_store.new ≡ true) }
     ensures failed { OnErr result (H.failures hash_store.old < H.failures hash_store.new) }
     ensures unfailed { OnOk result (H.failures hash_store.new ≡ H.failures hash_store.old) }
 {
     let len = superblock.len();
     block[..len].copy_from_slice(superblock);
     block[len..].fill(0);
-    hash_store.write(place, block)
+    hash_store.write(place, block)?;
+    hash_store.sync()
 }
 
 /// Makes the hash device whose tree begins at `start`: sets its length, writes the tree, then the
@@ -154,8 +159,10 @@ fn write_device<A: Allocator, D: BlockStore, H: BlockStore>(
     ensures written { OnOk result (D.tells data_store.old ≡ true → H.tells hash_store.old ≡ true
         → let s = tree.old.geometry in H.content hash_store.new ≡ resized s.hash_size (start - 1) (H.content hash_store.old)
         ++ (zero_filled s.hash_size superblock.now ∷ tree_of (hashing tree.old.hasher.salted s.hash_size) (D.content data_store.old))) }
-    ensures root { IfOk result (λ digest. D.tells data_store.old ≡ true → digest ≡ root (hashing tree.old.hasher.salted tree.old.geometry.hash_size) (D.content data_store.old)) }
-    ensures front { (q : ℕ) → suc q < start → q < length (H.content hash_store.old) → slice_index_or (H.content hash_store.new) q [] ≡ slice_index_or (H.content hash_store.old) q [] }
+    ensures root { IfOk result (λ digest. D.tells data_store.old ≡ true
+        → digest ≡ root (hashing tree.old.hasher.salted tree.old.geometry.hash_size) (D.content data_store.old)) }
+    ensures front { (q : ℕ) → suc q < start → q < length (H.content hash_store.old)
+        → slice_index_or (H.content hash_store.new) q [] ≡ slice_index_or (H.content hash_store.old) q [] }
     ensures data_store { IsOnlyRead D.BlockStore data_store.old data_store.new }
     ensures data_reads { OnOk result (D.reads data_store.new ≡ D.reads data_store.old + tree.old.geometry.blocks) }
     ensures data_reads_most { D.reads data_store.new ≤ D.reads data_store.old + tree.old.geometry.blocks }
@@ -177,9 +184,6 @@ fn write_device<A: Allocator, D: BlockStore, H: BlockStore>(
     let Ok(()) = write_superblock(hash_store, start - 1, superblock, block) else {
         return Err(Which::Hash);
     };
-    let Ok(()) = hash_store.sync() else {
-        return Err(Which::Hash);
-    };
     match tree.root {
         Some(root) => Ok(root),
         None => unreachable!(),
@@ -195,15 +199,20 @@ pub fn build<A: Allocator + Copy, P: Allocator, D: BlockStore, H: BlockStore>(
     params: &Params<P>,
 ) -> Result<Digest, BuildFault>
     ensures built { OnOk result (D.tells data_store.old ≡ true → H.tells hash_store.old ≡ true
-        → H.content hash_store.new ≡ hash_blocks (volume params.now (D.size data_store.old) (H.size hash_store.old)) (D.content data_store.old) []) }
+        → H.content hash_store.new ≡ hash_blocks (volume params.now (D.size data_store.old) (H.size hash_store.old))
+        (D.content data_store.old) []) }
     ensures bytes { OnOk result (D.tells data_store.old ≡ true → H.tells hash_store.old ≡ true
-        → concat (H.content hash_store.new) ≡ hash_image (volume params.now (D.size data_store.old) (H.size hash_store.old)) (D.content data_store.old) []) }
-    ensures root { IfOk result (λ digest. D.tells data_store.old ≡ true → digest ≡ root (hashing (salted_by params.now) (H.size hash_store.old)) (D.content data_store.old)) }
+        → concat (H.content hash_store.new) ≡ hash_image (volume params.now (D.size data_store.old) (H.size hash_store.old))
+        (D.content data_store.old) []) }
+    ensures root { IfOk result (λ digest. D.tells data_store.old ≡ true
+        → digest ≡ root (hashing (salted_by params.now) (H.size hash_store.old)) (D.content data_store.old)) }
     ensures ok { OnOk result (IsBlockCount (length (D.content data_store.old))) }
     ensures bad_count { IsErrOf result (BuildFault.Geometry GeometryFault.BadCount) ↔ ¬ IsBlockCount (length (D.content data_store.old)) }
-    ensures fault { IfErr result (Explains (length (D.content data_store.old)) 0 (H.size hash_store.old) (D.failures data_store.old < D.failures data_store.new) (H.failures hash_store.old < H.failures hash_store.new)) }
+    ensures fault { IfErr result (Explains (length (D.content data_store.old)) 0 (H.size hash_store.old)
+        (D.failures data_store.old < D.failures data_store.new) (H.failures hash_store.old < H.failures hash_store.new)) }
     ensures no_offset { IfErr result (λ fault. fault ≢ BuildFault.Offset) }
-    ensures refused { IfErr result (λ fault. fault ≢ BuildFault.Store Which.Data → fault ≢ BuildFault.Store Which.Hash → H.content hash_store.new ≡ H.content hash_store.old) }
+    ensures refused { IfErr result (λ fault. fault ≢ BuildFault.Store Which.Data → fault ≢ BuildFault.Store Which.Hash
+        → H.content hash_store.new ≡ H.content hash_store.old) }
     ensures data_store { IsOnlyRead D.BlockStore data_store.old data_store.new }
     ensures data_reads { OnOk result (D.reads data_store.new ≡ D.reads data_store.old + length (D.content data_store.old)) }
     ensures data_reads_most { D.reads data_store.new ≤ D.reads data_store.old + length (D.content data_store.old) }
@@ -212,7 +221,8 @@ pub fn build<A: Allocator + Copy, P: Allocator, D: BlockStore, H: BlockStore>(
     ensures data_unfailed { OnOk result (D.failures data_store.new ≡ D.failures data_store.old) }
     ensures hash_synced { OnOk result (H.synced hash_store.new ≡ true) }
     ensures hash_unfailed { OnOk result (H.failures hash_store.new ≡ H.failures hash_store.old) }
-    ensures refused_unfailed { IfErr result (λ fault. fault ≢ BuildFault.Store Which.Data → fault ≢ BuildFault.Store Which.Hash → (D.failures data_store.new ≡ D.failures data_store.old) × (H.failures hash_store.new ≡ H.failures hash_store.old)) }
+    ensures refused_unfailed { IfErr result (λ fault. fault ≢ BuildFault.Store Which.Data → fault ≢ BuildFault.Store Which.Hash
+        → (D.failures data_store.new ≡ D.failures data_store.old) × (H.failures hash_store.new ≡ H.failures hash_store.old)) }
 {
     build_at(alloc, data_store, hash_store, params, 0)
 }
@@ -242,16 +252,23 @@ pub fn build_at<A: Allocator + Copy, P: Allocator, D: BlockStore, H: BlockStore>
     offset: u64,
 ) -> Result<Digest, BuildFault>
     ensures built { OnOk result (D.tells data_store.old ≡ true → H.tells hash_store.old ≡ true
-        → H.content hash_store.new ≡ hash_blocks (volume params.now (D.size data_store.old) (H.size hash_store.old)) (D.content data_store.old) (front offset (H.size hash_store.old) (H.content hash_store.old))) }
+        → H.content hash_store.new ≡ hash_blocks (volume params.now (D.size data_store.old) (H.size hash_store.old))
+        (D.content data_store.old) (front offset (H.size hash_store.old) (H.content hash_store.old))) }
     ensures bytes { OnOk result (D.tells data_store.old ≡ true → H.tells hash_store.old ≡ true
-        → concat (H.content hash_store.new) ≡ hash_image (volume params.now (D.size data_store.old) (H.size hash_store.old)) (D.content data_store.old) (front offset (H.size hash_store.old) (H.content hash_store.old))) }
-    ensures root { IfOk result (λ digest. D.tells data_store.old ≡ true → digest ≡ root (hashing (salted_by params.now) (H.size hash_store.old)) (D.content data_store.old)) }
+        → concat (H.content hash_store.new) ≡ hash_image (volume params.now (D.size data_store.old) (H.size hash_store.old))
+        (D.content data_store.old) (front offset (H.size hash_store.old) (H.content hash_store.old))) }
+    ensures root { IfOk result (λ digest. D.tells data_store.old ≡ true
+        → digest ≡ root (hashing (salted_by params.now) (H.size hash_store.old)) (D.content data_store.old)) }
     ensures ok { OnOk result (CanBuild (length (D.content data_store.old)) offset (H.size hash_store.old)) }
     ensures bad_count { IsErrOf result (BuildFault.Geometry GeometryFault.BadCount) ↔ ¬ IsBlockCount (length (D.content data_store.old)) }
-    ensures bad_offset { IsErrOf result BuildFault.Offset ↔ (IsBlockCount (length (D.content data_store.old)) × ¬ CanBegin offset (H.size hash_store.old)) }
-    ensures fault { IfErr result (Explains (length (D.content data_store.old)) offset (H.size hash_store.old) (D.failures data_store.old < D.failures data_store.new) (H.failures hash_store.old < H.failures hash_store.new)) }
-    ensures refused { IfErr result (λ fault. fault ≢ BuildFault.Store Which.Data → fault ≢ BuildFault.Store Which.Hash → H.content hash_store.new ≡ H.content hash_store.old) }
-    ensures front { (q : ℕ) → q < offset / H.size hash_store.old → q < length (H.content hash_store.old) → slice_index_or (H.content hash_store.new) q [] ≡ slice_index_or (H.content hash_store.old) q [] }
+    ensures bad_offset { IsErrOf result BuildFault.Offset ↔ (IsBlockCount (length (D.content data_store.old))
+        × ¬ CanBegin offset (H.size hash_store.old)) }
+    ensures fault { IfErr result (Explains (length (D.content data_store.old)) offset (H.size hash_store.old)
+        (D.failures data_store.old < D.failures data_store.new) (H.failures hash_store.old < H.failures hash_store.new)) }
+    ensures refused { IfErr result (λ fault. fault ≢ BuildFault.Store Which.Data → fault ≢ BuildFault.Store Which.Hash
+        → H.content hash_store.new ≡ H.content hash_store.old) }
+    ensures front { (q : ℕ) → q < offset / H.size hash_store.old → q < length (H.content hash_store.old)
+        → slice_index_or (H.content hash_store.new) q [] ≡ slice_index_or (H.content hash_store.old) q [] }
     ensures data_store { IsOnlyRead D.BlockStore data_store.old data_store.new }
     ensures data_reads { OnOk result (D.reads data_store.new ≡ D.reads data_store.old + length (D.content data_store.old)) }
     ensures data_reads_most { D.reads data_store.new ≤ D.reads data_store.old + length (D.content data_store.old) }
@@ -260,7 +277,8 @@ pub fn build_at<A: Allocator + Copy, P: Allocator, D: BlockStore, H: BlockStore>
     ensures data_unfailed { OnOk result (D.failures data_store.new ≡ D.failures data_store.old) }
     ensures hash_synced { OnOk result (H.synced hash_store.new ≡ true) }
     ensures hash_unfailed { OnOk result (H.failures hash_store.new ≡ H.failures hash_store.old) }
-    ensures refused_unfailed { IfErr result (λ fault. fault ≢ BuildFault.Store Which.Data → fault ≢ BuildFault.Store Which.Hash → (D.failures data_store.new ≡ D.failures data_store.old) × (H.failures hash_store.new ≡ H.failures hash_store.old)) }
+    ensures refused_unfailed { IfErr result (λ fault. fault ≢ BuildFault.Store Which.Data → fault ≢ BuildFault.Store Which.Hash
+        → (D.failures data_store.new ≡ D.failures data_store.old) × (H.failures hash_store.new ≡ H.failures hash_store.old)) }
 {
     let (start, mut tree) = prepare(alloc, data_store, hash_store, params, offset)?;
     let superblock = superblock_of(alloc, &tree.geometry, params)?;
@@ -269,15 +287,13 @@ pub fn build_at<A: Allocator + Copy, P: Allocator, D: BlockStore, H: BlockStore>
     let Ok(()) = hash_store.reserve(start + tree.geometry.total()) else {
         return Err(BuildFault::NoMemory);
     };
-    match write_device(
+    let root = write_device(
         &mut tree,
         data_store,
         hash_store,
         start,
         &superblock,
         &mut buffer,
-    ) {
-        Ok(root) => Ok(root),
-        Err(which) => Err(BuildFault::Store(which)),
-    }
+    )?;
+    Ok(root)
 }

@@ -1,5 +1,6 @@
 //! Compares a hash device with the tree of a data store.
-ghost use Rattle.std.specs.Prelude.{◌≡◌, ◌≢◌, ◌+◌, ◌^◌, ◌<◌, ◌≤◌, ◌↔◌, true, [], length, slice_index_or, IsTrue, OnOk, OnErr, IfOk, IfErr, IsErrOf, None};
+ghost use Rattle.std.specs.Prelude.{◌≡◌, ◌≢◌, ◌+◌, ◌^◌, ◌<◌, ◌≤◌, ◌↔◌, true, [], length, slice_index_or, IsTrue, OnOk, OnErr, IfOk};
+ghost use Rattle.std.specs.Prelude.{IfErr, IsErrOf, None};
 ghost use Rattle.verity_digest.specs.Hash.{hashing};
 ghost use Rattle.verity_digest.specs.Tree.{tree as tree_of};
 ghost use Rattle.verity_geometry.specs.Geometry.{digests_per_block, total_of};
@@ -49,7 +50,8 @@ fn holds<H: BlockStore>(
     requires some { 0 < length block.now }
     requires sized { length block.now ≡ H.size hash_store.old }
     requires room { length hash_block.old ≡ H.size hash_store.old }
-    ensures same { IfOk result (λ same. H.tells hash_store.old ≡ true → IsTrue same ↔ (slice_index_or (H.content hash_store.old) place [] ≡ block.now)) }
+    ensures same { IfOk result (λ same. H.tells hash_store.old ≡ true
+        → IsTrue same ↔ (slice_index_or (H.content hash_store.old) place [] ≡ block.now)) }
     ensures read { IsOnlyRead H.BlockStore hash_store.old hash_store.new }
     ensures failed { OnErr result (H.failures hash_store.old < H.failures hash_store.new) }
     ensures unfailed { OnOk result (H.failures hash_store.new ≡ H.failures hash_store.old) }
@@ -78,18 +80,23 @@ fn compare_done<A: Allocator, H: BlockStore>(
     requires near { start ≤ 2 ^ 40 }
     requires size { H.size hash_store.old ≡ tree.old.geometry.hash_size }
     requires room { length hash_block.old ≡ tree.old.geometry.hash_size }
-    ensures growing { OnOk result (blocks < tree.old.geometry.blocks → Growing (digests_per_block tree.old.geometry) blocks tree.new.blocks.items tree.new.root) }
-    ensures grown { OnOk result (blocks ≡ tree.old.geometry.blocks → Grown (digests_per_block tree.old.geometry) blocks tree.new.blocks.items tree.new.root) }
+    ensures growing { OnOk result (blocks < tree.old.geometry.blocks
+        → Growing (digests_per_block tree.old.geometry) blocks tree.new.blocks.items tree.new.root) }
+    ensures grown { OnOk result (blocks ≡ tree.old.geometry.blocks
+        → Grown (digests_per_block tree.old.geometry) blocks tree.new.blocks.items tree.new.root) }
     ensures right { OnOk result (let h = hashing tree.old.hasher.salted tree.old.geometry.hash_size in
         StaysRight h tree.old.geometry.blocks tree.old.blocks.items tree.old.root tree.new.blocks.items tree.new.root) }
-    ensures compared { IfOk result (λ found. H.tells hash_store.old ≡ true → let h = hashing tree.old.hasher.salted tree.old.geometry.hash_size in
-        spec.StaysCompared h tree.old.geometry start (H.content hash_store.old) tree.old.blocks.items tree.old.root found_before tree.new.blocks.items found) }
+    ensures compared { IfOk result (λ found. H.tells hash_store.old ≡ true
+        → let h = hashing tree.old.hasher.salted tree.old.geometry.hash_size in
+        spec.StaysCompared h tree.old.geometry start (H.content hash_store.old) tree.old.blocks.items tree.old.root found_before
+        tree.new.blocks.items found) }
     ensures salted { tree.new.hasher.salted ≡ tree.old.hasher.salted }
     ensures geometry { tree.new.geometry ≡ tree.old.geometry }
     ensures read { IsOnlyRead H.BlockStore hash_store.old hash_store.new }
     ensures failed { OnErr result (H.failures hash_store.old < H.failures hash_store.new) }
     ensures unfailed { OnOk result (H.failures hash_store.new ≡ H.failures hash_store.old) }
-    ensures reads { OnOk result (H.reads hash_store.new + closed tree.old.blocks.items ≤ H.reads hash_store.old + closed tree.new.blocks.items) }
+    ensures reads { OnOk result (H.reads hash_store.new + closed tree.old.blocks.items ≤ H.reads hash_store.old
+        + closed tree.new.blocks.items) }
     ensures reads_most { H.reads hash_store.new + closed tree.old.blocks.items ≤ H.reads hash_store.old + total_of tree.old.geometry }
 {
     let mut found = found_before;
@@ -129,8 +136,10 @@ fn compare_tree<A: Allocator, D: BlockStore, H: BlockStore>(
     ensures grown { OnOk result (Grown (digests_per_block tree.old.geometry) tree.old.geometry.blocks tree.new.blocks.items tree.new.root) }
     ensures right { OnOk result (D.tells data_store.old ≡ true → let h = hashing tree.old.hasher.salted tree.old.geometry.hash_size in
         IsRight h (D.content data_store.old) tree.new.blocks.items tree.new.root) }
-    ensures compared { IfOk result (λ found. D.tells data_store.old ≡ true → H.tells hash_store.old ≡ true → let h = hashing tree.old.hasher.salted tree.old.geometry.hash_size in
-        spec.AreCompared tree.old.geometry start (tree_of h (D.content data_store.old)) tree.new.blocks.items (H.content hash_store.old) found) }
+    ensures compared { IfOk result (λ found. D.tells data_store.old ≡ true → H.tells hash_store.old ≡ true
+        → let h = hashing tree.old.hasher.salted tree.old.geometry.hash_size in
+        spec.AreCompared tree.old.geometry start (tree_of h (D.content data_store.old)) tree.new.blocks.items
+        (H.content hash_store.old) found) }
     ensures geometry { tree.new.geometry ≡ tree.old.geometry }
     ensures data_store { IsOnlyRead D.BlockStore data_store.old data_store.new }
     ensures data_reads { OnOk result (D.reads data_store.new ≡ D.reads data_store.old + tree.old.geometry.blocks) }
@@ -145,9 +154,7 @@ fn compare_tree<A: Allocator, D: BlockStore, H: BlockStore>(
     let mut leaves = Leaves::new();
     let mut found = None;
     for n in 0..tree.geometry.blocks() {
-        let Ok(digest) = leaves.next(tree, data_store, n, buffer) else {
-            return Err(Which::Data);
-        };
+        let digest = leaves.next(tree, data_store, n, buffer)?;
         tree.take(digest);
         let Ok(first) = compare_done(tree, hash_store, start, n + 1, hash_block, found) else {
             return Err(Which::Hash);
@@ -170,7 +177,8 @@ pub fn compare<A: Allocator + Copy, P: Allocator, D: BlockStore, H: BlockStore>(
         (hashing (salted_by params.now) (H.size hash_store.old)) (D.content data_store.old) 1 (H.content hash_store.old) found) }
     ensures ok { OnOk result (IsBlockCount (length (D.content data_store.old))) }
     ensures bad_count { IsErrOf result (BuildFault.Geometry GeometryFault.BadCount) ↔ ¬ IsBlockCount (length (D.content data_store.old)) }
-    ensures fault { IfErr result (Explains (length (D.content data_store.old)) 0 (H.size hash_store.old) (D.failures data_store.old < D.failures data_store.new) (H.failures hash_store.old < H.failures hash_store.new)) }
+    ensures fault { IfErr result (Explains (length (D.content data_store.old)) 0 (H.size hash_store.old)
+        (D.failures data_store.old < D.failures data_store.new) (H.failures hash_store.old < H.failures hash_store.new)) }
     ensures no_offset { IfErr result (λ fault. fault ≢ BuildFault.Offset) }
     ensures data_store { IsOnlyRead D.BlockStore data_store.old data_store.new }
     ensures data_reads { OnOk result (D.reads data_store.new ≡ D.reads data_store.old + length (D.content data_store.old)) }
@@ -180,7 +188,8 @@ pub fn compare<A: Allocator + Copy, P: Allocator, D: BlockStore, H: BlockStore>(
         + total_of (shape_over params.now (D.size data_store.old) (H.size hash_store.old) (length (D.content data_store.old))) }
     ensures data_unfailed { OnOk result (D.failures data_store.new ≡ D.failures data_store.old) }
     ensures hash_unfailed { OnOk result (H.failures hash_store.new ≡ H.failures hash_store.old) }
-    ensures refused_unfailed { IfErr result (λ fault. fault ≢ BuildFault.Store Which.Data → fault ≢ BuildFault.Store Which.Hash → (D.failures data_store.new ≡ D.failures data_store.old) × (H.failures hash_store.new ≡ H.failures hash_store.old)) }
+    ensures refused_unfailed { IfErr result (λ fault. fault ≢ BuildFault.Store Which.Data → fault ≢ BuildFault.Store Which.Hash
+        → (D.failures data_store.new ≡ D.failures data_store.old) × (H.failures hash_store.new ≡ H.failures hash_store.old)) }
 {
     compare_at(alloc, data_store, hash_store, params, 0)
 }
@@ -210,11 +219,14 @@ pub fn compare_at<A: Allocator + Copy, P: Allocator, D: BlockStore, H: BlockStor
 ) -> Result<Compared, BuildFault>
     ensures compared { IfOk result (λ found. D.tells data_store.old ≡ true → H.tells hash_store.old ≡ true
         → spec.IsCompared (shape_over params.now (D.size data_store.old) (H.size hash_store.old) (length (D.content data_store.old)))
-        (hashing (salted_by params.now) (H.size hash_store.old)) (D.content data_store.old) (start_behind offset (H.size hash_store.old)) (H.content hash_store.old) found) }
+        (hashing (salted_by params.now) (H.size hash_store.old)) (D.content data_store.old) (start_behind offset (H.size hash_store.old))
+        (H.content hash_store.old) found) }
     ensures ok { OnOk result (CanBuild (length (D.content data_store.old)) offset (H.size hash_store.old)) }
     ensures bad_count { IsErrOf result (BuildFault.Geometry GeometryFault.BadCount) ↔ ¬ IsBlockCount (length (D.content data_store.old)) }
-    ensures bad_offset { IsErrOf result BuildFault.Offset ↔ (IsBlockCount (length (D.content data_store.old)) × ¬ CanBegin offset (H.size hash_store.old)) }
-    ensures fault { IfErr result (Explains (length (D.content data_store.old)) offset (H.size hash_store.old) (D.failures data_store.old < D.failures data_store.new) (H.failures hash_store.old < H.failures hash_store.new)) }
+    ensures bad_offset { IsErrOf result BuildFault.Offset ↔ (IsBlockCount (length (D.content data_store.old))
+        × ¬ CanBegin offset (H.size hash_store.old)) }
+    ensures fault { IfErr result (Explains (length (D.content data_store.old)) offset (H.size hash_store.old)
+        (D.failures data_store.old < D.failures data_store.new) (H.failures hash_store.old < H.failures hash_store.new)) }
     ensures data_store { IsOnlyRead D.BlockStore data_store.old data_store.new }
     ensures data_reads { OnOk result (D.reads data_store.new ≡ D.reads data_store.old + length (D.content data_store.old)) }
     ensures data_reads_most { D.reads data_store.new ≤ D.reads data_store.old + length (D.content data_store.old) }
@@ -223,22 +235,20 @@ pub fn compare_at<A: Allocator + Copy, P: Allocator, D: BlockStore, H: BlockStor
         + total_of (shape_over params.now (D.size data_store.old) (H.size hash_store.old) (length (D.content data_store.old))) }
     ensures data_unfailed { OnOk result (D.failures data_store.new ≡ D.failures data_store.old) }
     ensures hash_unfailed { OnOk result (H.failures hash_store.new ≡ H.failures hash_store.old) }
-    ensures refused_unfailed { IfErr result (λ fault. fault ≢ BuildFault.Store Which.Data → fault ≢ BuildFault.Store Which.Hash → (D.failures data_store.new ≡ D.failures data_store.old) × (H.failures hash_store.new ≡ H.failures hash_store.old)) }
+    ensures refused_unfailed { IfErr result (λ fault. fault ≢ BuildFault.Store Which.Data → fault ≢ BuildFault.Store Which.Hash
+        → (D.failures data_store.new ≡ D.failures data_store.old) × (H.failures hash_store.new ≡ H.failures hash_store.old)) }
 {
     let (start, mut tree) = prepare(alloc, data_store, hash_store, params, offset)?;
     let mut buffer = zeros(alloc, bytes_at_a_time(tree.geometry.data_size()))?;
     let mut hash_block = zeros(alloc, tree.geometry.hash_size())?;
-    let found = match compare_tree(
+    let found = compare_tree(
         &mut tree,
         data_store,
         hash_store,
         start,
         &mut buffer,
         &mut hash_block,
-    ) {
-        Ok(found) => found,
-        Err(which) => return Err(BuildFault::Store(which)),
-    };
+    )?;
     match found {
         Some(place) => Ok(Compared::Differs {
             level: place.level,

@@ -1,5 +1,5 @@
 //! The digests of the data blocks in their order, of which several are made at a time.
-ghost use Rattle.std.specs.Prelude.{◌≡◌, ◌+◌, ◌-◌, ◌^◌, ◌<◌, ◌≤◌, [], true, length, slice_index_or, OnOk, OnErr, IfOk};
+ghost use Rattle.std.specs.Prelude.{◌≡◌, ◌+◌, ◌-◌, ◌^◌, ◌<◌, ◌≤◌, [], true, length, slice_index_or, OnOk, OnErr, IfOk, IfErr};
 ghost use Rattle.verity_digest.specs.Hash.{size_of, salted_digest};
 ghost use Rattle.verity_store.specs.Stores.{IsOnlyRead};
 ghost use Rattle.verity_build.specs.Ahead.{AreAhead};
@@ -7,7 +7,7 @@ ghost use Rattle.verity_build.specs.Ahead.{AreAhead};
 use crate::open_tree::OpenTree;
 use std::alloc::Allocator;
 use verity_digest::Digest;
-use verity_store::{BlockStore, StoreFault};
+use verity_store::{BlockStore, StoreFault, Which};
 
 /// How many data blocks are hashed side by side.
 const AT_A_TIME: usize = 8;
@@ -60,7 +60,8 @@ impl Leaves {
         requires blocks { length (D.content data_store.old) ≡ tree.old.geometry.blocks }
         requires size { D.size data_store.old ≡ tree.old.geometry.data_size }
         requires room { tree.old.geometry.data_size ≤ length buffer.old }
-        ensures ahead { OnOk result (AreAhead D.BlockStore tree.old.hasher.salted n data_store.new self.new.digests self.new.taken self.new.held) }
+        ensures ahead { OnOk result (AreAhead D.BlockStore tree.old.hasher.salted n data_store.new self.new.digests self.new.taken
+            self.new.held) }
         ensures some { OnOk result (self.new.taken < self.new.held) }
         ensures reads { OnOk result (D.reads data_store.new ≡ D.reads data_store.old + (self.new.held - self.new.taken)) }
         ensures reads_most { D.reads data_store.new + n ≤ D.reads data_store.old + tree.old.geometry.blocks }
@@ -86,14 +87,14 @@ impl Leaves {
     /// The digest of data block `n`, whose turn it is. Where none is ahead, the blocks from `n` on are read into `buffer`, as
     /// many as it has room for, eight at most.
     ///
-    /// S1 where a read failed.
+    /// Where a read failed, the data store.
     pub(crate) fn next<A: Allocator, D: BlockStore>(
         &mut self,
         tree: &mut OpenTree<A>,
         data_store: &mut D,
         n: u64,
         buffer: &mut [u8],
-    ) -> Result<Digest, StoreFault>
+    ) -> Result<Digest, Which>
         requires ahead { AreAhead D.BlockStore tree.old.hasher.salted n data_store.old self.old.digests self.old.taken self.old.held }
         requires within { n < tree.old.geometry.blocks }
         requires blocks { length (D.content data_store.old) ≡ tree.old.geometry.blocks }
@@ -102,10 +103,14 @@ impl Leaves {
         ensures sized { IfOk result (λ digest. length digest ≡ size_of tree.old.hasher.salted.algorithm) }
         ensures right { IfOk result (λ digest. D.tells data_store.old ≡ true
             → digest ≡ salted_digest tree.old.hasher.salted (slice_index_or (D.content data_store.old) n [])) }
-        ensures ahead { OnOk result (AreAhead D.BlockStore tree.old.hasher.salted (n + 1) data_store.new self.new.digests self.new.taken self.new.held) }
-        ensures reads { OnOk result (D.reads data_store.new + (self.old.held - self.old.taken) ≡ D.reads data_store.old + 1 + (self.new.held - self.new.taken)) }
-        ensures reads_most { D.reads data_store.new + n + (self.old.held - self.old.taken) ≤ D.reads data_store.old + tree.old.geometry.blocks }
+        ensures ahead { OnOk result (AreAhead D.BlockStore tree.old.hasher.salted (n
+            + 1) data_store.new self.new.digests self.new.taken self.new.held) }
+        ensures reads { OnOk result (D.reads data_store.new + (self.old.held - self.old.taken) ≡ D.reads data_store.old + 1
+            + (self.new.held - self.new.taken)) }
+        ensures reads_most { D.reads data_store.new + n + (self.old.held - self.old.taken) ≤ D.reads data_store.old
+            + tree.old.geometry.blocks }
         ensures read { IsOnlyRead D.BlockStore data_store.old data_store.new }
+        ensures which { IfErr result (λ which. which ≡ Which.Data) }
         ensures failed { OnErr result (D.failures data_store.old < D.failures data_store.new) }
         ensures unfailed { OnOk result (D.failures data_store.new ≡ D.failures data_store.old) }
         ensures opens { tree.new.blocks.items ≡ tree.old.blocks.items }
@@ -114,7 +119,9 @@ impl Leaves {
         ensures geometry { tree.new.geometry ≡ tree.old.geometry }
     {
         if self.taken == self.held {
-            self.fill(tree, data_store, n, buffer)?;
+            let Ok(()) = self.fill(tree, data_store, n, buffer) else {
+                return Err(Which::Data);
+            };
         }
         let digest = self.digests[self.taken];
         self.taken += 1;

@@ -70,7 +70,8 @@ impl<A: Allocator> OpenTree<A> {
     pub(crate) fn digest_run(&mut self, data_blocks: &[u8], out: &mut [Digest])
         requires { length data_blocks.now ≡ length out.old * self.old.geometry.data_size }
         ensures digests { (j : ℕ) → j < length out.old
-            → slice_index_or out.new j [] ≡ salted_digest self.old.hasher.salted (slice_chunk data_blocks.now self.old.geometry.data_size j) }
+            → slice_index_or out.new j [] ≡ salted_digest self.old.hasher.salted
+            (slice_chunk data_blocks.now self.old.geometry.data_size j) }
         ensures opens { self.new.blocks.items ≡ self.old.blocks.items }
         ensures root { self.new.root ≡ self.old.root }
         ensures salted { self.new.hasher.salted ≡ self.old.hasher.salted }
@@ -111,7 +112,8 @@ impl<A: Allocator> OpenTree<A> {
     /// The bytes of the open block of a level.
     pub(crate) fn block(&self, level: usize) -> &[u8]
         requires { level < length self.now.blocks.items }
-        ensures value { result.now ≡ hash_block (hashing self.now.hasher.salted self.now.geometry.hash_size) (open_at self.now.blocks.items level).digests }
+        ensures value { result.now ≡ hash_block (hashing self.now.hasher.salted self.now.geometry.hash_size)
+            (open_at self.now.blocks.items level).digests }
         ensures len { length result.now ≡ self.now.geometry.hash_size }
     {
         self.blocks[level].bytes()
@@ -124,7 +126,8 @@ impl<A: Allocator> OpenTree<A> {
         requires few { (open_at self.old.blocks.items level).index < 2 ^ 41 }
         requires room { suc level < length self.old.blocks.items
             → length (open_at self.old.blocks.items (suc level)).digests < digests_per_block self.old.geometry }
-        ensures closes { Closes (hashing self.old.hasher.salted self.old.geometry.hash_size) level self.old.blocks.items self.new.blocks.items self.old.root self.new.root }
+        ensures closes { Closes (hashing self.old.hasher.salted self.old.geometry.hash_size) level self.old.blocks.items
+            self.new.blocks.items self.old.root self.new.root }
         ensures salted { self.new.hasher.salted ≡ self.old.hasher.salted }
         ensures geometry { self.new.geometry ≡ self.old.geometry }
     {

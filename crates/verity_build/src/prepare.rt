@@ -37,7 +37,8 @@ pub(crate) fn prepare<A: Allocator + Copy, P: Allocator, D: BlockStore, H: Block
 ) -> Result<(u64, OpenTree<A>), BuildFault>
     ensures start { IfOk result (λ made. made.0 ≡ start_behind offset (H.size hash_store.now)) }
     ensures near { IfOk result (λ made. made.0 ≤ 2 ^ 40) }
-    ensures geometry { IfOk result (λ made. made.1.geometry ≡ shape_over params.now (D.size data_store.now) (H.size hash_store.now) (length (D.content data_store.now))) }
+    ensures geometry { IfOk result (λ made. made.1.geometry ≡ shape_over params.now (D.size data_store.now) (H.size hash_store.now) (length
+        (D.content data_store.now))) }
     ensures salted { IfOk result (λ made. made.1.hasher.salted ≡ salted_by params.now) }
     ensures empty { IfOk result (λ made. AreEmpty made.1.blocks.items) }
     ensures rootless { IfOk result (λ made. made.1.root ≡ None) }
@@ -70,7 +71,8 @@ pub(crate) fn superblock_of<A: Allocator + Copy, P: Allocator>(
     geometry: &Geometry,
     params: &Params<P>,
 ) -> Result<[u8; 512], BuildFault>
-    ensures value { IfOk result (λ bytes. bytes ≡ superblock (volume params.now geometry.now.data_size geometry.now.hash_size) geometry.now.blocks) }
+    ensures value { IfOk result (λ bytes. bytes ≡ superblock (volume params.now geometry.now.data_size geometry.now.hash_size)
+        geometry.now.blocks) }
     ensures fault { IfErr result (λ fault. fault ≡ BuildFault.NoMemory) }
 {
     let salt = copy_of(alloc, params.salt())?;

@@ -10,8 +10,8 @@ use Rattle.verity_superblock.specs.Image.{hash_blocks, superblock_block, tree_of
 use Rattle.verity_build.specs.Parameters.{salted_by, volume, front}
 use Rattle.verity_build.proofs.building.build_at.Goals as goal
 
-pub returns-in-Ok-write_device-clause-bytes : goal.returns-in-Ok-write_device-clause-bytes
-returns-in-Ok-write_device-clause-bytes g c = λ td th.
+pub returns-clause-bytes : goal.returns-clause-bytes
+returns-clause-bytes g c = λ td th.
     let D = g.D.BlockStore in
     let H = g.H.BlockStore in
     let image : List (List ℕ) = D.content c.args.data_store.now in
@@ -26,6 +26,6 @@ returns-in-Ok-write_device-clause-bytes g c = λ td th.
     c.in_ok-superblock.ensures.value ∙ (λ i. superblock (volume c.args.params.now (begun.geometry i).data_size (begun.geometry i).hash_size) (begun.geometry i).blocks) in
     let hashes : hashing c.in_ok-start.tree.hasher.salted s.hash_size ≡ hashing (salted_by c.args.params.now) size = λ i. hashing (begun.salted i) (hash_size i) in
     let built : H.content c.write_device.new.hash_store ≡ hash_blocks p image in_front =
-    c.in-Ok-write_device.ensures.written td (c.in-Ok.ensures.tells ∙ th)
+    c.in_ok-root.ensures.written td (c.in-Ok.ensures.tells ∙ th)
     ∙ (λ i. resized (hash_size i) (before i) (c.in-Ok.ensures.content i) ++ (zero_filled (hash_size i) (block i) ∷ tree (hashes i) image)) in
     ap concat built ∙ concat-append in_front (superblock_block p (length image) ∷ tree_of p image)

@@ -3,7 +3,7 @@ use Rattle.verity_build.specs.Ahead.{AreAhead}
 use Rattle.verity_build.specs.declared.leaves.Leaves.{Leaves}
 use Rattle.verity_build.proofs.Ahead.{ahead_taken}
 use Rattle.verity_build.proofs.leaves.Leaves.next.Goals as goal
-use Rattle.verity_build.proofs.leaves.Leaves.next.Goals.{then-self+in_ok-fill, else-self}
+use Rattle.verity_build.proofs.leaves.Leaves.next.Goals.{then-self+in-Ok, else-self}
 
 pub returns-clause-ahead : goal.returns-clause-ahead
 returns-clause-ahead g c =
@@ -13,7 +13,7 @@ returns-clause-ahead g c =
     let now = c.if-self.self in
     let taken = ahead_taken D salted n c.if-self.data_store now.digests now.taken now.held in
     elim c.if-self.branch [
-      | then-self+in_ok-fill w ↦
+      | then-self+in-Ok w ↦
           let filled = w.in_ok-fill.ensures in
           taken (omega (arith, filled.some, ap (λ x. x.taken) w.self-is, ap (λ x. x.held) w.self-is))
           (subst (λ x. AreAhead D salted n c.if-self.data_store x.digests x.taken x.held) (sym w.self-is)
