@@ -1,20 +1,16 @@
 //! The command `serve`: serves a volume over NBD, one connection after the other.
 
-use crate::command::Command;
-use crate::failure::{Failure, Word, fail};
-use crate::fault::Fault;
 use crate::opened::open_hub;
-use crate::status::{DONE, REFUSED};
-use crate::values::{number, sessions};
-use crate::words::ServeWords;
 use std::fs::File;
 use std::io;
 use std::io::{ErrorKind, Read, Write};
 use std::net::{Net, OpenListener, Shutdown, TcpListener, TcpStream};
 use std::rt::Files;
 use std::time::Duration;
+use verity_files::{Command, DONE, Failure, Fault, REFUSED, Word, fail, number, sessions};
 use verity_hub::{Hub, serve_stream};
 use verity_store::BlockStore;
+use verity_words::ServeWords;
 
 /// How many turns one session may take.
 pub const TURNS: u64 = 1 << 40;

@@ -1,16 +1,13 @@
 //! The command `talk`: serves a volume to one NBD client, over standard input and output.
 
-use crate::command::Command;
-use crate::failure::{Failure, Word};
 use crate::opened::open_hub;
 use crate::serve::TURNS;
-use crate::status::{DONE, NO_MEMORY, REFUSED};
-use crate::values::number;
-use crate::words::TalkWords;
 use std::fs::File;
 use std::io::{Read, Write};
 use std::rt::Files;
+use verity_files::{Command, DONE, Failure, NO_MEMORY, REFUSED, Word, number};
 use verity_hub::{HubFault, ServeFault, serve_stream};
+use verity_words::TalkWords;
 
 /// Serves the volume that a table line names to the client at the other end of `input` and `output`, for servers that
 /// are started for one connection. Nothing but the session's bytes is written once the greeting has begun.

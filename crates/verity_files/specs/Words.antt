@@ -8,10 +8,10 @@ use Rattle.std.specs.Str.Parse.{digits_value}
 use Rattle.hex.specs.Hex.{decode_of}
 use Rattle.verity_superblock.specs.Line.{is_path}
 use Rattle.verity_superblock.specs.Reading.{is_text}
-use Rattle.verity_tool.specs.declared.failure.Failure.{Failure}
-use Rattle.verity_tool.specs.declared.failure.Failure.TheVariants as failure
-use Rattle.verity_tool.specs.declared.failure.Word.{Word}
-use Rattle.verity_tool.specs.declared.failure.Word.TheVariants as word
+use Rattle.verity_files.specs.declared.failure.Failure.{Failure}
+use Rattle.verity_files.specs.declared.failure.Failure.TheVariants as failure
+use Rattle.verity_files.specs.declared.failure.Word.{Word}
+use Rattle.verity_files.specs.declared.failure.Word.TheVariants as word
 
 -- decimal digits whose value fits 64 bits, however many
 abbrev pub is_decimal : List ℕ → Bool
