@@ -5,9 +5,9 @@ use Rattle.verity_digest.specs.Tree.{tree}
 use Rattle.verity_store.specs.declared.store.BlockStore as store
 use Rattle.verity_check.specs.declared.fault.CheckFault.{CheckFault}
 use Rattle.verity_check.specs.declared.fault.CheckFault.TheVariants as faults
-use Rattle.verity_chain.specs.Table.{Table, hashing_of, path_index}
+use Rattle.verity_chain.specs.Table.{Table, hashing_of, height, path_index}
 use Rattle.verity_chain.specs.Right.{Fits, AreRight}
-use Rattle.verity_check.specs.Range.{ServesBytes, Wrong}
+use Rattle.verity_check.specs.Range.{ServesBytes, Wrong, touched}
 use Rattle.verity_check.specs.Refusal.{Refuses}
 use Rattle.verity_check.specs.Stores.{Marks, given_in}
 use Rattle.verity_check.specs.Holds.{Holds}
@@ -82,7 +82,7 @@ module _ {D H : Type 0} (data_facts : store.Ghosts D) (hash_facts : store.Ghosts
       steady = λ content c. (c.0, holds c.0 c.1, c.2);
       failures = let d = reads.data_store.later.failures in let h = reads.hash_store.later.failures in omega arith;
       reads = let d = reads.data_store.later.reads in let h = reads.hash_store.later.reads in omega arith;
-      cost = λ offset len n x. tt;
+      cost = λ offset len n x. subst (λ (t : Table). n ≤ touched t offset len + touched t offset len * height t) (sym reads.table) x;
     }
 
   -- what stores hold that tell, and are known by their contents
@@ -134,10 +134,15 @@ module _ {D H : Type 0} (data_facts : store.Ghosts D) (hash_facts : store.Ghosts
         }
 
     -- what the stores were read
-    pub costs : (offset len : ℕ) → Costs (facts_of data_facts hash_facts v) (facts_of data_facts hash_facts w) offset len
-    costs offset len =
-        let d = reads.data_store.later.reads in let h = reads.hash_store.later.reads in
-        (reads_of data_facts hash_facts w - reads_of data_facts hash_facts v, omega arith, tt)
+    pub costs : (offset len : ℕ) → data_facts.reads w.data_store ≤ data_facts.reads v.data_store + touched v.table offset len
+        → hash_facts.reads w.hash_store ≤ hash_facts.reads v.hash_store + touched v.table offset len * height v.table
+        → Costs (facts_of data_facts hash_facts v) (facts_of data_facts hash_facts w) offset len
+    costs offset len few most =
+        let d = reads.data_store.later.reads in
+        let h = reads.hash_store.later.reads in
+        let n : ℕ = reads_of data_facts hash_facts w - reads_of data_facts hash_facts v in
+        let within : n ≤ touched v.table offset len + touched v.table offset len * height v.table = omega (arith, few, most) in
+        (n, omega arith, subst (λ (t : Table). n ≤ touched t offset len + touched t offset len * height t) (sym reads.table) within)
 
     either_rose : DataFailed data_facts hash_facts v w ⊎ HashFailed data_facts hash_facts v w →
         failures_of data_facts hash_facts v < failures_of data_facts hash_facts w

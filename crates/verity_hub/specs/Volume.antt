@@ -3,6 +3,8 @@ use Rattle.std.specs.Prelude.{◌≡◌, ℕ, ◌+◌, ◌*◌, ◌≤◌, ◌�
 use Rattle.std.specs.List.{concat}
 use Rattle.verity_store.specs.declared.store.BlockStore as store
 use Rattle.verity_chain.specs.Right.{AreRight, bytes_of}
+use Rattle.verity_chain.specs.Table.{height}
+use Rattle.verity_check.specs.Range.{touched}
 use Rattle.verity_check.specs.Holds.{Holds}
 use Rattle.verity_check.specs.Verifier.{Verifying, given_to, MayServe, MayRefuse}
 use Rattle.nbd_session.specs.declared.offer.Offer.{Offer}
@@ -44,7 +46,8 @@ module _ {D H : Type 0} (data_facts : store.Ghosts D) (hash_facts : store.Ghosts
   abbrev pub reads_of : Verifying D H → ℕ
   reads_of v = data_facts.reads v.data_store + hash_facts.reads v.hash_store
 
-  -- what a session sees of a verifier; memory may be lacked for any range, and a range may cost any number of reads
+  -- what a session sees of a verifier; memory may be lacked for any range, and a range costs at most one read of each data block
+  -- that it touches, and for each of these as many reads of hash blocks as there are levels
   abbrev pub facts_of : Verifying D H → Facts
   facts_of v = record {
     size = v.table.data_blocks * v.table.data_block_size;
@@ -55,7 +58,7 @@ module _ {D H : Type 0} (data_facts : store.Ghosts D) (hash_facts : store.Ghosts
     steady = IsContent v;
     failures = failures_of v;
     reads = reads_of v;
-    may_cost = λ offset len n. Unit {0};
+    may_cost = λ offset len n. n ≤ touched v.table offset len + touched v.table offset len * height v.table;
   }
 
   -- The verdict is right for an image: its bytes, unless a store gave a block that clashes with it; or want of memory; or

@@ -1,8 +1,9 @@
-use Rattle.std.proofs.Common.{◌≡◌, ◌≢◌, ◌<◌, ◌+◌, arith, vec_len, vec_capacity, ℕ, ◌++◌, List, OnOk, IfErr, sym, ◌∙◌, subst}
+use Rattle.std.proofs.Common.{◌≡◌, ◌≢◌, ◌<◌, ◌≤◌, ◌+◌, ◌*◌, arith, vec_len, vec_capacity, ℕ, ◌++◌, List, OnOk, IfErr, sym, ◌∙◌, subst}
 use Rattle.nbd_session.specs.Export.{Served, Failed}
 use Rattle.verity_check.specs.declared.fault.CheckFault.{CheckFault}
 use Rattle.verity_check.specs.declared.fault.CheckFault.TheVariants as faults
-use Rattle.verity_check.specs.Range.{ServesBytes}
+use Rattle.verity_chain.specs.Table.{height}
+use Rattle.verity_check.specs.Range.{ServesBytes, touched}
 use Rattle.verity_check.specs.Refusal.{Refuses}
 use Rattle.verity_check.specs.Verifier.{Verifying, given_to, IsOnlyReading, DataFailed, HashFailed, MayRefuse}
 use Rattle.verity_hub.specs.Volume.{facts_of}
@@ -54,8 +55,14 @@ returns-clause-costs g c =
     let H = g.H.BlockStore in
     let v : Verifying g.row.D.Denot g.row.H.Denot = c.args.self.now in
     let w : Verifying g.row.D.Denot g.row.H.Denot = c.read_at-answer.new.self in
-    costs D H v w c.check.ensures (subst (λ x. IsOnlyReading D H x w) c.self.view_is c.read_at-answer.ensures.keeps) c.args.offset
-    c.args.len
+    let n : ℕ = c.args.offset in
+    let len : ℕ = c.args.len in
+    let Few : Verifying g.row.D.Denot g.row.H.Denot → Type 0 =
+    λ x. D.reads w.data_store ≤ D.reads x.data_store + touched x.table n len in
+    let Most : Verifying g.row.D.Denot g.row.H.Denot → Type 0 =
+    λ x. H.reads w.hash_store ≤ H.reads x.hash_store + touched x.table n len * height x.table in
+    costs D H v w c.check.ensures (subst (λ x. IsOnlyReading D H x w) c.self.view_is c.read_at-answer.ensures.keeps) n len
+    (subst Few c.self.view_is c.read_at-answer.ensures.data_reads) (subst Most c.self.view_is c.read_at-answer.ensures.hash_reads)
 
 pub returns-clause-unread : goal.returns-clause-unread
 returns-clause-unread g c = λ is.
