@@ -1,7 +1,8 @@
 -- What reads leave of a checked store.
-use Rattle.std.proofs.Common.{ℕ, suc, ◌+◌, ◌<◌, ◌≤◌, ◌≡◌, ◌++◌, List, [], ◌∷◌, length, Contains, Option, None, Some, sym, ap, ◌∙◌}
-use Rattle.std.proofs.Common.{subst, inl, inr, ⊎_elim, arith, refl}
-use Rattle.std.specs.Prelude.{IfSome, IsSome}
+use Rattle.std.proofs.Common.{ℕ, ◌+◌, ◌<◌, ◌≤◌, ◌≡◌, ◌≢◌, ◌++◌, List, [], ◌∷◌, length, Contains, Option, None, Some, sym, ap, ◌∙◌}
+use Rattle.std.proofs.Common.{◌≢◌, true, false, true≢false, subst, inl, inr, ⊎_elim, arith, refl}
+use Rattle.std.specs.Prelude.{IfSome}
+use Rattle.std.specs.Option.{is_some}
 use Rattle.std.proofs.lemmas.List.Elements.{Contains-push_cases}
 use Rattle.verity_store.specs.Stores.{IsOnlyRead}
 use Rattle.verity_store.specs.declared.store.BlockStore as store
@@ -11,11 +12,22 @@ use Rattle.verity_chain.specs.Stores.{hash_given, IsHashStoreOf}
 use Rattle.verity_chain.specs.Notes.{Note, AreChecked, WereGiven, KeepsNotes, ExplainsUnread}
 use Rattle.verity_chain.specs.Checked.{IsAnswer, Checking, IsChecking}
 use Rattle.verity_chain.specs.declared.notes.ReadRefused.{ReadRefused}
+use Rattle.verity_chain.specs.declared.notes.ReadRefused.TheVariants as variant
 use Rattle.verity_chain.proofs.ChainLemmas.{hash_given-grows}
 use Rattle.verity_chain.proofs.NoteLemmas.{explains_grows}
 
 some_not_none : {X : Type 0} (x : X) → Some x ≡ None → ⊥
 some_not_none x e = subst (λ o. IfSome o (λ y. ⊥)) (sym e) tt
+
+-- an option that isn't some is none
+pub not_some : {X : Type 0} (o : Option X) → is_some o ≡ false → o ≡ None
+not_some None e = refl
+not_some (Some x) e = absurd (true≢false e)
+
+-- and one that is isn't
+pub is_some_not_none : {X : Type 0} (o : Option X) → is_some o ≡ true → o ≢ None
+is_some_not_none None e same = true≢false (sym e)
+is_some_not_none (Some x) e same = some_not_none x same
 
 if_some : {X : Type 0} (o : Option X) (P Q : X → Type 0) → ((x : X) → P x → Q x) → IfSome o P → IfSome o Q
 if_some None P Q f h = tt
@@ -65,14 +77,16 @@ module _ {H : Type 0} (hash : store.Ghosts H) (c : Checking H) (new : H) (notes 
         (hash_given-grows hash c.table c.since c.hash_store new read) (λ less. omega (arith, less, unfailed)) why h)
         is.refusal;
     unrefused = is.unrefused;
-    unfailed = λ none. unfailed ∙ is.unfailed none;
+    counted = is.counted;
+    unfailed = λ other. unfailed ∙ is.unfailed other;
   }
 
   -- a read that was refused
-  pub checking_refused : (asked refused : ℕ) (why : ReadRefused) → refused ≡ c.refused + 1
+  pub checking_refused : (asked refused : ℕ) (why : ReadRefused) → c.refusal ≡ None → refused ≡ c.refused + 1
       → ExplainsUnread c.table (hash_given hash c.table c.since new) (hash.failures c.hash_store < hash.failures new) why
+      → (why ≢ variant.Store → hash.failures new ≡ hash.failures c.hash_store)
       → IsChecking hash (record c { hash_store = new; notes = notes; asked = asked; refused = refused; refusal = Some why })
-  checking_refused asked refused why more explains = record {
+  checking_refused asked refused why first more explains unfailed = record {
     store = store_later hash c.table c.hash_store new read is.store;
     blocks = is.blocks;
     since = since_later;
@@ -83,5 +97,24 @@ module _ {H : Type 0} (hash : store.Ghosts H) (c : Checking H) (new : H) (notes 
     refusal = explains_grows c.table (hash_given hash c.table c.since new) (hash_given hash c.table c.since new) _ _ (λ r i y gave. gave)
         (λ less. let old = is.failed in omega arith) why explains;
     unrefused = λ none. absurd (some_not_none why none);
-    unfailed = λ none. absurd (omega (arith, none, more));
+    counted = λ none. absurd (omega (arith, none, more));
+    unfailed = λ other. unfailed (λ same. other (ap Some same))
+        ∙ is.unfailed (λ same. some_not_none variant.Store (sym same ∙ first));
   }
+
+-- a read that was refused since one was before
+pub checking_again : {H : Type 0} (hash : store.Ghosts H) (c : Checking H) (asked refused : ℕ) → c.refusal ≢ None → refused ≡ c.refused + 1
+    → IsChecking hash c → IsChecking hash (record c { asked = asked; refused = refused })
+checking_again hash c asked refused was more is = record {
+  store = is.store;
+  blocks = is.blocks;
+  since = is.since;
+  failed = is.failed;
+  checked = is.checked;
+  noted = is.noted;
+  answers = is.answers;
+  refusal = is.refusal;
+  unrefused = λ none. absurd (was none);
+  counted = λ none. absurd (omega (arith, none, more));
+  unfailed = is.unfailed;
+}

@@ -1,5 +1,5 @@
 -- A hash store under a table line, each of whose blocks was checked.
-use Rattle.std.specs.Prelude.{ℕ, ◌+◌, ◌<◌, ◌≤◌, ◌≡◌, ◌⊎◌, List, [], ◌∷◌, length, Contains, Option, None, IfSome}
+use Rattle.std.specs.Prelude.{ℕ, ◌+◌, ◌<◌, ◌≤◌, ◌≡◌, ◌≢◌, ◌⊎◌, List, [], ◌∷◌, length, Contains, Option, None, Some, IfSome}
 use Rattle.verity_profile.specs.Profile.{zero_block}
 use Rattle.verity_digest.specs.Hash.{size_of}
 use Rattle.verity_store.specs.declared.store.BlockStore as store
@@ -7,6 +7,7 @@ use Rattle.verity_chain.specs.Table.{Table, tree_len}
 use Rattle.verity_chain.specs.Stores.{hash_given, IsHashStoreOf}
 use Rattle.verity_chain.specs.Notes.{Note, AreChecked, WereGiven, ExplainsUnread}
 use Rattle.verity_chain.specs.declared.notes.ReadRefused.{ReadRefused}
+use Rattle.verity_chain.specs.declared.notes.ReadRefused.TheVariants as refused
 
 -- what is read of a block: a noted one, or zeros in front of the tree
 abbrev pub IsAnswer : Table → List Note → ℕ → List ℕ → Type 0
@@ -14,7 +15,7 @@ IsAnswer t notes n block = ((n < t.hash_start_block) × (block ≡ zero_block t.
     Contains notes (record { number = n; block = block })
 
 -- the table line; the store below; the blocks that were read of it; those that were given; how many reads were asked for, and how
--- many refused; why the last of these was; how many blocks there are; and how many blocks the store below had given, and how
+-- many refused; why the first of these was; how many blocks there are; and how many blocks the store below had given, and how
 -- often it had failed, when this one was made
 pub record Checking (H : Type 0) : Type 0 where
   pub table : Table
@@ -45,7 +46,8 @@ pub record IsChecking {H : Type 0} (hash : store.Ghosts H) (c : Checking H) : Ty
   pub refusal : IfSome c.refusal (ExplainsUnread c.table (hash_given hash c.table c.since c.hash_store)
       (c.failed < hash.failures c.hash_store))
   pub unrefused : c.refusal ≡ None → c.refused ≡ 0
-  pub unfailed : c.refused ≡ 0 → hash.failures c.hash_store ≡ c.failed
+  pub counted : c.refused ≡ 0 → c.refusal ≡ None
+  pub unfailed : c.refusal ≢ Some refused.Store → hash.failures c.hash_store ≡ c.failed
 
 -- nothing was read yet
 abbrev pub unread : {H : Type 0} → store.Ghosts H → Table → H → Checking H

@@ -18,11 +18,13 @@
 
 mod checked;
 pub mod laws;
+mod lent;
 mod notes;
 mod place;
 mod tree;
 
 pub use checked::Checked;
+pub use lent::Lent;
 pub use notes::{Noted, ReadRefused, fetch};
 pub use place::Place;
 pub use tree::{Tree, geometry_of};

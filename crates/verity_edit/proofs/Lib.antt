@@ -9,6 +9,7 @@ mod Rows
 mod SlotLemmas
 mod RemadeLemmas
 mod WriteLemmas
+mod SeenLemmas
 mod Pushes
 mod LevelMoves
 mod LevelLemmas

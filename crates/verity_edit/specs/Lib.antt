@@ -16,6 +16,7 @@ pub mod Plan
 pub mod Written
 pub mod Level
 pub mod Standing
+pub mod Seen
 pub mod Leaves
 pub mod Making
 pub mod Carried
