@@ -2,7 +2,7 @@
 use Rattle.std.proofs.Common.{◌≡◌, ℕ, true, List, [], ◌∷◌, ◌++◌, length, drop, get_or, ⊎_elim, inl, inr, subst, sym, ap, ◌∙◌}
 use Rattle.std.proofs.lemmas.List.{take-append-drop}
 use Rattle.std.proofs.lemmas.List.Elements.{Contains-append_left, Contains-push}
-use Rattle.std.specs.Prelude.{Contains}
+use Rattle.std.specs.Prelude.{Contains, Result, Ok, Err, OnOk}
 use Rattle.verity_store.specs.Given.{GoesOn}
 use Rattle.verity_store.specs.Stores.{IsOnlyRead}
 use Rattle.verity_store.specs.declared.store.BlockStore as store
@@ -36,3 +36,12 @@ pub shows_read : {S : Type 0} (facts : store.Ghosts S) (old new : S) (n : ℕ) (
 shows_read facts old new n block blocks tells same right gave =
     ⊎_elim (λ told. sym (right (sym tells ∙ told.0)) ∙ ap (λ c. get_or c n []) (sym (told.1 ∙ same)))
     (λ only. sym (only n block (subst (λ rows. Contains rows (n, block)) (sym gave) (Contains-push (facts.given old) (n, block)))))
+
+-- .. where it was answered
+pub answer_shown : {S E : Type 0} (facts : store.Ghosts S) (old new : S) (n : ℕ) (block : List ℕ) (result : Result (Unit {0}) E)
+    → facts.tells new ≡ facts.tells old → facts.content new ≡ facts.content old
+    → OnOk result (facts.tells old ≡ true → get_or (facts.content old) n [] ≡ block)
+    → OnOk result (facts.given new ≡ facts.given old ++ (n, block) ∷ [])
+    → OnOk result ((blocks : List (List ℕ)) → Shows facts new blocks → block ≡ get_or blocks n [])
+answer_shown facts old new n block (Ok done) tells same right gave = λ blocks. shows_read facts old new n block blocks tells same right gave
+answer_shown facts old new n block (Err error) tells same right gave = tt

@@ -1,5 +1,5 @@
 //! The last data block where the count fell: it keeps its digest, but what stood behind it in its hash block goes.
-ghost use Rattle.std.specs.Prelude.{◌≡◌, ◌+◌, ◌-◌, ◌*◌, ◌<◌, ◌≤◌, true, length, take, drop, OnOk};
+ghost use Rattle.std.specs.Prelude.{◌≡◌, ℕ, ◌+◌, ◌-◌, ◌*◌, ◌<◌, ◌≤◌, List, length, take, drop, OnOk};
 ghost use Rattle.verity_digest.specs.Hash.{size_of};
 ghost use Rattle.verity_store.specs.Stores.{IsOnlyRead};
 ghost use Rattle.verity_edit.specs.Faults.{PlansOrFails};
