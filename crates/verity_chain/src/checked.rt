@@ -7,6 +7,7 @@ ghost use Rattle.verity_chain.specs.Notes.{AreChecked, WereGiven, KeepsNotes, Ex
 ghost use Rattle.verity_chain.specs.Checked.{IsAnswer, IsChecking, unread};
 
 use crate::notes::{Noted, ReadRefused, fetch};
+use crate::origin::{Origin, origin_of};
 use crate::tree::Tree;
 use std::alloc::{Allocator, Global};
 use std::marker::Model;
@@ -21,8 +22,8 @@ use verity_superblock::Table;
 ///
 /// A read is refused, with S1, where a block hasn't that digest, where the store below failed, and where memory was refused;
 /// `refusal` says which of these it was, and from then on each read is refused and asks nothing. It takes memory for each block
-/// that was read. It doesn't tell: what is written to it goes nowhere. Its `fixed` is its table line and the mark, so no call puts
-/// another store in its place unseen.
+/// that was read. It doesn't tell: what is written to it goes nowhere. Its `fixed` is its table line and what was true of
+/// the store below when this one was made, so no call puts another store in its place unseen.
 #[derive(Drop)]
 pub struct Checked<H: BlockStore, A: Allocator + Copy + Drop = Global> {
     alloc: A,
@@ -35,7 +36,7 @@ pub struct Checked<H: BlockStore, A: Allocator + Copy + Drop = Global> {
     refusal: Option<ReadRefused>,
     blocks: u64,
     since: Mark,
-    failed: Mark,
+    origin: Origin,
 }
 
 impl<H: BlockStore, A: Allocator + Copy + Drop> Model for Checked<H, A> {
@@ -53,7 +54,7 @@ impl<H: BlockStore, A: Allocator + Copy + Drop> Model for Checked<H, A> {
       refusal = s.refusal;
       blocks = s.blocks;
       since = s.since.steps;
-      failed = s.failed.steps;
+      origin = s.origin.rows;
     } };
 
     ghost invariant = { λ s. IsChecking H.BlockStore (record {
@@ -66,7 +67,7 @@ impl<H: BlockStore, A: Allocator + Copy + Drop> Model for Checked<H, A> {
       refusal = s.refusal;
       blocks = s.blocks;
       since = s.since.steps;
-      failed = s.failed.steps;
+      origin = s.origin.rows;
     }) };
 }
 
@@ -116,15 +117,6 @@ fn end_of<S: BlockStore>(_store: &S) -> Mark
     Mark::at()
 }
 
-// A mark at how often a store failed so far.
-fn failures_of<S: BlockStore>(_store: &S) -> Mark
-    ghost count: { ℕ }
-    requires { count ≡ S.failures _store.now }
-    ensures { result.steps ≡ count }
-{
-    Mark::at()
-}
-
 impl<H: BlockStore, A: Allocator + Copy + Drop> Checked<H, A> {
     /// A hash store under the table line of a tree, of which nothing was read.
     pub fn new(alloc: A, tree: Tree<A>, hash_store: H) -> Self
@@ -133,7 +125,7 @@ impl<H: BlockStore, A: Allocator + Copy + Drop> Checked<H, A> {
     {
         let blocks = tree.end();
         let since = end_of(&hash_store);
-        let failed = failures_of(&hash_store);
+        let origin = origin_of(&hash_store);
         Checked {
             alloc,
             tree,
@@ -145,7 +137,7 @@ impl<H: BlockStore, A: Allocator + Copy + Drop> Checked<H, A> {
             refusal: None,
             blocks,
             since,
-            failed,
+            origin,
         }
     }
 
@@ -170,7 +162,9 @@ impl<H: BlockStore, A: Allocator + Copy + Drop> Checked<H, A> {
         ensures store { result.1 ≡ self.hash_store }
     {
         let Checked {
-            tree, hash_store, ..
+            tree,
+            hash_store,
+            ..
         } = self;
         (tree, hash_store)
     }
@@ -195,7 +189,7 @@ impl<H: BlockStore, A: Allocator + Copy + Drop> BlockStore for Checked<H, A> {
 
     ghost room = { λ _. 0 };
 
-    ghost fixed = { λ s. bound_to s.table s.since };
+    ghost fixed = { λ s. bound_to s.table s.origin };
 
     fn block_size(&self) -> usize {
         self.tree.table().hash_block_size()

@@ -20,6 +20,7 @@ mod checked;
 pub mod laws;
 mod lent;
 mod notes;
+mod origin;
 mod place;
 mod tree;
 

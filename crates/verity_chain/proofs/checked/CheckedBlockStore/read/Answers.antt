@@ -19,7 +19,7 @@ invariant_of-self-in-Ok g c =
       blocks = i.blocks;
       since =
           i.since.steps;
-      failed = i.failed.steps;
+      origin = i.origin.rows;
     } in
     subst (λ (t : Table). IsChecking {H = g.row.H.Denot} g.H.BlockStore (record was {
       table = t;
@@ -46,7 +46,7 @@ invariant_of-self-in-Err g c =
       blocks = i.blocks;
       since =
           i.since.steps;
-      failed = i.failed.steps;
+      origin = i.origin.rows;
     } in
     subst (λ (t : Table). IsChecking {H = g.row.H.Denot} g.H.BlockStore (record was {
       table = t;
@@ -75,7 +75,7 @@ invariant_of-self g c =
       refusal = i.refusal;
       blocks = i.blocks;
       since = i.since.steps;
-      failed = i.failed.steps;
+      origin = i.origin.rows;
     } in
     checking_again g.H.BlockStore was c.step.new.self.steps c.step-then-is_some.new.self.steps
     (is_some_not_none i.refusal (sym c.is_some.ensures ∙ c.if-is_some.true)) c.step-then-is_some.ensures c.self.invariant
