@@ -70,26 +70,19 @@ rows_same a b e =
       room = (head (tail (tail (tail (tail (e i)))))).0;
     }
 
--- the numbers, the salt and the root of two table lines are the same
-pub record IsSameLine (t u : Table) : Type 0 where
-  pub algorithm : t.algorithm ≡ u.algorithm
-  pub salt : t.salt ≡ u.salt
-  pub data_block_size : t.data_block_size ≡ u.data_block_size
-  pub root : t.root ≡ u.root
-  pub hash_block_size : t.hash_block_size ≡ u.hash_block_size
-  pub data_blocks : t.data_blocks ≡ u.data_blocks
-  pub hash_start_block : t.hash_start_block ≡ u.hash_start_block
-
-pub bound_same : (t u : Table) (a b : List (ℕ × List ℕ)) → bound_to t a ≡ bound_to u b → IsSameLine t u × (a ≡ b)
+-- they are bound alike to one table line and to one store
+pub bound_same : (t u : Table) (a b : List (ℕ × List ℕ)) → bound_to t a ≡ bound_to u b → (t ≡ u) × (a ≡ b)
 bound_same t u a b e = (
-  record {
-    algorithm = algorithm_same t.algorithm u.algorithm (ap (λ xs. (head xs).0) e);
-    salt = ap (λ xs. (head xs).1) e;
-    data_block_size = ap (λ xs. (head (tail xs)).0) e;
-    root = ap (λ xs. (head (tail xs)).1) e;
-    hash_block_size = ap (λ xs. (head (tail (tail xs))).0) e;
-    data_blocks = ap (λ xs. (head (tail (tail (tail xs)))).0) e;
-    hash_start_block = ap (λ xs. (head (tail (tail (tail (tail xs))))).0) e;
+  λ i. record {
+    dev = (head (tail (tail (e i)))).1;
+    hash_dev = (head (tail (tail (tail (e i))))).1;
+    data_block_size = (head (tail (e i))).0;
+    hash_block_size = (head (tail (tail (e i)))).0;
+    data_blocks = (head (tail (tail (tail (e i))))).0;
+    hash_start_block = (head (tail (tail (tail (tail (e i)))))).0;
+    algorithm = algorithm_same t.algorithm u.algorithm (ap (λ xs. (head xs).0) e) i;
+    root = (head (tail (e i))).1;
+    salt = (head (e i)).1;
   },
   ap (λ xs. tail (tail (tail (tail (tail xs))))) e,
 )

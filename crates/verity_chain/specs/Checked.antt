@@ -30,10 +30,10 @@ pub record Checking (H : Type 0) : Type 0 where
   pub since : ℕ
   pub origin : List (ℕ × List ℕ)
 
--- what binds it to its table line, and to the store below: the line's numbers, salt and root, and what was true of the store
+-- what binds it to its table line, and to the store below: the line's values, and what was true of the store
 abbrev pub bound_to : Table → List (ℕ × List ℕ) → List (ℕ × List ℕ)
-bound_to t origin = (size_of t.algorithm, t.salt) ∷ (t.data_block_size, t.root) ∷ (t.hash_block_size, [])
-    ∷ (t.data_blocks, []) ∷ (t.hash_start_block, []) ∷ origin
+bound_to t origin = (size_of t.algorithm, t.salt) ∷ (t.data_block_size, t.root) ∷ (t.hash_block_size, t.dev)
+    ∷ (t.data_blocks, t.hash_dev) ∷ (t.hash_start_block, []) ∷ origin
 
 -- what is true of each
 pub record IsChecking {H : Type 0} (hash : store.Ghosts H) (c : Checking H) : Type 0 where

@@ -22,6 +22,7 @@ pub mod Making
 pub mod Carried
 pub mod Last
 pub mod Planning
+pub mod Under
 pub mod Committing
 pub mod Editing
 pub mod Opening
