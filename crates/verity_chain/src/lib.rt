@@ -18,14 +18,12 @@
 
 mod checked;
 pub mod laws;
-mod lent;
 mod notes;
 mod origin;
 mod place;
 mod tree;
 
 pub use checked::Checked;
-pub use lent::Lent;
 pub use notes::{Noted, ReadRefused, fetch};
 pub use place::Place;
 pub use tree::{Tree, geometry_of};

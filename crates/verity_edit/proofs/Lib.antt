@@ -20,6 +20,7 @@ mod MakingLemmas
 mod CarriedLemmas
 mod LastLemmas
 mod PlanLemmas
+mod UnderLemmas
 mod DeviceLemmas
 mod CommitLemmas
 mod OpeningLemmas

@@ -6,7 +6,7 @@ use Rattle.std.specs.Prelude.{Contains, Result, Ok, Err, OnOk}
 use Rattle.verity_store.specs.Given.{GoesOn}
 use Rattle.verity_store.specs.Stores.{IsOnlyRead}
 use Rattle.verity_store.specs.declared.store.BlockStore as store
-use Rattle.verity_edit.specs.Seen.{GaveOnly, Shows}
+use Rattle.verity_edit.specs.Seen.{Shows}
 
 -- what was given stays given
 stays_given : (old new : List (ℕ × List ℕ)) → GoesOn old new → (n : ℕ) (block : List ℕ) → Contains old (n, block) →

@@ -1,5 +1,5 @@
 -- A commit under a trusted table line. The facts of a store of the type S are S.BlockStore.
-use Rattle.std.specs.Prelude.{◌≡◌, ℕ, suc, ◌<◌, ◌⊎◌, List}
+use Rattle.std.specs.Prelude.{◌≡◌, ℕ, suc, ◌<◌, ◌⊎◌, List, Option, Some, None}
 use Rattle.verity_digest.specs.Tree.{root}
 use Rattle.verity_geometry.specs.Geometry.{levels_of}
 use Rattle.verity_store.specs.declared.store.BlockStore as store
@@ -9,6 +9,9 @@ use Rattle.verity_chain.specs.Table.{Table, height, row_len}
 use Rattle.verity_chain.specs.Chain.{WrongAt}
 use Rattle.verity_chain.specs.Right.{Fits, Clash}
 use Rattle.verity_chain.specs.Stores.{hash_given}
+use Rattle.verity_chain.specs.declared.notes.ReadRefused.{ReadRefused}
+use Rattle.verity_chain.specs.declared.notes.ReadRefused.TheVariants as refused
+use Rattle.verity_edit.specs.declared.fault.EditFault.{EditFault}
 use Rattle.verity_edit.specs.declared.fault.EditFault.TheVariants as fault
 use Rattle.verity_edit.specs.declared.planning.CommitPlan.{CommitPlan}
 use Rattle.verity_edit.specs.declared.under.PlanRefused.{PlanRefused}
@@ -48,3 +51,10 @@ ExplainsUnplanned hash t mark old new (Untrusted level index) = (level < height 
 ExplainsUnplanned hash t mark old new (Fault fault.NoMemory) = hash.failures new ≡ hash.failures old
 ExplainsUnplanned hash t mark old new (Fault (fault.Store which.Hash)) = hash.failures old < hash.failures new
 ExplainsUnplanned hash t mark old new (Fault _) = ⊥
+
+-- why there is no plan, where a read was refused for this reason, or none was
+abbrev pub refusal_of : Option ReadRefused → EditFault → PlanRefused
+refusal_of (Some (refused.Mismatch level index)) f = Untrusted level index
+refusal_of (Some refused.Store) f = Fault (fault.Store which.Hash)
+refusal_of (Some refused.NoMemory) f = Fault fault.NoMemory
+refusal_of None f = Fault f

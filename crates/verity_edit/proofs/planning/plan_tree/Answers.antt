@@ -1,7 +1,7 @@
-use Rattle.std.proofs.Common.{◌≡◌, ℕ, ◌≤◌, List, [], length, drop, get_or, arith, subst, sym, ap, ◌∙◌}
+use Rattle.std.proofs.Common.{◌≡◌, ℕ, ◌≤◌, List, [], length, get_or, arith, subst, sym, ap, ◌∙◌}
 use Rattle.std.proofs.lemmas.List.{length-map}
 use Rattle.verity_digest.specs.Hash.{hashing}
-use Rattle.verity_digest.specs.Tree.{Hashing, IsHashing, root, tree}
+use Rattle.verity_digest.specs.Tree.{Hashing, IsHashing, root}
 use Rattle.verity_digest.proofs.Sha.{IsHashing-hashing}
 use Rattle.verity_profile.proofs.Bounds.{block_size_low}
 use Rattle.verity_geometry.specs.Geometry.{Shape, IsShape, digests_per_block, levels_of}
@@ -16,7 +16,6 @@ use Rattle.verity_edit.specs.Slots.{AreNamed}
 use Rattle.verity_edit.specs.Plan.{ArePlanned}
 use Rattle.verity_edit.specs.Making.{IsEdited, StandsFor, touched_blocks}
 use Rattle.verity_edit.specs.Last.{AreEdited}
-use Rattle.verity_edit.specs.Standing.{BeginsWith}
 use Rattle.verity_edit.proofs.SeenLemmas.{shows_before}
 use Rattle.verity_edit.proofs.Drafts.{length-working, KeepsUnchanged-draft}
 use Rattle.verity_edit.proofs.PlanLemmas.{AreInTree-from, length-plan, some_image, length-some_image}
