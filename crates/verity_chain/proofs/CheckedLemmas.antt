@@ -1,21 +1,34 @@
 -- What reads leave of a checked store.
-use Rattle.std.proofs.Common.{ℕ, suc, ◌+◌, ◌<◌, ◌≤◌, ◌≡◌, ◌++◌, List, [], ◌∷◌, length, Contains, Option, None, Some, sym, ap, ◌∙◌}
-use Rattle.std.proofs.Common.{subst, inl, inr, ⊎_elim, arith, refl}
-use Rattle.std.specs.Prelude.{IfSome, IsSome}
+use Rattle.std.proofs.Common.{ℕ, ◌+◌, ◌<◌, ◌≤◌, ◌≡◌, ◌≢◌, ◌++◌, List, [], ◌∷◌, length, Contains, Option, None, Some, sym, ap, ◌∙◌}
+use Rattle.std.proofs.Common.{◌≢◌, true, false, true≢false, subst, inl, inr, ⊎_elim, arith, refl}
+use Rattle.std.specs.Prelude.{IfSome}
+use Rattle.std.specs.Option.{is_some}
 use Rattle.std.proofs.lemmas.List.Elements.{Contains-push_cases}
 use Rattle.verity_store.specs.Stores.{IsOnlyRead}
 use Rattle.verity_store.specs.declared.store.BlockStore as store
-use Rattle.verity_store.proofs.GivenLemmas.{goes_on_len}
+use Rattle.verity_store.proofs.GivenLemmas.{goes_on_then, goes_on_same}
 use Rattle.verity_chain.specs.Table.{Table, tree_len}
 use Rattle.verity_chain.specs.Stores.{hash_given, IsHashStoreOf}
 use Rattle.verity_chain.specs.Notes.{Note, AreChecked, WereGiven, KeepsNotes, ExplainsUnread}
-use Rattle.verity_chain.specs.Checked.{IsAnswer, Checking, IsChecking}
+use Rattle.verity_chain.specs.Origin.{StoreFacts, facts_of, IsReadSince}
+use Rattle.verity_chain.specs.Checked.{IsAnswer, Checking, IsChecking, unread}
 use Rattle.verity_chain.specs.declared.notes.ReadRefused.{ReadRefused}
+use Rattle.verity_chain.specs.declared.notes.ReadRefused.TheVariants as variant
 use Rattle.verity_chain.proofs.ChainLemmas.{hash_given-grows}
 use Rattle.verity_chain.proofs.NoteLemmas.{explains_grows}
 
 some_not_none : {X : Type 0} (x : X) → Some x ≡ None → ⊥
 some_not_none x e = subst (λ o. IfSome o (λ y. ⊥)) (sym e) tt
+
+-- an option that isn't some is none
+pub not_some : {X : Type 0} (o : Option X) → is_some o ≡ false → o ≡ None
+not_some None e = refl
+not_some (Some x) e = absurd (true≢false e)
+
+-- and one that is isn't
+pub is_some_not_none : {X : Type 0} (o : Option X) → is_some o ≡ true → o ≢ None
+is_some_not_none None e same = true≢false (sym e)
+is_some_not_none (Some x) e same = some_not_none x same
 
 if_some : {X : Type 0} (o : Option X) (P Q : X → Type 0) → ((x : X) → P x → Q x) → IfSome o P → IfSome o Q
 if_some None P Q f h = tt
@@ -29,6 +42,20 @@ store_later hash t old new read h = record {
   tree = λ some. subst (λ content. t.hash_start_block + tree_len t ≤ length content) (sym read.content) (h.tree some);
 }
 
+-- what was only read was only read since
+pub read_since : {H : Type 0} (hash : store.Ghosts H) (was : StoreFacts) (old new : H) → IsReadSince hash was old → IsOnlyRead hash old new
+    → IsReadSince hash was new
+read_since hash was old new since read = record {
+  content = read.content ∙ since.content;
+  fixed = read.later.fixed ∙ since.fixed;
+  tells = read.later.tells ∙ since.tells;
+  size = read.later.size ∙ since.size;
+  room = read.room ∙ since.room;
+  gave = goes_on_then was.given (hash.given old) (hash.given new) since.gave read.later.gave;
+  failures = let more = read.later.failures in let old_more = since.failures in omega arith;
+  reads = let more = read.later.reads in let old_more = since.reads in omega arith;
+}
+
 -- an answer stays one
 answer_kept : (t : Table) (old new : List Note) (n : ℕ) (block : List ℕ) → KeepsNotes old new → IsAnswer t old n block →
     IsAnswer t new n block
@@ -37,12 +64,6 @@ answer_kept t old new n block keeps = ⊎_elim inl (λ has. inr (keeps (record {
 module _ {H : Type 0} (hash : store.Ghosts H) (c : Checking H) (new : H) (notes : List Note) (is : IsChecking hash c)
     (read : IsOnlyRead hash c.hash_store new)
     (checked : AreChecked c.table notes) (noted : WereGiven hash c.since new notes) (keeps : KeepsNotes c.notes notes) where
-  since_later : c.since ≤ length (hash.given new)
-  since_later = let old = is.since in let more = goes_on_len (hash.given c.hash_store) (hash.given new) read.later.gave in omega arith
-
-  failed_later : c.failed ≤ hash.failures new
-  failed_later = let old = is.failed in let more = read.later.failures in omega arith
-
   -- a read that was answered
   pub checking_answered : (given : List (ℕ × List ℕ)) (asked n : ℕ) (block : List ℕ) → given ≡ c.given ++ (n, block) ∷ [] →
       IsAnswer c.table notes n block → hash.failures new ≡ hash.failures c.hash_store
@@ -50,8 +71,10 @@ module _ {H : Type 0} (hash : store.Ghosts H) (c : Checking H) (new : H) (notes 
   checking_answered given asked n block added answer unfailed = record {
     store = store_later hash c.table c.hash_store new read is.store;
     blocks = is.blocks;
-    since = since_later;
-    failed = failed_later;
+    since = is.since;
+    was = is.was;
+    origin = is.origin;
+    read = read_since hash is.was c.hash_store new is.read read;
     checked = checked;
     noted = noted;
     answers = λ m b has. ⊎_elim
@@ -59,29 +82,81 @@ module _ {H : Type 0} (hash : store.Ghosts H) (c : Checking H) (new : H) (notes 
         (λ here. subst (λ (row : ℕ × List ℕ). IsAnswer c.table notes row.0 row.1) here answer)
         (Contains-push_cases c.given (n, block) (m, b) (subst (λ rows. Contains rows (m, b)) added has));
     refusal = if_some c.refusal
-        (ExplainsUnread c.table (hash_given hash c.table c.since c.hash_store) (c.failed < hash.failures c.hash_store))
-        (ExplainsUnread c.table (hash_given hash c.table c.since new) (c.failed < hash.failures new))
+        (ExplainsUnread c.table (hash_given hash c.table c.since c.hash_store) (is.was.failures < hash.failures c.hash_store))
+        (ExplainsUnread c.table (hash_given hash c.table c.since new) (is.was.failures < hash.failures new))
         (λ why h. explains_grows c.table (hash_given hash c.table c.since c.hash_store) (hash_given hash c.table c.since new) _ _
         (hash_given-grows hash c.table c.since c.hash_store new read) (λ less. omega (arith, less, unfailed)) why h)
         is.refusal;
     unrefused = is.unrefused;
-    unfailed = λ none. unfailed ∙ is.unfailed none;
+    counted = is.counted;
+    unfailed = λ other. unfailed ∙ is.unfailed other;
   }
 
   -- a read that was refused
-  pub checking_refused : (asked refused : ℕ) (why : ReadRefused) → refused ≡ c.refused + 1
+  pub checking_refused : (asked refused : ℕ) (why : ReadRefused) → c.refusal ≡ None → refused ≡ c.refused + 1
       → ExplainsUnread c.table (hash_given hash c.table c.since new) (hash.failures c.hash_store < hash.failures new) why
+      → (why ≢ variant.Store → hash.failures new ≡ hash.failures c.hash_store)
       → IsChecking hash (record c { hash_store = new; notes = notes; asked = asked; refused = refused; refusal = Some why })
-  checking_refused asked refused why more explains = record {
+  checking_refused asked refused why first more explains unfailed = record {
     store = store_later hash c.table c.hash_store new read is.store;
     blocks = is.blocks;
-    since = since_later;
-    failed = failed_later;
+    since = is.since;
+    was = is.was;
+    origin = is.origin;
+    read = read_since hash is.was c.hash_store new is.read read;
     checked = checked;
     noted = noted;
     answers = λ m b has. answer_kept c.table c.notes notes m b keeps (is.answers m b has);
     refusal = explains_grows c.table (hash_given hash c.table c.since new) (hash_given hash c.table c.since new) _ _ (λ r i y gave. gave)
-        (λ less. let old = is.failed in omega arith) why explains;
+        (λ less. let old = is.read.failures in omega arith) why explains;
     unrefused = λ none. absurd (some_not_none why none);
-    unfailed = λ none. absurd (omega (arith, none, more));
+    counted = λ none. absurd (omega (arith, none, more));
+    unfailed = λ other. unfailed (λ same. other (ap Some same))
+        ∙ is.unfailed (λ same. some_not_none variant.Store (sym same ∙ first));
   }
+
+-- a read that was refused since one was before
+pub checking_again : {H : Type 0} (hash : store.Ghosts H) (c : Checking H) (asked refused : ℕ) → c.refusal ≢ None → refused ≡ c.refused + 1
+    → IsChecking hash c → IsChecking hash (record c { asked = asked; refused = refused })
+checking_again hash c asked refused was more is = record {
+  store = is.store;
+  blocks = is.blocks;
+  since = is.since;
+  was = is.was;
+  origin = is.origin;
+  read = is.read;
+  checked = is.checked;
+  noted = is.noted;
+  answers = is.answers;
+  refusal = is.refusal;
+  unrefused = λ none. absurd (was none);
+  counted = λ none. absurd (omega (arith, none, more));
+  unfailed = is.unfailed;
+}
+
+-- one of which nothing was read
+pub checking_unread : {H : Type 0} (hash : store.Ghosts H) (t : Table) (h : H) → IsHashStoreOf hash t h → IsChecking hash (unread hash t h)
+checking_unread hash t h is = record {
+  store = is;
+  blocks = omega arith;
+  was = facts_of hash h;
+  origin = refl;
+  since = refl;
+  read = record {
+    content = refl;
+    fixed = refl;
+    tells = refl;
+    size = refl;
+    room = refl;
+    gave = goes_on_same (hash.given h);
+    failures = omega arith;
+    reads = omega arith;
+  };
+  checked = λ note has. absurd (omega (arith, has.1));
+  noted = λ note has. absurd (omega (arith, has.1));
+  answers = λ n block has. absurd (omega (arith, has.1));
+  refusal = tt;
+  unrefused = λ none. refl;
+  counted = λ none. refl;
+  unfailed = λ other. refl;
+}

@@ -4,3 +4,4 @@ pub mod ChainLemmas
 pub mod NoteLaws
 pub mod NoteLemmas
 pub mod CheckedLemmas
+pub mod OriginLaws

@@ -1,13 +1,12 @@
 -- Blocks that were read and checked under a table line that is the image's are the image's own, or there is a clash.
-use Rattle.std.proofs.Common.{ℕ, zero, suc, ◌+◌, ◌-◌, ◌/◌, ◌%◌, ◌<◌, ◌≤◌, ◌≡◌, ◌⊎◌, ◌++◌, List, [], ◌∷◌, length, get_or, Contains}
-use Rattle.std.proofs.Common.{refl, sym, ap, ◌∙◌, subst, inl, inr, ⊎_elim, arith}
-use Rattle.std.proofs.lemmas.List.Elements.{Contains-append_right, Contains-get_or}
+use Rattle.std.proofs.Common.{ℕ, zero, suc, ◌<◌, ◌≤◌, ◌≡◌, ◌⊎◌, List, [], length, get_or, Contains}
+use Rattle.std.proofs.Common.{sym, ap, ◌∙◌, subst, inl, inr, ⊎_elim, arith}
+use Rattle.std.proofs.lemmas.List.Elements.{Contains-get_or}
 use Rattle.std.proofs.lemmas.List.{get_or_default}
 use Rattle.std.proofs.lemmas.Bool.{cases_lt}
-use Rattle.verity_digest.specs.Tree.{slot}
 use Rattle.verity_digest.proofs.Counts.{starts_in_order}
-use Rattle.verity_chain.specs.Table.{Table, IsTable, hashing_of, branching, height, row_len, hash_place}
-use Rattle.verity_chain.specs.Chain.{Given, AreSized, EndsChain, Link, Above}
+use Rattle.verity_chain.specs.Table.{Table, IsTable, branching, height, row_len, hash_place}
+use Rattle.verity_chain.specs.Chain.{AreSized}
 use Rattle.verity_chain.specs.Right.{Fits, own, Clash}
 use Rattle.verity_chain.specs.Notes.{Note, noted, IsNoteOf, AreChecked, AreOwn}
 use Rattle.verity_chain.proofs.ChainLaw.{own_or_clash}

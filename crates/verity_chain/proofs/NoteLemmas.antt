@@ -1,6 +1,6 @@
 -- Notes of checked hash blocks, one after the other.
-use Rattle.std.proofs.Common.{ℕ, zero, suc, ◌+◌, ◌/◌, ◌%◌, ◌<◌, ◌≤◌, ◌≡◌, ◌≢◌, ◌⊎◌, ◌++◌, List, [], ◌∷◌, length, get_or, Contains}
-use Rattle.std.proofs.Common.{true, refl, sym, ap, ◌∙◌, subst, ⊎_elim, arith, Result, Ok, Err, IfErr}
+use Rattle.std.proofs.Common.{ℕ, zero, suc, ◌/◌, ◌%◌, ◌<◌, ◌≡◌, ◌≢◌, ◌++◌, List, [], ◌∷◌, Contains}
+use Rattle.std.proofs.Common.{sym, ◌∙◌, subst, ⊎_elim, Result, Ok, Err, IfErr}
 use Rattle.std.proofs.lemmas.List.Elements.{Contains-append_left, Contains-push, Contains-push_cases, Contains-get_or}
 use Rattle.verity_digest.specs.Tree.{slot}
 use Rattle.verity_store.specs.Stores.{IsOnlyRead}

@@ -1,12 +1,14 @@
 -- A hash store under a table line, each of whose blocks was checked.
-use Rattle.std.specs.Prelude.{ℕ, ◌+◌, ◌<◌, ◌≤◌, ◌≡◌, ◌⊎◌, List, [], ◌∷◌, length, Contains, Option, None, IfSome}
+use Rattle.std.specs.Prelude.{ℕ, ◌+◌, ◌<◌, ◌≤◌, ◌≡◌, ◌≢◌, ◌⊎◌, List, [], ◌∷◌, length, Contains, Option, None, Some, IfSome}
 use Rattle.verity_profile.specs.Profile.{zero_block}
 use Rattle.verity_digest.specs.Hash.{size_of}
 use Rattle.verity_store.specs.declared.store.BlockStore as store
 use Rattle.verity_chain.specs.Table.{Table, tree_len}
 use Rattle.verity_chain.specs.Stores.{hash_given, IsHashStoreOf}
+use Rattle.verity_chain.specs.Origin.{StoreFacts, facts_of, IsReadSince, rows_of}
 use Rattle.verity_chain.specs.Notes.{Note, AreChecked, WereGiven, ExplainsUnread}
 use Rattle.verity_chain.specs.declared.notes.ReadRefused.{ReadRefused}
+use Rattle.verity_chain.specs.declared.notes.ReadRefused.TheVariants as refused
 
 -- what is read of a block: a noted one, or zeros in front of the tree
 abbrev pub IsAnswer : Table → List Note → ℕ → List ℕ → Type 0
@@ -14,8 +16,8 @@ IsAnswer t notes n block = ((n < t.hash_start_block) × (block ≡ zero_block t.
     Contains notes (record { number = n; block = block })
 
 -- the table line; the store below; the blocks that were read of it; those that were given; how many reads were asked for, and how
--- many refused; why the last of these was; how many blocks there are; and how many blocks the store below had given, and how
--- often it had failed, when this one was made
+-- many refused; why the first of these was; how many blocks there are; how many blocks the store below had given when this one was
+-- made; and all that was true of it then
 pub record Checking (H : Type 0) : Type 0 where
   pub table : Table
   pub hash_store : H
@@ -26,26 +28,29 @@ pub record Checking (H : Type 0) : Type 0 where
   pub refusal : Option ReadRefused
   pub blocks : ℕ
   pub since : ℕ
-  pub failed : ℕ
+  pub origin : List (ℕ × List ℕ)
 
--- what binds it to its table line, and to how many blocks the store below had given: the line's numbers, salt and root
-abbrev pub bound_to : Table → ℕ → List (ℕ × List ℕ)
-bound_to t since = (size_of t.algorithm, t.salt) ∷ (t.data_block_size, t.root) ∷ (t.hash_block_size, [])
-    ∷ (t.data_blocks, []) ∷ (t.hash_start_block, []) ∷ (since, []) ∷ []
+-- what binds it to its table line, and to the store below: the line's values, and what was true of the store
+abbrev pub bound_to : Table → List (ℕ × List ℕ) → List (ℕ × List ℕ)
+bound_to t origin = (size_of t.algorithm, t.salt) ∷ (t.data_block_size, t.root) ∷ (t.hash_block_size, t.dev)
+    ∷ (t.data_blocks, t.hash_dev) ∷ (t.hash_start_block, []) ∷ origin
 
 -- what is true of each
 pub record IsChecking {H : Type 0} (hash : store.Ghosts H) (c : Checking H) : Type 0 where
   pub store : IsHashStoreOf hash c.table c.hash_store
   pub blocks : c.blocks ≤ c.table.hash_start_block + tree_len c.table
-  pub since : c.since ≤ length (hash.given c.hash_store)
-  pub failed : c.failed ≤ hash.failures c.hash_store
+  pub was : StoreFacts
+  pub origin : c.origin ≡ rows_of was
+  pub since : c.since ≡ length was.given
+  pub read : IsReadSince hash was c.hash_store
   pub checked : AreChecked c.table c.notes
   pub noted : WereGiven hash c.since c.hash_store c.notes
   pub answers : (n : ℕ) (block : List ℕ) → Contains c.given (n, block) → IsAnswer c.table c.notes n block
   pub refusal : IfSome c.refusal (ExplainsUnread c.table (hash_given hash c.table c.since c.hash_store)
-      (c.failed < hash.failures c.hash_store))
+      (was.failures < hash.failures c.hash_store))
   pub unrefused : c.refusal ≡ None → c.refused ≡ 0
-  pub unfailed : c.refused ≡ 0 → hash.failures c.hash_store ≡ c.failed
+  pub counted : c.refused ≡ 0 → c.refusal ≡ None
+  pub unfailed : c.refusal ≢ Some refused.Store → hash.failures c.hash_store ≡ was.failures
 
 -- nothing was read yet
 abbrev pub unread : {H : Type 0} → store.Ghosts H → Table → H → Checking H
@@ -59,5 +64,5 @@ unread hash t h = record {
   refusal = None;
   blocks = t.hash_start_block + tree_len t;
   since = length (hash.given h);
-  failed = hash.failures h;
+  origin = rows_of (facts_of hash h);
 }

@@ -4,4 +4,5 @@ pub mod Right
 pub mod Stores
 pub mod Texts
 pub mod Notes
+pub mod Origin
 pub mod Checked

@@ -1,5 +1,5 @@
 //! A hash store under a table line: each block that it gives was checked.
-ghost use Rattle.std.specs.Prelude.{◌≡◌, ℕ, ◌+◌, ◌<◌, ◌≤◌, length, OnOk, IfErr};
+ghost use Rattle.std.specs.Prelude.{◌≡◌, ◌≢◌, ℕ, ◌+◌, ◌<◌, ◌≤◌, length, OnOk, IfErr};
 ghost use Rattle.verity_store.specs.Stores.{IsOnlyRead};
 ghost use Rattle.verity_chain.specs.Table.{tree_len};
 ghost use Rattle.verity_chain.specs.Stores.{hash_given, IsHashStoreOf};
@@ -7,6 +7,7 @@ ghost use Rattle.verity_chain.specs.Notes.{AreChecked, WereGiven, KeepsNotes, Ex
 ghost use Rattle.verity_chain.specs.Checked.{IsAnswer, IsChecking, unread};
 
 use crate::notes::{Noted, ReadRefused, fetch};
+use crate::origin::{Origin, origin_of};
 use crate::tree::Tree;
 use std::alloc::{Allocator, Global};
 use std::marker::Model;
@@ -19,9 +20,10 @@ use verity_superblock::Table;
 /// from the store below since it was made, and has the digest that its parent, which was checked likewise, or the table line
 /// names. In front of the tree it gives zeros.
 ///
-/// A read fails with S1 where a block hasn't that digest, where the store below failed, and where memory was refused;
-/// `refusal` says which of these the last one was. It takes memory for each block that was read. It doesn't tell: what is
-/// written to it goes nowhere. Its `fixed` is its table line and the mark, so no call puts another store in its place unseen.
+/// A read is refused, with S1, where a block hasn't that digest, where the store below failed, and where memory was refused;
+/// `refusal` says which of these it was, and from then on each read is refused and asks nothing. It takes memory for each block
+/// that was read. It doesn't tell: what is written to it goes nowhere. Its `fixed` is its table line and what was true of
+/// the store below when this one was made, so no call puts another store in its place unseen.
 #[derive(Drop)]
 pub struct Checked<H: BlockStore, A: Allocator + Copy + Drop = Global> {
     alloc: A,
@@ -34,7 +36,7 @@ pub struct Checked<H: BlockStore, A: Allocator + Copy + Drop = Global> {
     refusal: Option<ReadRefused>,
     blocks: u64,
     since: Mark,
-    failed: Mark,
+    origin: Origin,
 }
 
 impl<H: BlockStore, A: Allocator + Copy + Drop> Model for Checked<H, A> {
@@ -52,7 +54,7 @@ impl<H: BlockStore, A: Allocator + Copy + Drop> Model for Checked<H, A> {
       refusal = s.refusal;
       blocks = s.blocks;
       since = s.since.steps;
-      failed = s.failed.steps;
+      origin = s.origin.rows;
     } };
 
     ghost invariant = { λ s. IsChecking H.BlockStore (record {
@@ -65,7 +67,7 @@ impl<H: BlockStore, A: Allocator + Copy + Drop> Model for Checked<H, A> {
       refusal = s.refusal;
       blocks = s.blocks;
       since = s.since.steps;
-      failed = s.failed.steps;
+      origin = s.origin.rows;
     }) };
 }
 
@@ -92,6 +94,7 @@ fn look_up<H: BlockStore, A: Allocator + Copy + Drop>(
     ensures err { IfErr result (ExplainsUnread tree.old (hash_given H.BlockStore tree.old since.now.steps store.new)
         (H.failures store.old < H.failures store.new)) }
     ensures unfailed { OnOk result (H.failures store.new ≡ H.failures store.old) }
+    ensures refused_unfailed { IfErr result (λ why. why ≢ ReadRefused.Store → H.failures store.new ≡ H.failures store.old) }
     ensures keeps { IsOnlyRead H.BlockStore store.old store.new }
     ensures same { tree.new ≡ tree.old }
 {
@@ -114,15 +117,6 @@ fn end_of<S: BlockStore>(_store: &S) -> Mark
     Mark::at()
 }
 
-// A mark at how often a store failed so far.
-fn failures_of<S: BlockStore>(_store: &S) -> Mark
-    ghost count: { ℕ }
-    requires { count ≡ S.failures _store.now }
-    ensures { result.steps ≡ count }
-{
-    Mark::at()
-}
-
 impl<H: BlockStore, A: Allocator + Copy + Drop> Checked<H, A> {
     /// A hash store under the table line of a tree, of which nothing was read.
     pub fn new(alloc: A, tree: Tree<A>, hash_store: H) -> Self
@@ -131,7 +125,7 @@ impl<H: BlockStore, A: Allocator + Copy + Drop> Checked<H, A> {
     {
         let blocks = tree.end();
         let since = end_of(&hash_store);
-        let failed = failures_of(&hash_store);
+        let origin = origin_of(&hash_store);
         Checked {
             alloc,
             tree,
@@ -143,7 +137,7 @@ impl<H: BlockStore, A: Allocator + Copy + Drop> Checked<H, A> {
             refusal: None,
             blocks,
             since,
-            failed,
+            origin,
         }
     }
 
@@ -155,19 +149,24 @@ impl<H: BlockStore, A: Allocator + Copy + Drop> Checked<H, A> {
         self.tree.table()
     }
 
-    /// Why the last read that was refused was.
+    /// Why a read was refused, if one was.
     pub fn refusal(&self) -> Option<ReadRefused>
         ensures { result ≡ self.now.refusal }
     {
         self.refusal
     }
 
-    /// Gives the store below back. The notes are dropped.
-    pub fn into_inner(self) -> H
-        ensures { result ≡ self.hash_store }
+    /// Gives the tree and the store below back. The notes are dropped.
+    pub fn into_parts(self) -> (Tree<A>, H)
+        ensures tree { result.0 ≡ self.table }
+        ensures store { result.1 ≡ self.hash_store }
     {
-        let Checked { hash_store, .. } = self;
-        hash_store
+        let Checked {
+            tree,
+            hash_store,
+            ..
+        } = self;
+        (tree, hash_store)
     }
 }
 
@@ -190,7 +189,7 @@ impl<H: BlockStore, A: Allocator + Copy + Drop> BlockStore for Checked<H, A> {
 
     ghost room = { λ _. 0 };
 
-    ghost fixed = { λ s. bound_to s.table s.since };
+    ghost fixed = { λ s. bound_to s.table s.origin };
 
     fn block_size(&self) -> usize {
         self.tree.table().hash_block_size()
@@ -202,6 +201,10 @@ impl<H: BlockStore, A: Allocator + Copy + Drop> BlockStore for Checked<H, A> {
 
     fn read(&mut self, n: u64, out: &mut [u8]) -> Result<(), StoreFault> {
         self.asked.step();
+        if self.refusal.is_some() {
+            self.refused.step();
+            return Err(StoreFault::Device);
+        }
         match look_up(
             self.alloc,
             &mut self.tree,

@@ -19,6 +19,7 @@
 mod checked;
 pub mod laws;
 mod notes;
+mod origin;
 mod place;
 mod tree;
 

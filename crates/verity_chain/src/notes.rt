@@ -1,5 +1,5 @@
 //! Hash blocks that were read and checked, each noted with its number.
-ghost use Rattle.std.specs.Prelude.{◌≡◌, suc, ◌+◌, ◌<◌, ◌≤◌, length, OnOk, IfOk, IfErr, IfSome};
+ghost use Rattle.std.specs.Prelude.{◌≡◌, ◌≢◌, suc, ◌+◌, ◌<◌, ◌≤◌, length, OnOk, IfOk, IfErr, IfSome};
 ghost use Rattle.verity_store.specs.Stores.{IsOnlyRead};
 ghost use Rattle.verity_chain.specs.Table.{height, row_len, hash_place};
 ghost use Rattle.verity_chain.specs.Chain.{Names};
@@ -106,6 +106,7 @@ fn take<H: BlockStore, A: Allocator + Copy + Drop>(
     ensures err { IfErr result (ExplainsUnread tree.old (hash_given H.BlockStore tree.old since.now.steps store.new)
         (H.failures store.old < H.failures store.new)) }
     ensures unfailed { OnOk result (H.failures store.new ≡ H.failures store.old) }
+    ensures refused_unfailed { IfErr result (λ why. why ≢ ReadRefused.Store → H.failures store.new ≡ H.failures store.old) }
     ensures keeps { IsOnlyRead H.BlockStore store.old store.new }
     ensures reads { H.reads store.new + length notes.old.items ≤ H.reads store.old + length notes.new.items + 1 }
     ensures read { OnOk result (H.reads store.new + length notes.old.items ≡ H.reads store.old + length notes.new.items) }
@@ -157,6 +158,7 @@ pub fn fetch<H: BlockStore, A: Allocator + Copy + Drop>(
     ensures err { IfErr result (ExplainsUnread tree.old (hash_given H.BlockStore tree.old since.now.steps store.new)
         (H.failures store.old < H.failures store.new)) }
     ensures unfailed { OnOk result (H.failures store.new ≡ H.failures store.old) }
+    ensures refused_unfailed { IfErr result (λ why. why ≢ ReadRefused.Store → H.failures store.new ≡ H.failures store.old) }
     ensures keeps { IsOnlyRead H.BlockStore store.old store.new }
     ensures reads { H.reads store.new + length notes.old.items ≤ H.reads store.old + length notes.new.items + 1 }
     ensures read { OnOk result (H.reads store.new + length notes.old.items ≡ H.reads store.old + length notes.new.items) }

@@ -1,5 +1,5 @@
 -- Runs of calls of a store: what each call leaves, all of them leave.
-use Rattle.std.proofs.Common.{◌≡◌, ℕ, ◌≤◌, List, refl, ◌∙◌, arith}
+use Rattle.std.proofs.Common.{◌≡◌, ◌≤◌, refl, ◌∙◌, arith}
 use Rattle.verity_store.specs.Given.{GoesOn}
 use Rattle.verity_store.proofs.GivenLemmas.{goes_on_then}
 use Rattle.verity_store.specs.Stores.{IsLater, StaysStore, IsOnlyWritten, IsKept}

@@ -9,6 +9,7 @@ mod Rows
 mod SlotLemmas
 mod RemadeLemmas
 mod WriteLemmas
+mod SeenLemmas
 mod Pushes
 mod LevelMoves
 mod LevelLemmas
@@ -19,6 +20,7 @@ mod MakingLemmas
 mod CarriedLemmas
 mod LastLemmas
 mod PlanLemmas
+mod UnderLemmas
 mod DeviceLemmas
 mod CommitLemmas
 mod OpeningLemmas

@@ -16,11 +16,13 @@ pub mod Plan
 pub mod Written
 pub mod Level
 pub mod Standing
+pub mod Seen
 pub mod Leaves
 pub mod Making
 pub mod Carried
 pub mod Last
 pub mod Planning
+pub mod Under
 pub mod Committing
 pub mod Editing
 pub mod Opening

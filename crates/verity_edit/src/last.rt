@@ -1,8 +1,9 @@
 //! The last data block where the count fell: it keeps its digest, but what stood behind it in its hash block goes.
-ghost use Rattle.std.specs.Prelude.{◌≡◌, ◌+◌, ◌-◌, ◌*◌, ◌<◌, ◌≤◌, true, length, take, drop, OnOk};
+ghost use Rattle.std.specs.Prelude.{◌≡◌, ℕ, ◌+◌, ◌-◌, ◌*◌, ◌<◌, ◌≤◌, List, length, take, drop, OnOk};
 ghost use Rattle.verity_digest.specs.Hash.{size_of};
 ghost use Rattle.verity_store.specs.Stores.{IsOnlyRead};
 ghost use Rattle.verity_edit.specs.Faults.{PlansOrFails};
+ghost use Rattle.verity_edit.specs.Seen.{Shows};
 ghost use Rattle.verity_edit.specs.Slots.{AreSized, AreWithin};
 ghost use Rattle.verity_edit.specs.Making.{IsChange};
 ghost use Rattle.verity_edit.specs.Last.{AddsLast, NamesLast, AreChanged, AreEdited, NamesEdited};
@@ -49,8 +50,8 @@ pub fn add_last<H: BlockStore, A: Allocator>(
     requires sized { length block.old ≡ H.size hash_store.old }
     requires fell { change.now.new.blocks < change.now.old.blocks }
     ensures added { OnOk result (AddsLast (size_of algorithm) (change.now.new.blocks - 1) leaves.old.items leaves.new.items) }
-    ensures named { OnOk result (H.tells hash_store.old ≡ true
-        → NamesLast change.now (H.content hash_store.old) leaves.old.items leaves.new.items) }
+    ensures named { OnOk result ((content : List (List ℕ)) → Shows H.BlockStore hash_store.new content →
+        NamesLast change.now content leaves.old.items leaves.new.items) }
     ensures fails { PlansOrFails result (H.failures hash_store.old) (H.failures hash_store.new) }
     ensures reads { H.reads hash_store.new ≤ H.reads hash_store.old + 1 }
     ensures read_only { IsOnlyRead H.BlockStore hash_store.old hash_store.new }
@@ -91,8 +92,8 @@ pub fn add_fallen<H: BlockStore, A: Allocator + Copy>(
     requires leaves_sized { AreSized (size_of algorithm) leaves.old.items }
     requires leaves_within { AreWithin change.now.new.blocks leaves.old.items }
     ensures edited { OnOk result (AreEdited pending.now leaves.new.items) }
-    ensures named { OnOk result (H.tells hash_store.old ≡ true
-        → NamesEdited change.now (H.content hash_store.old) pending.now leaves.old.items leaves.new.items) }
+    ensures named { OnOk result ((content : List (List ℕ)) → Shows H.BlockStore hash_store.new content →
+        NamesEdited change.now content pending.now leaves.old.items leaves.new.items) }
     ensures edited_sized { OnOk result (AreSized (size_of algorithm) leaves.new.items) }
     ensures edited_within { OnOk result (AreWithin change.now.new.blocks leaves.new.items) }
     ensures fails { PlansOrFails result (H.failures hash_store.old) (H.failures hash_store.new) }

@@ -5,6 +5,7 @@ ghost use Rattle.verity_digest.specs.Tree.{pack};
 ghost use Rattle.verity_digest.specs.Hash.{hashing, size_of};
 ghost use Rattle.verity_store.specs.Stores.{IsOnlyRead, TellsFailure};
 ghost use Rattle.verity_edit.specs.Faults.{PlansOrFails};
+ghost use Rattle.verity_edit.specs.Seen.{Shows};
 ghost use Rattle.verity_edit.specs.Slots.{slots, AreSized};
 ghost use Rattle.verity_edit.specs.Plan.{numbers_of, places, ArePlanned, AddsPlanned, AddsChild, made_blocks, made_digests};
 
@@ -52,8 +53,8 @@ fn read_old<H: BlockStore>(
 ) -> Result<(), StoreFault>
     requires level { IsLevel level.now (length (H.content hash_store.old)) (H.size hash_store.old) level.now.digest_size }
     requires sized { length block.old ≡ H.size hash_store.old }
-    ensures read { OnOk result (H.tells hash_store.old ≡ true → index < level.now.old.len
-        → block.new ≡ slice_index_or (H.content hash_store.old) (level.now.old.start + index) []) }
+    ensures read { OnOk result ((content : List (List ℕ)) → Shows H.BlockStore hash_store.new content →
+        index < level.now.old.len → block.new ≡ slice_index_or content (level.now.old.start + index) []) }
     ensures first { OnOk result (level.now.old.len ≤ index → index ≡ 0
         → IfSome level.now.old.first (λ digest. slice_index_or (slots level.now.digest_size level.now.per_block block.new) 0 [] ≡ digest)) }
     ensures fails { TellsFailure result (H.failures hash_store.old) (H.failures hash_store.new) }
@@ -86,9 +87,9 @@ fn make_again<H: BlockStore, A: Allocator>(
     requires children { AreChildren level.now children.now }
     requires sized { length block.old ≡ H.size hash_store.old }
     requires index { index * level.now.per_block < level.now.digests }
-    ensures made { IfOk result (λ digest. H.tells hash_store.old ≡ true → (old new : List (List ℕ))
+    ensures made { IfOk result (λ digest. (content : List (List ℕ)) → Shows H.BlockStore hash_store.new content → (old new : List (List ℕ))
         → let h = hashing hasher.old.salted (length block.old) in
-        length new ≡ level.now.digests → Holds h old level.now.old (H.content hash_store.old)
+        length new ≡ level.now.digests → Holds h old level.now.old content
         → Renews level.now.digest_size old new children.now
         → (block.new ≡ slice_index_or (pack h new) index []) × (digest ≡ h.digest (slice_index_or (pack h new) index []))) }
     ensures digest_size { IfOk result (λ digest. length digest ≡ level.now.digest_size) }
@@ -122,9 +123,9 @@ fn make_block<H: BlockStore, A: Allocator + Copy>(
     requires children { AreChildren level.now children.now }
     requires sized { length block.old ≡ H.size hash_store.old }
     requires index { index * level.now.per_block < level.now.digests }
-    ensures made { OnOk result (H.tells hash_store.old ≡ true → (old new : List (List ℕ))
+    ensures made { OnOk result ((content : List (List ℕ)) → Shows H.BlockStore hash_store.new content → (old new : List (List ℕ))
         → let h = hashing hasher.old.salted (length block.old) in
-        length new ≡ level.now.digests → Holds h old level.now.old (H.content hash_store.old)
+        length new ≡ level.now.digests → Holds h old level.now.old content
         → Renews level.now.digest_size old new children.now
         → (plan.new.items ≡ plan.old.items ++ made_blocks h new level.now.start (index ∷ []))
         × (next.new.items ≡ next.old.items ++ made_digests h new (index ∷ []))) }
@@ -171,9 +172,9 @@ pub fn make_level<H: BlockStore, A: Allocator + Copy>(
     requires children { AreChildren level.now children.now }
     requires sized { length block.old ≡ H.size hash_store.old }
     requires below { (t : ℕ) → t < length numbers.now → slice_index numbers.now t * level.now.per_block < level.now.digests }
-    ensures made { IfOk result (λ next. H.tells hash_store.old ≡ true → (old new : List (List ℕ))
+    ensures made { IfOk result (λ next. (content : List (List ℕ)) → Shows H.BlockStore hash_store.new content → (old new : List (List ℕ))
         → let h = hashing hasher.old.salted (length block.old) in
-        length new ≡ level.now.digests → Holds h old level.now.old (H.content hash_store.old)
+        length new ≡ level.now.digests → Holds h old level.now.old content
         → Renews level.now.digest_size old new children.now
         → (plan.new.items ≡ plan.old.items ++ made_blocks h new level.now.start numbers.now)
         × (next.items ≡ made_digests h new numbers.now)) }

@@ -41,6 +41,7 @@ mod plan;
 mod planning;
 mod running;
 mod tree;
+mod under;
 mod writes;
 
 pub use command::{Command, Committed, Reply};

@@ -8,6 +8,7 @@ ghost use Rattle.verity_superblock.specs.Superblock.{salted};
 ghost use Rattle.verity_superblock.specs.Image.{superblock_block};
 ghost use Rattle.verity_store.specs.Stores.{IsOnlyRead};
 ghost use Rattle.verity_edit.specs.Faults.{PlansOrFails};
+ghost use Rattle.verity_edit.specs.Seen.{Shows};
 ghost use Rattle.verity_edit.specs.Draft.{edits_of};
 ghost use Rattle.verity_edit.specs.Touched.{bound, touched_count};
 ghost use Rattle.verity_edit.specs.Plan.{ArePlanned};
@@ -148,8 +149,9 @@ fn plan_tree<H: BlockStore, A: Allocator + Copy>(
     requires working { pending.now.working ≡ change.now.new.blocks }
     requires zero { zero.now ≡ zero_block pending.now.size }
     requires sized { length block.old ≡ H.size hash_store.old }
-    ensures right { IfOk result (λ plan. H.tells hash_store.old ≡ true → (image : List (List ℕ)) → length image ≡ pending.now.committed
-        → let h = hashing hasher.old.salted (length block.old) in BeginsWith (drop change.now.first (H.content hash_store.old))
+    ensures right { IfOk result (λ plan. (content : List (List ℕ)) → Shows H.BlockStore hash_store.new content → (image : List (List ℕ))
+        → length image ≡ pending.now.committed
+        → let h = hashing hasher.old.salted (length block.old) in BeginsWith (drop change.now.first content)
         (tree h image) → change.now.root ≡ root h image
         → (plan.made.items ≡ touched_blocks h (edits_of image pending.now) change.now.first change.now.new.blocks
         (levels_of change.now.new))
@@ -199,8 +201,8 @@ pub fn plan_commit<H: BlockStore, A: Allocator + Copy>(
     requires root_size { length root ≡ size_of superblock.now.params.algorithm }
     requires within { first + total_of (volume_shape superblock.now.params superblock.now.data_blocks) ≤ length (H.content hash_store.old) }
     ensures plan { IfOk result (λ plan. IsPlan superblock.now pending.now first root plan) }
-    ensures right { IfOk result (λ plan. H.tells hash_store.old ≡ true
-        → IsRight superblock.now pending.now first root (H.content hash_store.old) plan) }
+    ensures right { IfOk result (λ plan. (content : List (List ℕ)) → Shows H.BlockStore hash_store.new content →
+        IsRight superblock.now pending.now first root content plan) }
     ensures counted { IfOk result (λ plan. hasher.new.hashed ≡ hasher.old.hashed + plan.hashed) }
     ensures salted { hasher.new.salted ≡ hasher.old.salted }
     ensures fails { PlansOrFails result (H.failures hash_store.old) (H.failures hash_store.new) }

@@ -6,6 +6,7 @@ ghost use Rattle.verity_digest.specs.Shape.{row_len};
 ghost use Rattle.verity_geometry.specs.Geometry.{digests_per_block, levels_of, start_of};
 ghost use Rattle.verity_store.specs.Stores.{IsOnlyRead};
 ghost use Rattle.verity_edit.specs.Faults.{PlansOrFails};
+ghost use Rattle.verity_edit.specs.Seen.{Shows};
 ghost use Rattle.verity_edit.specs.Parents.{parents};
 ghost use Rattle.verity_edit.specs.Level.{Holds, Renews};
 ghost use Rattle.verity_edit.specs.Edits.{Edits};
@@ -108,10 +109,10 @@ fn make_next<H: BlockStore, A: Allocator + Copy>(
     requires sized { length block.old ≡ H.size hash_store.old }
     requires children_sized { AreSized (size_of hasher.old.salted.algorithm) children.now }
     requires children_within { AreWithin (row_len (digests_per_block change.now.new) change.now.new.blocks level) children.now }
-    ensures made { IfOk result (λ next. H.tells hash_store.old ≡ true → (old new : List (List ℕ))
+    ensures made { IfOk result (λ next. (content : List (List ℕ)) → Shows H.BlockStore hash_store.new content → (old new : List (List ℕ))
         → let h = hashing hasher.old.salted (length block.old) in
         length new ≡ row_len (digests_per_block change.now.new) change.now.new.blocks level
-        → Holds h old (level_of change.now level).old (H.content hash_store.old) → Renews h.digest_size old new children.now
+        → Holds h old (level_of change.now level).old content → Renews h.digest_size old new children.now
         → let up = parents (digests_per_block change.now.new) (numbers_of children.now) in
         (plan.new.items ≡ plan.old.items ++ made_blocks h new (change.now.first + start_of change.now.new level) up)
         × (next.items ≡ made_digests h new up)) }
@@ -168,10 +169,10 @@ pub fn make_tree<H: BlockStore, A: Allocator + Copy>(
     requires empty { plan.old.items ≡ [] }
     requires leaves_sized { AreSized (size_of hasher.old.salted.algorithm) leaves.items }
     requires leaves_within { AreWithin change.now.new.blocks leaves.items }
-    ensures made { IfOk result (λ digest. H.tells hash_store.old ≡ true → (e : Edits)
+    ensures made { IfOk result (λ digest. (content : List (List ℕ)) → Shows H.BlockStore hash_store.new content → (e : Edits)
         → IsEdited e change.now.old.blocks change.now.new.blocks leaves.items
         → let h = hashing hasher.old.salted (length block.old) in
-        StandsFor h e change.now.first (H.content hash_store.old) change.now.root leaves.items
+        StandsFor h e change.now.first content change.now.root leaves.items
         → (plan.new.items ≡ touched_blocks h e change.now.first change.now.new.blocks (levels_of change.now.new))
         × (digest ≡ root h e.working)) }
     ensures places { OnOk result ((e : Edits) → IsEdited e change.now.old.blocks change.now.new.blocks leaves.items

@@ -1,4 +1,4 @@
-use Rattle.std.proofs.Common.{rules, ◌≡◌, ℕ, [], List, length, sym, ap, ◌∙◌, Contains}
+use Rattle.std.proofs.Common.{◌≡◌, [], List, length, sym, ap, ◌∙◌}
 use Rattle.std.proofs.lemmas.List.{get_or_default}
 use Rattle.verity_chain.specs.Notes.{Note, note_at}
 use Rattle.verity_chain.proofs.NoteLemmas.{note_here}

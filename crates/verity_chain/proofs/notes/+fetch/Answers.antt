@@ -1,11 +1,10 @@
-use Rattle.std.proofs.Common.{rules, ◌≡◌, ℕ, suc, ◌+◌, ◌<◌, ◌/◌, ◌%◌, List, [], length, get_or, IfErr, sym, ap, ◌∙◌, subst, arith}
+use Rattle.std.proofs.Common.{rules, ◌≡◌, ℕ, suc, ◌+◌, ◌<◌, ◌/◌, ◌%◌, List, [], length, sym, ap, ◌∙◌, subst, arith}
 use Rattle.std.proofs.lemmas.List.{get_or_default}
 use Rattle.verity_digest.specs.Tree.{slot}
-use Rattle.verity_chain.specs.Table.{Table, hashing_of, branching, height, row_len, hash_place}
-use Rattle.verity_chain.specs.Chain.{Given, Names}
-use Rattle.verity_chain.specs.declared.notes.ReadRefused.{ReadRefused}
+use Rattle.verity_chain.specs.Table.{hashing_of, branching, row_len, hash_place}
+use Rattle.verity_chain.specs.Chain.{Names}
 use Rattle.verity_chain.specs.Stores.{hash_given}
-use Rattle.verity_chain.specs.Notes.{Note, noted, note_at, IsNoteAt, IsNoteOf, AreChecked, ExplainsUnread}
+use Rattle.verity_chain.specs.Notes.{Note, noted, note_at, IsNoteAt, AreChecked, ExplainsUnread}
 use Rattle.verity_chain.proofs.NoteLemmas.{note_here, note_names, explains_grows, err_weaker}
 use Rattle.verity_chain.proofs.notes.+fetch.Goals as goal
 

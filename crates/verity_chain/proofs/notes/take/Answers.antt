@@ -1,4 +1,4 @@
-use Rattle.std.proofs.Common.{rules, ◌≡◌, ◌≢◌, ℕ, suc, ◌<◌, ◌++◌, ◌∷◌, [], List, length, sym, ap, ◌∙◌, subst, refl, arith}
+use Rattle.std.proofs.Common.{rules, ◌≡◌, ◌≢◌, ℕ, ◌++◌, ◌∷◌, [], List, length, sym, subst, arith}
 use Rattle.verity_store.specs.Stores.{IsOnlyRead}
 use Rattle.verity_chain.specs.Table.{hashing_of, hash_place}
 use Rattle.verity_chain.specs.Stores.{Gave}

@@ -32,14 +32,14 @@ pub returns-clause-named : goal.returns-clause-named
 returns-clause-named g c =
     let d : Draft = c.args.pending.now in
     on_ok c.add_last.result _ _
-    (λ names told h image ok block_size digest_size len stands before.
+    (λ names content shown h image ok block_size digest_size len stands before.
     let count : length image ≡ d.committed = len ∙ sym c.requires.committed in
     let cut = cut_last image d c.facts.ensures count (sym c.keeps_last.ensures ∙ c.if-keeps_last.false) in
     let b : ℕ = c.args.change.now.new.blocks - 1 in
     let last : b ≡ length (edits_of image d).working - 1 = ap (λ n. n - 1) (sym (length-working image d ∙ c.requires.working)) in
     let x : Child = record { number = b; digest = h.digest (get_or image b []) } in
     AreNamed-last (λ n. h.digest (get_or (edits_of image d).working n [])) c.args.leaves.now.items c.add_last.new.leaves.items x
-    (names told h image ok block_size digest_size len stands)
+    (names content shown h image ok block_size digest_size len stands)
     (ap h.digest (ap (λ n. get_or image n []) last ∙ sym cut.same ∙ ap (λ n. get_or (edits_of image d).working n []) (sym last)))
     before)
     c.add_last.ensures.named

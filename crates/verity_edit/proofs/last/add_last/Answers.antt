@@ -5,6 +5,7 @@ use Rattle.verity_digest.specs.Shape.{level_count, level_len, place}
 use Rattle.verity_geometry.specs.Geometry.{Shape, digests_per_block}
 use Rattle.verity_geometry.proofs.Shapes.{branching, some}
 use Rattle.verity_edit.specs.declared.plan.Child.{Child}
+use Rattle.verity_edit.proofs.SeenLemmas.{shows_read}
 use Rattle.verity_edit.proofs.LastLemmas.{level_some, slot_stands}
 use Rattle.verity_edit.proofs.last.add_last.Goals as goal
 
@@ -33,10 +34,9 @@ returns-in-Ok-push-clause-added g c =
     }
 
 pub returns-in-Ok-push-clause-named : goal.returns-in-Ok-push-clause-named
-returns-in-Ok-push-clause-named g c = λ told h image ok block_size digest_size len stands.
+returns-in-Ok-push-clause-named g c = λ content shown h image ok block_size digest_size len stands.
     let old : Shape = c.args.change.now.old in
     let first : ℕ = c.args.change.now.first in
-    let content = g.H.BlockStore.content c.args.hash_store.now in
     let b : ℕ = c.args.change.now.new.blocks - 1 in
     let last : c.blocks-last.result - 1 ≡ b = ap (λ n. n - 1) c.blocks-last.ensures.value in
     let left = some c.args.change.now.new c.requires.change.new_shape in
@@ -49,7 +49,8 @@ returns-in-Ok-push-clause-named g c = λ told h image ok block_size digest_size 
     let at : first + c.place.result ≡ first + place (per_block h) (length image) 0 (b / per_block h) =
     ap (λ p. first + p) c.place.ensures.value ∙ (λ i. first + place (width i) (sym len i) 0 (index i)) in
     let block : c.read.new.out ≡ get_or content (first + place (per_block h) (length image) 0 (b / per_block h)) [] =
-    sym (c.in-Ok.ensures.right told) ∙ ap (λ p. get_or content p []) at in
+    shows_read g.H.BlockStore c.args.hash_store.now c.read.new.self (first + c.place.result) c.read.new.out content
+    c.in-Ok.ensures.tells c.in-Ok.ensures.content c.in-Ok.ensures.right c.in-Ok.ensures.given shown ∙ ap (λ p. get_or content p []) at in
     let some_level : 0 < level_count (per_block h) (length image) = level_some (per_block h) (length image) ok.branching (omega arith) in
     let inside : b / per_block h < level_len (per_block h) (length image) 0 =
     subst (λ (n : ℕ). n < level_len (per_block h) (length image) 0) index

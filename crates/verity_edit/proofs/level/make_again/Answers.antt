@@ -17,7 +17,7 @@ returns-clause-digest_size g c = ap length c.digest.ensures.digest ∙ length-di
     ∙ sym c.requires.level.digest_size
 
 pub returns-clause-made : goal.returns-clause-made
-returns-clause-made g c = λ told old new count holds renews.
+returns-clause-made g c = λ content shown old new count holds renews.
     let h : Hashing = hashing c.args.hasher.now.salted (length c.args.block.now) in
     let level = c.args.level.now in
     let k : ℕ = level.per_block in
@@ -31,9 +31,9 @@ returns-clause-made g c = λ told old new count holds renews.
     let renewed : Renews h.digest_size old new c.args.children.now = subst (λ (w : ℕ). Renews w old new c.args.children.now) same renews in
     let first = λ (far : level.old.len ≤ i) (z : i ≡ 0). subst
     (λ (w : ℕ). IfSome level.old.first (λ digest. get_or (slots w k c.read_old.new.block) 0 [] ≡ digest)) same (before.first far z) in
-    let can = can_remake h old new k i level.digests c.min-len.result level.old (g.H.BlockStore.content c.args.hash_store.now)
+    let can = can_remake h old new k i level.digests c.min-len.result level.old content
     c.args.children.now c.read_old.new.block
-    (omega arith) width some (omega arith) c.min-len.ensures (before.read told) first count holds renewed in
+    (omega arith) width some (omega arith) c.min-len.ensures (before.read content shown) first count holds renewed in
     let done : c.remake.new.block ≡ hash_block h (slice_chunk new k i) = c.remake.ensures h new (sym same) can in
     let inside : i < div_ceil (length new) (per_block h) =
     begun (length new) (per_block h) i (omega arith) (let e : i * per_block h ≡ i * k = ap (λ w. i * w) width in omega arith) in

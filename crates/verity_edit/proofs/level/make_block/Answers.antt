@@ -5,11 +5,11 @@ use Rattle.verity_edit.specs.declared.plan.Child.{Child}
 use Rattle.verity_edit.proofs.level.make_block.Goals as goal
 
 pub returns-in-Ok-push-clause-made : goal.returns-in-Ok-push-clause-made
-returns-in-Ok-push-clause-made g c = λ told old new count holds renews.
+returns-in-Ok-push-clause-made g c = λ content shown old new count holds renews.
     let h : Hashing = hashing c.args.hasher.now.salted (length c.args.block.now) in
     let i : ℕ = c.args.index in
     let at : ℕ = c.args.level.now.start + i in
-    let r = c.in-Ok.ensures.made told old new count holds renews in
+    let r = c.in-Ok.ensures.made content shown old new count holds renews in
     let copied : c.in-Ok-to_vec.bytes.items ≡ c.make_again.new.block = search rules in
     let block : c.new.result ≡ get_or (pack h new) i [] = c.new.ensures ∙ copied ∙ r.0 in
     let planned : c.push.new.self.items ≡ c.args.plan.now.items ++ c.new-made.result ∷ [] = search rules in

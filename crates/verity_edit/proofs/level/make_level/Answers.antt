@@ -7,6 +7,7 @@ use Rattle.verity_edit.specs.declared.plan.Child.{Child}
 use Rattle.verity_edit.specs.Slots.{AreSized, nobody}
 use Rattle.verity_edit.specs.Level.{Holds, IsLevel}
 use Rattle.verity_edit.specs.Plan.{Planned, nothing_planned, numbers_of, places, ArePlanned, made_blocks, made_digests}
+use Rattle.verity_edit.proofs.SeenLemmas.{shows_before}
 use Rattle.verity_edit.proofs.Pushes.{each_push, map_push}
 use Rattle.verity_edit.proofs.level.make_level.Goals as goal
 
@@ -40,16 +41,14 @@ loop-index-preserved g c =
     let len : length c.loop-index.block ≡ length c.args.block.now = omega arith in
     let more : take (at + 1) numbers ≡ take at numbers ++ i ∷ [] = take_more numbers at 0 below in
     record {
-      made = λ told old new count holds renews.
+      made = λ content shown old new count holds renews.
           let h : Hashing = hashing c.args.hasher.now.salted (length c.args.block.now) in
           let here : Hashing = hashing c.loop-index.hasher.salted (length c.loop-index.block) in
           let same : here ≡ h = λ j. hashing (inv.salted j) (len j) in
-          let content = g.H.BlockStore.content c.loop-index.hash_store in
-          let held : Holds h old level.old content =
-          subst (λ (blocks : List (List ℕ)). Holds h old level.old blocks) (sym inv.read_only.content) holds in
-          let held_here : Holds here old level.old content = subst (λ (x : Hashing). Holds x old level.old content) (sym same) held in
-          let before = inv.made told old new count holds renews in
-          let r = one.made (inv.read_only.later.tells ∙ told) old new count held_here renews in
+          let held_here : Holds here old level.old content = subst (λ (x : Hashing). Holds x old level.old content) (sym same) holds in
+          let was = shows_before g.H.BlockStore c.loop-index.hash_store c.make_block.new.hash_store content one.read_only shown in
+          let before = inv.made content was old new count holds renews in
+          let r = one.made content shown old new count held_here renews in
           let block_of : ℕ → Planned = λ n. record { at = level.start + n; block = get_or (pack h new) n [] } in
           let child_of : ℕ → Child = λ n. record { number = n; digest = h.digest (get_or (pack h new) n []) } in (
             r.0
@@ -88,11 +87,11 @@ all : (ns : List ℕ) (at : ℕ) → length ns ≤ at → take at ns ≡ ns
 all ns at le = take_all at ns le
 
 pub returns-clause-made : goal.returns-clause-made
-returns-clause-made g c = λ told old new count holds renews.
+returns-clause-made g c = λ content shown old new count holds renews.
     let h : Hashing = hashing c.args.hasher.now.salted (length c.args.block.now) in
     let whole : take c.loop-index.index-index c.args.numbers.now ≡ c.args.numbers.now =
     all c.args.numbers.now c.loop-index.index-index (omega arith) in
-    let made = c.loop-index.invariant.made told old new count holds renews in (
+    let made = c.loop-index.invariant.made content shown old new count holds renews in (
       made.0 ∙ ap (λ ts. c.args.plan.now.items ++ made_blocks h new c.args.level.now.start ts) whole,
       made.1
           ∙ ap (λ ts. made_digests h new ts) whole,

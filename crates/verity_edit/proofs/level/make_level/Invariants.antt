@@ -1,6 +1,7 @@
-use Rattle.std.proofs.Common.{◌≡◌, ℕ, ◌+◌, ◌≤◌, ◌++◌, true, List, length, map, take}
+use Rattle.std.proofs.Common.{◌≡◌, ℕ, ◌+◌, ◌≤◌, ◌++◌, List, length, map, take}
 use Rattle.verity_digest.specs.Hash.{hashing}
 use Rattle.verity_store.specs.Stores.{IsOnlyRead}
+use Rattle.verity_edit.specs.Seen.{Shows}
 use Rattle.verity_edit.specs.Slots.{AreSized}
 use Rattle.verity_edit.specs.Level.{Holds, Renews}
 use Rattle.verity_edit.specs.Plan.{numbers_of, places, ArePlanned, made_blocks, made_digests}
@@ -8,9 +9,9 @@ use Rattle.verity_edit.proofs.level.make_level.Given as goal
 
 abbrev pub invariant-loop-index : goal.invariant-loop-index
 invariant-loop-index g l = record {
-  made : g.H.BlockStore.tells l.initial.hash_store ≡ true → (old new : List (List ℕ)) → let h =
+  made : (content : List (List ℕ)) → Shows g.H.BlockStore l.hash_store content → (old new : List (List ℕ)) → let h =
       hashing l.initial.hasher.salted (length l.initial.block) in
-      length new ≡ l.level.digests → Holds h old l.level.old (g.H.BlockStore.content l.initial.hash_store) →
+      length new ≡ l.level.digests → Holds h old l.level.old content →
       Renews l.level.digest_size old new l.children
       → (l.plan.items ≡ l.initial.plan.items ++ made_blocks h new l.level.start (take l.index-index l.numbers)) ×
       (l.next.items ≡ made_digests h new (take l.index-index l.numbers));

@@ -51,16 +51,15 @@ returns-clause-plan g c =
     }
 
 pub returns-clause-right : goal.returns-clause-right
-returns-clause-right g c = λ told image len stands is_root.
+returns-clause-right g c = λ content shown image len stands is_root.
     let v : Volume = c.args.superblock.now in
     let d : Draft = c.args.pending.now in
     let first : ℕ = c.args.first in
-    let content = g.H.BlockStore.content c.args.hash_store.now in
     let new : c.geometry_over-2.result ≡ volume_shape v.params d.working = c.geometry_over-2.ensures.value
     ∙ ap (volume_shape v.params) c.blocks-blocks.ensures.value in
     let same : hashing c.args.hasher.now.salted (length c.args.block.now) ≡ volume_hashing v.params =
     (λ i. hashing (c.requires.salted i) ((c.requires.sized ∙ c.requires.hash_size) i)) in
-    let r = c.in_ok-tree.ensures.right told image len
+    let r = c.in_ok-tree.ensures.right content shown image len
     (subst (λ (h : Hashing). BeginsWith (drop first content) (tree h image)) (sym same) stands)
     (is_root ∙ ap (λ h. root h image) (sym same)) in (
       r.0 ∙ (λ i. touched_blocks (same i) (edits_of image d) first (new i).blocks (levels_of (new i))),

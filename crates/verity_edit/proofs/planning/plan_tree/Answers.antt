@@ -1,7 +1,7 @@
-use Rattle.std.proofs.Common.{◌≡◌, ℕ, ◌≤◌, List, [], length, drop, get_or, arith, subst, sym, ap, ◌∙◌}
+use Rattle.std.proofs.Common.{◌≡◌, ℕ, ◌≤◌, List, [], length, get_or, arith, subst, sym, ap, ◌∙◌}
 use Rattle.std.proofs.lemmas.List.{length-map}
 use Rattle.verity_digest.specs.Hash.{hashing}
-use Rattle.verity_digest.specs.Tree.{Hashing, IsHashing, root, tree}
+use Rattle.verity_digest.specs.Tree.{Hashing, IsHashing, root}
 use Rattle.verity_digest.proofs.Sha.{IsHashing-hashing}
 use Rattle.verity_profile.proofs.Bounds.{block_size_low}
 use Rattle.verity_geometry.specs.Geometry.{Shape, IsShape, digests_per_block, levels_of}
@@ -16,7 +16,7 @@ use Rattle.verity_edit.specs.Slots.{AreNamed}
 use Rattle.verity_edit.specs.Plan.{ArePlanned}
 use Rattle.verity_edit.specs.Making.{IsEdited, StandsFor, touched_blocks}
 use Rattle.verity_edit.specs.Last.{AreEdited}
-use Rattle.verity_edit.specs.Standing.{BeginsWith}
+use Rattle.verity_edit.proofs.SeenLemmas.{shows_before}
 use Rattle.verity_edit.proofs.Drafts.{length-working, KeepsUnchanged-draft}
 use Rattle.verity_edit.proofs.PlanLemmas.{AreInTree-from, length-plan, some_image, length-some_image}
 use Rattle.verity_edit.proofs.planning.plan_tree.Goals as goal
@@ -101,11 +101,12 @@ returns-clause-counted g c =
     omega arith
 
 pub returns-clause-right : goal.returns-clause-right
-returns-clause-right g c = λ told image len stands is_root.
+returns-clause-right g c = λ content shown image len stands is_root.
     let d : Draft = c.args.pending.now in
     let e : Edits = edits_of image d in
     let change : Change = c.args.change.now in
-    let content = g.H.BlockStore.content in
+    let was = shows_before g.H.BlockStore c.add_fallen.new.hash_store c.make_tree.new.hash_store content
+    c.in_ok-root.ensures.read_only shown in
     let leaves : List Child = c.add_fallen.new.leaves.items in
     let ed = edited image d change.old change.new leaves c.facts.ensures c.requires.change.old_shape c.requires.change.new_shape
     c.requires.committed c.requires.working c.in_ok-add_fallen.ensures.edited len in
@@ -117,16 +118,15 @@ returns-clause-right g c = λ told image len stands is_root.
     let s = c.requires.change.new_size in let q = c.requires.sized in omega arith) in
     let ok : IsHashing h = IsHashing-hashing c.args.hasher.now.salted (length c.args.block.now) big in
     let named : AreNamed (λ n. h.digest (get_or e.working n [])) leaves =
-    c.in_ok-add_fallen.ensures.named told h image ok (c.requires.sized ∙ sym c.requires.change.old_size)
+    c.in_ok-add_fallen.ensures.named content was h image ok (c.requires.sized ∙ sym c.requires.change.old_size)
     (sym c.requires.change.old_digest) ed.committed stands (c.in-Ok.ensures.named image) in
-    let there : StandsFor h e change.first (content c.add_fallen.new.hash_store) change.root leaves = record {
-      tree = subst (λ (blocks : List (List ℕ)). BeginsWith (drop change.first blocks) (tree h image))
-          (sym c.in_ok-add_fallen.ensures.read_only.content) stands;
+    let there : StandsFor h e change.first content change.root leaves = record {
+      tree = stands;
       root = is_root;
       named = named;
     } in
-    let r = c.in_ok-root.ensures.made (c.in_ok-add_fallen.ensures.read_only.later.tells ∙ told) e ed
-    (subst (λ (x : Hashing). StandsFor x e change.first (content c.add_fallen.new.hash_store) change.root leaves) (sym same) there) in (
+    let r = c.in_ok-root.ensures.made content shown e ed
+    (subst (λ (x : Hashing). StandsFor x e change.first content change.root leaves) (sym same) there) in (
       r.0 ∙ ap (λ x. touched_blocks x e change.first change.new.blocks (levels_of change.new)) same,
       r.1 ∙ ap (λ x. root x e.working) same,
     )

@@ -48,12 +48,11 @@ pub returns-clause-made : goal.returns-clause-made
 returns-clause-made g c =
     let k : ℕ = digests_per_block c.args.change.now.new in
     let h : Hashing = hashing c.args.hasher.now.salted (length c.args.block.now) in
-    let content = g.H.BlockStore.content c.args.hash_store.now in
     let up : List ℕ = parents k (numbers_of c.args.children.now) in
     let is : c.deref.result.now ≡ up = c.deref.ensures.value ∙ c.in-Ok.ensures
     ∙ ap (λ l. parents l.per_block (numbers_of c.args.children.now)) c.level-made.ensures in
     if_ok c.make_level.result _ _
-    (λ next made told old new count holds renews.
+    (λ next made content shown old new count holds renews.
     let lv : Level = level_of c.args.change.now c.args.level in
     let same : c.level-made.result ≡ lv = c.level-made.ensures in
     let holds_here : Holds h old c.level-made.result.old content = subst (λ (l : Level). Holds h old l.old content) (sym same) holds in
@@ -61,7 +60,7 @@ returns-clause-made g c =
     subst (λ (d : ℕ). Renews d old new c.args.children.now) (sym c.requires.change.new_digest) renews in
     let renews_here : Renews c.level-made.result.digest_size old new c.args.children.now =
     subst (λ (l : Level). Renews l.digest_size old new c.args.children.now) (sym same) renews_new in
-    let r = made told old new (count ∙ ap (λ l. l.digests) (sym same)) holds_here renews_here in (
+    let r = made content shown old new (count ∙ ap (λ l. l.digests) (sym same)) holds_here renews_here in (
       r.0 ∙ (λ i. c.args.plan.now.items ++ made_blocks h new (same i).start (is i)),
       r.1 ∙ ap (made_digests h new) is,
     ))

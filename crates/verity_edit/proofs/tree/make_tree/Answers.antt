@@ -22,6 +22,7 @@ use Rattle.verity_edit.specs.Digests.{digests_of}
 use Rattle.verity_edit.specs.Plan.{numbers_of, places, ArePlanned, made_blocks, made_digests}
 use Rattle.verity_edit.specs.Level.{Holds, Renews}
 use Rattle.verity_edit.specs.Making.{IsChange, level_of, touched_below, touched_places, touched_blocks, IsEdited}
+use Rattle.verity_edit.proofs.SeenLemmas.{shows_before}
 use Rattle.verity_edit.proofs.MakingLemmas.{parents-renewed, touched_below-more, touched_below-mono, ready_change, named_next}
 use Rattle.verity_edit.proofs.MakingLemmas.{named_leaves, finish, renewed-more, touched_blocks-more, touched_places-more}
 use Rattle.verity_edit.proofs.tree.make_tree.Goals as goal
@@ -63,7 +64,7 @@ loop-level-init g c =
       sized = c.requires.leaves_sized;
       numbers = λ e ed. ed.numbers;
       places = λ e ed. ap places c.requires.empty;
-      made = λ told e ed stands. (
+      made = λ content shown e ed stands. (
         c.requires.empty,
         named_leaves (hashing c.args.hasher.now.salted (length c.args.block.now)) e
             change.new.blocks c.args.leaves.items ed.working c.requires.leaves_within stands.named,
@@ -84,7 +85,6 @@ loop-level-preserved g c =
     let k : ℕ = digests_per_block change.new in
     let n : ℕ = change.new.blocks in
     let l : ℕ = c.loop-level.level in
-    let content = g.H.BlockStore.content in
     let two = branching change.new c.requires.change.new_shape in
     let some : 0 < k = omega arith in
     let there : l < levels_of change.new = omega arith in
@@ -100,7 +100,7 @@ loop-level-preserved g c =
       places = λ e ed. one.places ∙ ap (λ ns. places c.loop-level.plan.items ++ map (λ i. change.first + start_of change.new l + i)
           ns) (up e ed)
           ∙ touched_places-more k e change.first n l (l + 1) (places c.loop-level.plan.items) refl (inv.places e ed);
-      made = λ told e ed stands.
+      made = λ content shown e ed stands.
           let size : ℕ = g.H.BlockStore.size c.args.hash_store.now in
           let digest : ℕ = size_of c.args.hasher.now.salted.algorithm in
           let h : Hashing = hashing c.args.hasher.now.salted (length c.args.block.now) in
@@ -112,22 +112,21 @@ loop-level-preserved g c =
           let s = change_ok.new_size in let q = c.requires.sized in omega arith) in
           let ok : IsHashing h = IsHashing-hashing c.args.hasher.now.salted (length c.args.block.now) big in
           let width : per_block h ≡ k = (λ i. (c.requires.sized ∙ sym change_ok.new_size) i / sym change_ok.new_digest i) in
-          let before = inv.made told e ed stands in
+          let was = shows_before g.H.BlockStore c.loop-level.hash_store c.make_next.new.hash_store content one.read_only shown in
+          let before = inv.made content was e ed stands in
           let new : List (List ℕ) = digests_of h e.working l in
-          let r = ready_change h change e (length (content c.args.hash_store.now)) size digest l (content c.args.hash_store.now)
+          let r = ready_change h change e (length (g.H.BlockStore.content c.args.hash_store.now)) size digest l content
           c.args.leaves.items c.loop-level.children.items ok c.requires.sized refl change_ok ed stands there (inv.numbers e ed)
           before.1 in
           let long : length new ≡ row_len k n l = length-map (row h e.working l) h.digest
           ∙ length-row h e.working l (let b = ok.branching in omega arith) ∙ (λ i. row_len (width i) (ed.working i) l) in
-          let held : Holds h r.old (level_of change l).old (content c.loop-level.hash_store) =
-          subst (λ (blocks : List (List ℕ)). Holds h r.old (level_of change l).old blocks) (sym inv.read_only.content) r.holds in
-          let held_here : Holds here r.old (level_of change l).old (content c.loop-level.hash_store) =
-          subst (λ (x : Hashing). Holds x r.old (level_of change l).old (content c.loop-level.hash_store)) (sym same) held in
+          let held_here : Holds here r.old (level_of change l).old content =
+          subst (λ (x : Hashing). Holds x r.old (level_of change l).old content) (sym same) r.holds in
           let renews : Renews h.digest_size r.old new c.deref.result.now =
           subst (λ (xs : List Child). Renews h.digest_size r.old new xs) (sym c.deref.ensures.value) r.renews in
           let renews_here : Renews here.digest_size r.old new c.deref.result.now =
           subst (λ (x : Hashing). Renews x.digest_size r.old new c.deref.result.now) (sym same) renews in
-          let made = one.made (inv.read_only.later.tells ∙ told) r.old new long held_here renews_here in
+          let made = one.made content shown r.old new long held_here renews_here in
           let next : c.in_ok-children.children.items ≡ made_digests h new (touched k e l) =
           made.1 ∙ (λ i. made_digests (same i) new (up e ed i)) in
           let inside : (d : ℕ) → d < length c.in_ok-children.children.items →
@@ -171,7 +170,7 @@ returns-in_err-children-clause-reads g c = λ e ed.
     omega arith
 
 pub returns-clause-made : goal.returns-clause-made
-returns-clause-made g c = λ told e ed stands.
+returns-clause-made g c = λ content shown e ed stands.
     let inv = c.loop-level.invariant in
     let change = c.args.change.now in
     let change_ok = c.requires.change in
@@ -180,10 +179,10 @@ returns-clause-made g c = λ told e ed stands.
     let s = change_ok.new_size in let q = c.requires.sized in omega arith) in
     let ok : IsHashing h = IsHashing-hashing c.args.hasher.now.salted (length c.args.block.now) big in
     let at : c.loop-level.level ≡ levels_of change.new = omega arith in
-    let made = inv.made told e ed stands in (
+    let made = inv.made content shown e ed stands in (
       made.0 ∙ ap (touched_blocks h e change.first change.new.blocks) at,
       finish h change e (length (g.H.BlockStore.content c.args.hash_store.now)) (g.H.BlockStore.size c.args.hash_store.now)
-          (size_of c.args.hasher.now.salted.algorithm) c.loop-level.level (g.H.BlockStore.content c.args.hash_store.now)
+          (size_of c.args.hasher.now.salted.algorithm) c.loop-level.level content
           c.args.leaves.items c.loop-level.children.items c.top_digest.result
           ok c.requires.sized refl change_ok ed stands at inv.within (inv.numbers e ed) made.1
           (λ some. c.top_digest.ensures.some (subst (λ (xs : List Child). 0 < length xs) (sym c.deref-2.ensures.value) some)

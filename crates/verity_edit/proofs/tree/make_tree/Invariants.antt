@@ -1,10 +1,11 @@
-use Rattle.std.proofs.Common.{◌≡◌, ◌+◌, ◌≤◌, true, [], length, get_or}
+use Rattle.std.proofs.Common.{◌≡◌, ℕ, ◌+◌, ◌≤◌, List, [], length, get_or}
 use Rattle.verity_digest.specs.Hash.{hashing, size_of}
 use Rattle.verity_digest.specs.Shape.{row_len}
 use Rattle.verity_geometry.specs.Geometry.{digests_per_block}
 use Rattle.verity_store.specs.Stores.{IsOnlyRead}
 use Rattle.verity_edit.specs.Edits.{Edits}
 use Rattle.verity_edit.specs.Digests.{digests_of}
+use Rattle.verity_edit.specs.Seen.{Shows}
 use Rattle.verity_edit.specs.Slots.{AreNamed, AreSized, AreWithin}
 use Rattle.verity_edit.specs.Plan.{numbers_of, places, ArePlanned}
 use Rattle.verity_edit.specs.Making.{renewed, touched_below, touched_places, touched_blocks, IsEdited, StandsFor}
@@ -18,10 +19,10 @@ invariant-loop-level g l = record {
       numbers_of l.children.items ≡ renewed (digests_per_block l.change.new) e l.level;
   places : (e : Edits) → IsEdited e l.change.old.blocks l.change.new.blocks l.fn.leaves.items
       → places l.plan.items ≡ touched_places (digests_per_block l.change.new) e l.change.first l.change.new.blocks l.level;
-  made : g.H.BlockStore.tells l.initial.hash_store ≡ true → (e : Edits) →
+  made : (content : List (List ℕ)) → Shows g.H.BlockStore l.hash_store content → (e : Edits) →
       IsEdited e l.change.old.blocks l.change.new.blocks l.fn.leaves.items
       → let h = hashing l.initial.hasher.salted (length l.initial.block) in
-      StandsFor h e l.change.first (g.H.BlockStore.content l.initial.hash_store) l.change.root l.fn.leaves.items
+      StandsFor h e l.change.first content l.change.root l.fn.leaves.items
       → (l.plan.items ≡ touched_blocks h e l.change.first l.change.new.blocks l.level) ×
       AreNamed (λ j. get_or (digests_of h e.working l.level) j []) l.children.items;
   planned : ArePlanned (length l.initial.block) l.plan.items;

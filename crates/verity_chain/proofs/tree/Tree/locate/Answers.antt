@@ -1,7 +1,7 @@
-use Rattle.std.proofs.Common.{◌≡◌, ◌-◌, ◌<◌, ℕ, suc, sym, ap, ◌∙◌, subst, arith}
+use Rattle.std.proofs.Common.{◌≡◌, ◌<◌, ℕ, ap, ◌∙◌, arith}
 use Rattle.verity_digest.specs.Shape.{level_start}
 use Rattle.verity_geometry.specs.Geometry.{levels_of, start_of}
-use Rattle.verity_chain.specs.Table.{branching, height, row_len}
+use Rattle.verity_chain.specs.Table.{branching, height}
 use Rattle.verity_chain.proofs.TableLaws.{blocks_from, none_from}
 use Rattle.verity_chain.proofs.tree.Tree.locate.Goals as goal
 

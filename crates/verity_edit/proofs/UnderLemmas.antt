@@ -1,0 +1,250 @@
+-- A plan that was made of checked blocks is that of the image of the table line, or there is a clash.
+use Rattle.std.proofs.Common.{◌≡◌, ◌≢◌, ℕ, suc, ◌+◌, ◌-◌, ◌<◌, ◌≤◌, ◌++◌, List, [], length, take, drop, replicate, get_or}
+use Rattle.std.proofs.Common.{Contains, Option, None, Some, true, inl, inr, ⊎_elim, refl, sym, ap, ◌∙◌, subst, arith}
+use Rattle.std.specs.Prelude.{IfSome, Err}
+use Rattle.std.proofs.Math.Seq.{drop-append_seam}
+use Rattle.std.proofs.lemmas.List.{take_all, length-replicate, get_or-replicate, get_or-drop}
+use Rattle.std.proofs.Math.ListN.{get_or-append}
+use Rattle.verity_profile.specs.Profile.{zero_block}
+use Rattle.verity_digest.specs.Tree.{Hashing, root, tree}
+use Rattle.verity_digest.specs.Hash.{hashing}
+use Rattle.verity_digest.specs.Shape.{level_count, level_len, place}
+use Rattle.verity_store.specs.Stores.{IsOnlyRead}
+use Rattle.verity_store.specs.declared.store.BlockStore as store
+use Rattle.verity_superblock.specs.Superblock.{Volume}
+use Rattle.verity_chain.specs.Table.{Table, IsTable, hashing_of, branching, height, row_len}
+use Rattle.verity_chain.specs.Chain.{WrongAt}
+use Rattle.verity_chain.specs.Right.{Fits, Clash}
+use Rattle.verity_chain.specs.Stores.{hash_given}
+use Rattle.verity_chain.specs.Origin.{facts_of, rows_of}
+use Rattle.verity_chain.specs.Notes.{Note, noted, AreChecked, AreOwn, ExplainsUnread}
+use Rattle.verity_chain.specs.Checked.{IsAnswer, Checking, IsChecking, bound_to}
+use Rattle.verity_chain.specs.declared.notes.ReadRefused.{ReadRefused}
+use Rattle.verity_chain.specs.declared.notes.ReadRefused.TheVariants as refused
+use Rattle.verity_chain.proofs.ChainLemmas.{Grows}
+use Rattle.verity_chain.proofs.NoteLemmas.{noted_given}
+use Rattle.verity_chain.proofs.NoteLaws.{own_or_clashes}
+use Rattle.verity_chain.proofs.OriginLaws.{rows_same, bound_same}
+use Rattle.verity_chain.proofs.TableLaws.{two_branches}
+use Rattle.verity_edit.specs.declared.fault.EditFault.{EditFault}
+use Rattle.verity_edit.specs.declared.fault.EditFault.TheVariants as fault
+use Rattle.verity_edit.specs.declared.planning.CommitPlan.{CommitPlan}
+use Rattle.verity_edit.specs.declared.under.PlanRefused.TheVariants.{Fault}
+use Rattle.verity_store.specs.declared.fault.Which.TheVariants as which
+use Rattle.verity_edit.specs.Draft.{Draft}
+use Rattle.verity_edit.specs.Faults.{PlansOrFails}
+use Rattle.verity_edit.specs.Planning.{volume_hashing, IsRight}
+use Rattle.verity_edit.specs.Standing.{BeginsWith}
+use Rattle.verity_edit.specs.Under.{IsLineFor, IsRightUnder, ExplainsUnplanned, refusal_of}
+use Rattle.verity_edit.proofs.Trees.{stands_at}
+
+-- blocks behind so many zero blocks
+abbrev behind : (size first : ℕ) → List (List ℕ) → List (List ℕ)
+behind size first blocks = replicate first (zero_block size) ++ blocks
+
+drop-behind : (size first : ℕ) (blocks : List (List ℕ)) → drop first (behind size first blocks) ≡ blocks
+drop-behind size first blocks =
+    let front : List (List ℕ) = replicate first (zero_block size) in
+    let long : length front ≡ first = length-replicate first (zero_block size) in
+    ap (λ n. drop n (front ++ blocks)) (sym long) ∙ drop-append_seam front blocks
+
+get_or-front : (size first n : ℕ) (blocks : List (List ℕ)) → n < first → get_or (behind size first blocks) n [] ≡ zero_block size
+get_or-front size first n blocks low =
+    let front : List (List ℕ) = replicate first (zero_block size) in
+    let long : length front ≡ first = length-replicate first (zero_block size) in
+    get_or-append front blocks [] n (omega arith) ∙ get_or-replicate first n (zero_block size) [] low
+
+get_or-behind : (size first n : ℕ) (blocks : List (List ℕ)) → get_or (behind size first blocks) (first + n) [] ≡ get_or blocks n []
+get_or-behind size first n blocks =
+    sym (get_or-drop first (behind size first blocks) n []) ∙ ap (λ bs. get_or bs n []) (drop-behind size first blocks)
+
+-- the image's own blocks are those of its tree behind the blocks in front
+own_shown : (t : Table) (image : List (List ℕ)) (notes : List Note) → IsTable t → Fits t image → AreOwn t image notes → (n : ℕ)
+    (b : List ℕ) → Contains notes (record { number = n; block = b })
+    → get_or (behind t.hash_block_size t.hash_start_block (tree (hashing_of t) image)) n [] ≡ b
+own_shown t image notes ok fits own n b has =
+    let h = hashing_of t in
+    let k : ℕ = branching t in
+    let found = own (record { number = n; block = b }) has in
+    let l : ℕ = found.0 in
+    let i : ℕ = found.1 in
+    let content : List (List ℕ) = behind t.hash_block_size t.hash_start_block (tree h image) in
+    let stands : BeginsWith (drop t.hash_start_block content) (tree h image) =
+    subst (λ xs. BeginsWith xs (tree h image)) (sym (drop-behind t.hash_block_size t.hash_start_block (tree h image)))
+    (take_all (length (tree h image)) (tree h image) (omega arith)) in
+    let there : l < level_count k (length image) = subst (λ m. l < level_count k m) (sym fits.blocks) found.2.level in
+    let inside : i < level_len k (length image) l = subst (λ m. i < level_len k m l) (sym fits.blocks) found.2.index in
+    let at : n ≡ t.hash_start_block + place k (length image) l i =
+    found.2.number ∙ ap (λ m. t.hash_start_block + place k m l i) (sym fits.blocks) in
+    ap (λ q. get_or content q []) at
+    ∙ stands_at h image content t.hash_start_block l i (two_branches t ok) stands there inside
+    ∙ sym found.3
+
+-- a clash among more blocks
+clash_grows : (t : Table) (image : List (List ℕ)) (given more : ℕ → ℕ → List ℕ → Type 0) → Grows given more → Clash t given image →
+    Clash t more image
+clash_grows t image given more grows clash =
+    let c = clash.2 in (
+      clash.0,
+      clash.1,
+      record {
+        row = c.row;
+        index = c.index;
+        y = c.y;
+        gave = grows clash.0 clash.1 c.y c.gave;
+        differs = c.differs;
+        same_length = c.same_length;
+        same_digest = c.same_digest;
+      },
+    )
+
+-- what a store of checked blocks gave is what was noted, or zeros in front of the tree
+answers_shown : (t : Table) (notes : List Note) (blocks : List (List ℕ)) (n : ℕ) (b : List ℕ)
+    → (Contains notes (record { number = n; block = b }) → get_or (behind t.hash_block_size t.hash_start_block blocks) n [] ≡ b)
+    → IsAnswer t notes n b → get_or (behind t.hash_block_size t.hash_start_block blocks) n [] ≡ b
+answers_shown t notes blocks n b shown =
+    ⊎_elim (λ front. get_or-front t.hash_block_size t.hash_start_block n blocks front.0 ∙ sym front.1) shown
+
+-- which of these an answer is
+abbrev kind : Option ReadRefused → ℕ
+kind None = 0
+kind (Some refused.Store) = 1
+kind (Some refused.NoMemory) = 2
+kind (Some (refused.Mismatch level index)) = 3
+
+-- a plan that no read was refused for is refused for want of memory alone
+refused_by : {H : Type 0} (T : Type 0) (hash : store.Ghosts H) (t : Table) (mark : ℕ) (old new : H) (f : EditFault) (asked : ℕ)
+    → PlansOrFails {T = T} (Err f) 0 asked → asked ≡ 0 → hash.failures new ≡ hash.failures old
+    → ExplainsUnplanned hash t mark old new (Fault f)
+refused_by T hash t mark old new fault.OutOfRange asked fails none same = absurd fails
+refused_by T hash t mark old new fault.WrongLength asked fails none same = absurd fails
+refused_by T hash t mark old new fault.TooSmall asked fails none same = absurd fails
+refused_by T hash t mark old new fault.TooLarge asked fails none same = absurd fails
+refused_by T hash t mark old new fault.NoMemory asked fails none same = same
+refused_by T hash t mark old new (fault.Store which.Data) asked fails none same = absurd fails
+refused_by T hash t mark old new (fault.Store which.Hash) asked fails none same = absurd (omega (arith, fails, none))
+refused_by T hash t mark old new fault.Broken asked fails none same = absurd fails
+refused_by T hash t mark old new (fault.Mismatch level index) asked fails none same = absurd fails
+refused_by T hash t mark old new (fault.Superblock f) asked fails none same = absurd fails
+refused_by T hash t mark old new fault.DataLength asked fails none same = absurd fails
+refused_by T hash t mark old new (fault.StoreSize store) asked fails none same = absurd fails
+refused_by T hash t mark old new fault.Offset asked fails none same = absurd fails
+
+module _ {H : Type 0} (hash : store.Ghosts H) (t : Table) (h : H) (new : Checking H) (is : IsChecking hash new)
+    (bound : bound_to new.table new.origin ≡ bound_to t (rows_of (facts_of hash h))) where
+  -- it is under the same line still
+  pub same_table : new.table ≡ t
+  same_table = (bound_same new.table t new.origin (rows_of (facts_of hash h)) bound).0
+
+  was_then : is.was ≡ facts_of hash h
+  was_then = rows_same is.was (facts_of hash h) (sym is.origin ∙ (bound_same new.table t new.origin (rows_of (facts_of hash h)) bound).1)
+
+  since_then : new.since ≡ length (hash.given h)
+  since_then = is.since ∙ ap (λ w. length w.given) was_then
+
+  -- and the store below was only read
+  pub read_then : IsOnlyRead hash h new.hash_store
+  read_then = record {
+    content = is.read.content ∙ ap (λ w. w.content) was_then;
+    room = is.read.room ∙ ap (λ w. w.room) was_then;
+    later = record {
+      tells = is.read.tells ∙ ap (λ w. w.tells) was_then;
+      size = is.read.size ∙ ap (λ w. w.size) was_then;
+      fixed = is.read.fixed ∙ ap (λ w. w.fixed) was_then;
+      gave = subst (λ w. take (length w.given) (hash.given new.hash_store) ≡ w.given) was_then is.read.gave;
+      failures = subst (λ w. w.failures ≤ hash.failures new.hash_store) was_then is.read.failures;
+      reads = subst (λ w. w.reads ≤ hash.reads new.hash_store) was_then is.read.reads;
+      room = let same = is.read.room ∙ ap (λ w. w.room) was_then in omega arith;
+    };
+  }
+
+  same_failures : new.refusal ≢ Some refused.Store → hash.failures new.hash_store ≡ hash.failures h
+  same_failures other = is.unfailed other ∙ ap (λ w. w.failures) was_then
+
+  -- where no read was refused, no failure was passed over
+  pub unfailed_then : new.refused ≡ 0 → hash.failures new.hash_store ≡ hash.failures h
+  unfailed_then none = same_failures (λ same. absurd (omega (arith, ap kind (sym same ∙ is.counted none))))
+
+  explains_by : (T : Type 0) (o : Option ReadRefused) (f : EditFault)
+      → IfSome o (ExplainsUnread new.table (hash_given hash new.table new.since new.hash_store)
+      (is.was.failures < hash.failures new.hash_store))
+      → (o ≡ None → new.refused ≡ 0) → (o ≢ Some refused.Store → hash.failures new.hash_store ≡ hash.failures h)
+      → PlansOrFails {T = T} (Err f) 0 new.refused
+      → ExplainsUnplanned hash t (length (hash.given h)) h new.hash_store (refusal_of o f)
+  explains_by T (Some (refused.Mismatch level index)) f why none same fails =
+      let P : Table → ℕ → Type 0 = λ u m. (level < height u) × (index < row_len u (suc level))
+      × WrongAt u (hash_given hash u m new.hash_store) (suc level) index in
+      let there : P t (length (hash.given h)) = subst (λ m. P t m) since_then (subst (λ u. P u new.since) same_table why) in
+      (there.0, there.1, there.2, same (λ e. absurd (omega (arith, ap kind e))))
+  explains_by T (Some refused.Store) f why none same fails = subst (λ w. w.failures < hash.failures new.hash_store) was_then why
+  explains_by T (Some refused.NoMemory) f why none same fails = same (λ e. absurd (omega (arith, ap kind e)))
+  explains_by T None f why none same fails =
+      refused_by T hash t (length (hash.given h)) h new.hash_store f new.refused fails (none refl)
+      (same (λ e. absurd (omega (arith, ap kind e))))
+
+  -- why there is no plan
+  pub explains_then : (T : Type 0) (f : EditFault) → PlansOrFails {T = T} (Err f) 0 new.refused
+      → ExplainsUnplanned hash t (length (hash.given h)) h new.hash_store (refusal_of new.refusal f)
+  explains_then T f fails = explains_by T new.refusal f is.refusal is.unrefused same_failures fails
+
+  module _ {A : Type 0} (v : Volume) (d : Draft) (first : ℕ) (old_root : List ℕ) (plan : CommitPlan A) (ok : IsTable t)
+      (line : IsLineFor t v first old_root) (count : v.data_blocks ≡ d.committed)
+      (right : (blocks : List (List ℕ)) → ((n : ℕ) (b : List ℕ) → Contains new.given (n, b) → get_or blocks n [] ≡ b)
+      → IsRight v d first old_root blocks plan) where
+    abbrev size : ℕ
+    size = t.hash_block_size
+
+    abbrev start : ℕ
+    start = t.hash_start_block
+
+    answered : (n : ℕ) (b : List ℕ) → Contains new.given (n, b) → IsAnswer t new.notes n b
+    answered n b has = subst (λ u. IsAnswer u new.notes n b) same_table (is.answers n b has)
+
+    pub right_under : IsRightUnder hash t (length (hash.given h)) new.hash_store v d first plan
+    right_under image fits =
+        ⊎_elim
+        (λ own.
+        let k : Hashing = hashing_of t in
+        let same : k ≡ volume_hashing v.params =
+        (λ i. hashing (record { algorithm = line.algorithm i; salt = line.salt i }) (line.hash_block_size i)) in
+        let blocks : List (List ℕ) = behind size start (tree k image) in
+        let whole : BeginsWith (drop start blocks) (tree k image) =
+        subst (λ xs. BeginsWith xs (tree k image)) (sym (drop-behind size start (tree k image)))
+        (take_all (length (tree k image)) (tree k image) (omega arith)) in
+        let stands : BeginsWith (drop first blocks) (tree (volume_hashing v.params) image) =
+        subst (λ f. BeginsWith (drop f blocks) (tree (volume_hashing v.params) image)) line.start
+        (subst (λ x. BeginsWith (drop start blocks) (tree x image)) same whole) in
+        let is_root : old_root ≡ root (volume_hashing v.params) image = sym line.root ∙ sym fits.root ∙ ap (λ x. root x image) same in
+        inl (right blocks (λ n b has. answers_shown t new.notes (tree k image) n b
+        (own_shown t image new.notes ok fits own n b) (answered n b has))
+        image (fits.blocks ∙ line.data_blocks ∙ count) stands is_root))
+        (λ clash. inr (clash_grows t image (noted t new.notes) (hash_given hash t (length (hash.given h)) new.hash_store)
+        (subst (λ m. Grows (noted t new.notes) (hash_given hash t m new.hash_store)) since_then
+        (noted_given hash t new.since new.hash_store new.notes is.noted)) clash))
+        (own_or_clashes t image ok fits new.notes (subst (λ u. AreChecked u new.notes) same_table is.checked))
+
+    -- a noted block is the one that the store holds, if it tells
+    held_shown : hash.tells h ≡ true → (n : ℕ) (b : List ℕ) → Contains new.notes (record { number = n; block = b })
+        → get_or (behind size start (drop start (hash.content h))) n [] ≡ b
+    held_shown told n b has =
+        let found = subst (λ u. AreChecked u new.notes) same_table is.checked (record { number = n; block = b }) has in
+        let p : ℕ = n - start in
+        let at : n ≡ start + p = (let number : n ≡ t.hash_start_block + place (branching t) t.data_blocks found.0 found.1 =
+        found.2.number in omega arith) in
+        let gave = is.noted (record { number = n; block = b }) has in
+        let tells : hash.tells new.hash_store ≡ true = read_then.later.tells ∙ told in
+        ap (λ q. get_or (behind size start (drop start (hash.content h))) q []) at
+        ∙ get_or-behind size start p (drop start (hash.content h))
+        ∙ get_or-drop start (hash.content h) p []
+        ∙ ap (λ q. get_or (hash.content h) q []) (sym at)
+        ∙ ap (λ c. get_or c n []) (sym read_then.content)
+        ∙ gave.2 tells
+
+    pub told_under : hash.tells h ≡ true → IsRight v d first old_root (hash.content h) plan
+    told_under told image len stands is_root =
+        let blocks : List (List ℕ) = behind size start (drop start (hash.content h)) in
+        let same : drop first blocks ≡ drop first (hash.content h) =
+        ap (λ f. drop f blocks) (sym line.start) ∙ drop-behind size start (drop start (hash.content h))
+        ∙ ap (λ f. drop f (hash.content h)) line.start in
+        right blocks (λ n b has. answers_shown t new.notes (drop start (hash.content h)) n b (held_shown told n b) (answered n b has))
+        image len (subst (λ xs. BeginsWith xs (tree (volume_hashing v.params) image)) (sym same) stands) is_root

@@ -1,0 +1,60 @@
+-- A commit under a trusted table line. The facts of a store of the type S are S.BlockStore.
+use Rattle.std.specs.Prelude.{◌≡◌, ℕ, suc, ◌<◌, ◌⊎◌, List, Option, Some, None}
+use Rattle.verity_digest.specs.Tree.{root}
+use Rattle.verity_geometry.specs.Geometry.{levels_of}
+use Rattle.verity_store.specs.declared.store.BlockStore as store
+use Rattle.verity_superblock.specs.Superblock.{Volume}
+use Rattle.verity_store.specs.declared.fault.Which.TheVariants as which
+use Rattle.verity_chain.specs.Table.{Table, height, row_len}
+use Rattle.verity_chain.specs.Chain.{WrongAt}
+use Rattle.verity_chain.specs.Right.{Fits, Clash}
+use Rattle.verity_chain.specs.Stores.{hash_given}
+use Rattle.verity_chain.specs.declared.notes.ReadRefused.{ReadRefused}
+use Rattle.verity_chain.specs.declared.notes.ReadRefused.TheVariants as refused
+use Rattle.verity_edit.specs.declared.fault.EditFault.{EditFault}
+use Rattle.verity_edit.specs.declared.fault.EditFault.TheVariants as fault
+use Rattle.verity_edit.specs.declared.planning.CommitPlan.{CommitPlan}
+use Rattle.verity_edit.specs.declared.under.PlanRefused.{PlanRefused}
+use Rattle.verity_edit.specs.declared.under.PlanRefused.TheVariants.{Untrusted, Fault}
+use Rattle.verity_edit.specs.Draft.{Draft, edits_of}
+use Rattle.verity_edit.specs.Making.{touched_blocks}
+use Rattle.verity_edit.specs.Planning.{volume_shape, volume_hashing}
+
+-- the table line has the volume's parameters and count, and the start and the root of its tree
+pub record IsLineFor (t : Table) (v : Volume) (first : ℕ) (old_root : List ℕ) : Type 0 where
+  pub algorithm : t.algorithm ≡ v.params.algorithm
+  pub data_block_size : t.data_block_size ≡ v.params.data_block_size
+  pub hash_block_size : t.hash_block_size ≡ v.params.hash_block_size
+  pub salt : t.salt ≡ v.params.salt
+  pub data_blocks : t.data_blocks ≡ v.data_blocks
+  pub start : t.hash_start_block ≡ first
+  pub root : t.root ≡ old_root
+
+-- the plan has the touched blocks and the root of this image's tree with the edits made
+abbrev pub PlansEdits : {A : Type 0} → Volume → Draft → ℕ → List (List ℕ) → CommitPlan A → Type 0
+PlansEdits v d first image plan =
+    (plan.made.items ≡ touched_blocks (volume_hashing v.params) (edits_of image d) first d.working
+    (levels_of (volume_shape v.params d.working)))
+    × (plan.root ≡ root (volume_hashing v.params) (edits_of image d).working)
+
+-- so it is for every image that fits the table line, unless the hash store, behind the first `mark` of what it gave, gave a block
+-- that differs from the image's own at its place and has its length and its digest
+abbrev pub IsRightUnder : {H A : Type 0} → store.Ghosts H → Table → ℕ → H → Volume → Draft → ℕ → CommitPlan A → Type 0
+IsRightUnder hash t mark h v d first plan = (image : List (List ℕ)) → Fits t image
+    → PlansEdits v d first image plan ⊎ Clash t (hash_given hash t mark h) image
+
+-- why there is no plan: behind the first `mark` of what it gave the hash store gave a block without the digest that is named at its
+-- place, below a chain of given blocks; or memory was refused; or the hash store failed
+abbrev pub ExplainsUnplanned : {H : Type 0} → store.Ghosts H → Table → ℕ → (old new : H) → PlanRefused → Type 0
+ExplainsUnplanned hash t mark old new (Untrusted level index) = (level < height t) × (index < row_len t (suc level))
+    × WrongAt t (hash_given hash t mark new) (suc level) index × (hash.failures new ≡ hash.failures old)
+ExplainsUnplanned hash t mark old new (Fault fault.NoMemory) = hash.failures new ≡ hash.failures old
+ExplainsUnplanned hash t mark old new (Fault (fault.Store which.Hash)) = hash.failures old < hash.failures new
+ExplainsUnplanned hash t mark old new (Fault _) = ⊥
+
+-- why there is no plan, where a read was refused for this reason, or none was
+abbrev pub refusal_of : Option ReadRefused → EditFault → PlanRefused
+refusal_of (Some (refused.Mismatch level index)) f = Untrusted level index
+refusal_of (Some refused.Store) f = Fault (fault.Store which.Hash)
+refusal_of (Some refused.NoMemory) f = Fault fault.NoMemory
+refusal_of None f = Fault f

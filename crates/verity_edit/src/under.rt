@@ -1,0 +1,139 @@
+//! The plan of a commit under a trusted table line: each hash block that it reads is checked from the root down, so that
+//! the hash store need not be honest.
+ghost use Rattle.std.specs.Prelude.{◌≡◌, ℕ, ◌+◌, ◌^◌, ◌≤◌, true, length, IfErr, IfOk, OnOk};
+ghost use Rattle.verity_digest.specs.Hash.{size_of};
+ghost use Rattle.verity_store.specs.Stores.{IsOnlyRead};
+ghost use Rattle.verity_superblock.specs.Superblock.{salted};
+ghost use Rattle.verity_chain.specs.Table.{IsTable};
+ghost use Rattle.verity_chain.specs.Stores.{IsHashStoreOf};
+ghost use Rattle.verity_chain.specs.Checked.{unread};
+ghost use Rattle.verity_edit.specs.Planning.{IsPlan, IsRight};
+
+use crate::EditFault;
+use crate::pending::Pending;
+use crate::planning::{CommitPlan, plan_commit};
+use std::alloc::Allocator;
+use verity_chain::{Checked, ReadRefused, Tree};
+use verity_digest::{Digest, Hasher};
+use verity_store::{BlockStore, Which};
+use verity_superblock::Superblock;
+
+/// Why there is no plan.
+#[derive(Clone, Copy, Debug)]
+pub enum PlanRefused {
+    /// The block that the hash store gave at this place hasn't the digest that is named there.
+    Untrusted {
+        /// The level.
+        level: usize,
+        /// The index within the level.
+        index: u64,
+    },
+    /// As without a table line.
+    Fault(EditFault),
+}
+
+ghost use Rattle.verity_edit.specs.Under.{IsLineFor, IsRightUnder, ExplainsUnplanned, refusal_of};
+
+/// Why there is no plan, where a read was refused for this reason, or none was.
+fn refused_for(refusal: Option<ReadRefused>, fault: EditFault) -> PlanRefused
+    ensures { result ≡ refusal_of refusal fault }
+{
+    match refusal {
+        Some(ReadRefused::Mismatch { level, index }) => PlanRefused::Untrusted { level, index },
+        Some(ReadRefused::Store) => PlanRefused::Fault(EditFault::Store(Which::Hash)),
+        Some(ReadRefused::NoMemory) => PlanRefused::Fault(EditFault::NoMemory),
+        None => PlanRefused::Fault(fault),
+    }
+}
+
+/// Plans a commit over a store of checked blocks of which nothing was read yet.
+fn plan_checked<H: BlockStore, A: Allocator + Copy + Drop>(
+    alloc: A,
+    checked: &mut Checked<H, A>,
+    hasher: &mut Hasher<A>,
+    pending: &Pending<A>,
+    superblock: &Superblock<A>,
+    first: u64,
+    root: Digest,
+    block: &mut [u8],
+) -> Result<CommitPlan<A>, PlanRefused>
+    requires near { first ≤ 2 ^ 40 }
+    requires allowed { IsTable checked.old.table }
+    requires unread { checked.old ≡ unread H.BlockStore checked.old.table checked.old.hash_store }
+    requires line { IsLineFor checked.old.table superblock.now first root }
+    requires committed { pending.now.committed ≡ superblock.now.data_blocks }
+    requires data_size { superblock.now.params.data_block_size ≡ pending.now.size }
+    requires sized { length block.old ≡ superblock.now.params.hash_block_size }
+    requires salted { hasher.old.salted ≡ salted superblock.now.params }
+    requires root_size { length root ≡ size_of superblock.now.params.algorithm }
+    ensures same { checked.new.table ≡ checked.old.table }
+    ensures plan { IfOk result (λ plan. IsPlan superblock.now pending.now first root plan) }
+    ensures right { IfOk result (λ plan. IsRightUnder H.BlockStore checked.old.table (length (H.given checked.old.hash_store))
+        checked.new.hash_store superblock.now pending.now first plan) }
+    ensures told { IfOk result (λ plan. H.tells checked.old.hash_store ≡ true
+        → IsRight superblock.now pending.now first root (H.content checked.old.hash_store) plan) }
+    ensures refused { IfErr result (ExplainsUnplanned H.BlockStore checked.old.table (length (H.given checked.old.hash_store))
+        checked.old.hash_store checked.new.hash_store) }
+    ensures unfailed { OnOk result (H.failures checked.new.hash_store ≡ H.failures checked.old.hash_store) }
+    ensures counted { IfOk result (λ plan. hasher.new.hashed ≡ hasher.old.hashed + plan.hashed) }
+    ensures salted { hasher.new.salted ≡ hasher.old.salted }
+    ensures read_only { IsOnlyRead H.BlockStore checked.old.hash_store checked.new.hash_store }
+{
+    let planned = plan_commit(
+        alloc, checked, hasher, pending, superblock, first, root, block,
+    );
+    let _facts = checked.table();
+    match planned {
+        Ok(plan) => Ok(plan),
+        Err(fault) => Err(refused_for(checked.refusal(), fault)),
+    }
+}
+
+/// Plans a commit of the pending edits under a table line. It changes nothing, reads no data block, and leaves any bytes in
+/// `block`. The tree and the hash store come back.
+pub fn plan_under<H: BlockStore, A: Allocator + Copy + Drop>(
+    alloc: A,
+    tree: Tree<A>,
+    hash_store: H,
+    hasher: &mut Hasher<A>,
+    pending: &Pending<A>,
+    superblock: &Superblock<A>,
+    first: u64,
+    root: Digest,
+    block: &mut [u8],
+) -> (Tree<A>, H, Result<CommitPlan<A>, PlanRefused>)
+    requires near { first ≤ 2 ^ 40 }
+    requires line { IsLineFor tree superblock.now first root }
+    requires store { IsHashStoreOf H.BlockStore tree hash_store }
+    requires committed { pending.now.committed ≡ superblock.now.data_blocks }
+    requires data_size { superblock.now.params.data_block_size ≡ pending.now.size }
+    requires sized { length block.old ≡ superblock.now.params.hash_block_size }
+    requires salted { hasher.old.salted ≡ salted superblock.now.params }
+    requires root_size { length root ≡ size_of superblock.now.params.algorithm }
+    ensures same { result.0 ≡ tree }
+    ensures plan { IfOk result.2 (λ plan. IsPlan superblock.now pending.now first root plan) }
+    ensures right { IfOk result.2 (λ plan. IsRightUnder H.BlockStore tree (length (H.given hash_store)) result.1
+        superblock.now pending.now first plan) }
+    ensures told { IfOk result.2 (λ plan. H.tells hash_store ≡ true
+        → IsRight superblock.now pending.now first root (H.content hash_store) plan) }
+    ensures refused { IfErr result.2 (ExplainsUnplanned H.BlockStore tree (length (H.given hash_store)) hash_store result.1) }
+    ensures unfailed { OnOk result.2 (H.failures result.1 ≡ H.failures hash_store) }
+    ensures counted { IfOk result.2 (λ plan. hasher.new.hashed ≡ hasher.old.hashed + plan.hashed) }
+    ensures salted { hasher.new.salted ≡ hasher.old.salted }
+    ensures read_only { IsOnlyRead H.BlockStore hash_store result.1 }
+{
+    let _allowed = tree.table();
+    let mut checked = Checked::new(alloc, tree, hash_store);
+    let planned = plan_checked(
+        alloc,
+        &mut checked,
+        hasher,
+        pending,
+        superblock,
+        first,
+        root,
+        block,
+    );
+    let (tree, hash_store) = checked.into_parts();
+    (tree, hash_store, planned)
+}
