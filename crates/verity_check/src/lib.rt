@@ -21,12 +21,14 @@
 //! `Cache` has the invariant of the cache, and `Reporting` how far a report has come.
 #![tactic(auto)]
 
+mod ahead;
 mod cache;
 mod fault;
 mod finding;
 pub mod laws;
 mod range;
 mod report;
+mod run;
 mod since;
 mod verifier;
 mod walk;
