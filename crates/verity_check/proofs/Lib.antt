@@ -7,4 +7,5 @@ pub mod RangeLemmas
 pub mod RangeRuns
 pub mod VerifierLemmas
 pub mod HoldsLaws
-pub mod ReportLemmas
+pub mod RowCounts
+pub mod DescentLemmas

@@ -2,16 +2,16 @@
 use Rattle.std.proofs.Common.{suc, zero, arith, ◌≡◌, ◌<◌, ◌≤◌, ◌+◌, ◌-◌, ◌*◌, ◌/◌, ◌%◌, ◌^◌, ℕ, List, [], ◌∷◌, ◌++◌, length, take, drop}
 use Rattle.std.proofs.Common.{sym, refl, ap, ◌∙◌, subst, mul-le-mul_right}
 use Rattle.std.specs.List.{concat}
-use Rattle.std.proofs.Math.Nat.{add-mul, mul-le-mul_left}
+use Rattle.std.proofs.Math.Nat.{add-mul}
 use Rattle.std.proofs.lemmas.Nat.{mod_below, div-add-mod', le-div}
-use Rattle.std.proofs.lemmas.List.{append_assoc, append-nil, length-append, length-drop, length-take, drop-append-le, take-append-le}
-use Rattle.verity_profile.proofs.Bounds.{block_size_high, block_size_some, block_count_high}
+use Rattle.std.proofs.lemmas.List.{append_assoc, length-append, length-drop, length-take, drop-append-le, take-append-le}
+use Rattle.verity_profile.proofs.Bounds.{block_size_high, block_count_high}
 use Rattle.verity_store.specs.Blocks.{cut}
 use Rattle.verity_store.proofs.BlockLemmas.{length-cut, concat-cut}
 use Rattle.verity_chain.specs.Table.{Table, IsTable}
 use Rattle.verity_chain.specs.Chain.{Given}
 use Rattle.verity_check.specs.Range.{Touches, touched, Served}
-use Rattle.verity_check.specs.Refusal.{Explains, RefusesAfter, RefusesOneOf}
+use Rattle.verity_check.specs.Refusal.{RefusesAfter, RefusesOneOf}
 use Rattle.verity_check.specs.declared.fault.CheckFault.{CheckFault}
 use Rattle.verity_chain.proofs.ChainLemmas.{Grows}
 use Rattle.verity_check.proofs.RangeLemmas.{IsDone, Served-grows, take_piece, below_blocks, Explains-more, refuses_next}

@@ -1,8 +1,8 @@
-use Rattle.std.proofs.Common.{◌≡◌, ℕ, ◌+◌, ◌*◌, ◌<◌, ◌≤◌, [], inl, inr, length, get_or, slice_set, sym, ap, ◌∙◌, subst, arith}
+use Rattle.std.proofs.Common.{◌≡◌, ℕ, ◌+◌, ◌<◌, [], inl, inr, get_or, slice_set, sym, ap, ◌∙◌, subst, arith}
 use Rattle.std.proofs.lemmas.Bool.{cases_lt}
 use Rattle.std.proofs.lemmas.List.{get_or-set_same, get_or-set_other}
 use Rattle.std.proofs.Math.Nat.{add-mul}
-use Rattle.verity_store.proofs.StoreLemmas.{only_read_same, only_read_then}
+use Rattle.verity_store.proofs.StoreLemmas.{only_read_then}
 use Rattle.verity_chain.specs.Table.{height}
 use Rattle.verity_chain.specs.Chain.{Names}
 use Rattle.verity_chain.specs.Stores.{hash_given}
