@@ -1,5 +1,6 @@
 //! The tree that a table line describes, as a check goes down it.
-ghost use Rattle.std.specs.Prelude.{◌≡◌, suc, ◌+◌, ◌*◌, ◌/◌, ◌%◌, ◌^◌, ◌<◌, ◌≤◌, ◌↔◌, IsTrue, length, IfOk};
+ghost use Rattle.std.specs.Prelude.{◌≡◌, ℕ, suc, ◌+◌, ◌-◌, ◌*◌, ◌/◌, ◌%◌, ◌^◌, ◌<◌, ◌≤◌, ◌↔◌, IsTrue, [], length, slice_index_or, IfOk};
+ghost use Rattle.std.specs.Fork.{slice_chunk};
 ghost use Rattle.verity_digest.specs.Tree.{slot as slot_in};
 ghost use Rattle.verity_chain.specs.Table.{IsTable, shape_of, salted_of, hashing_of, branching};
 ghost use Rattle.verity_chain.specs.Table.{height, row_len, tree_len, hash_place, path_index};
@@ -202,5 +203,23 @@ impl<A: Allocator> Tree<A> {
         ensures same { self.new ≡ self.old }
     {
         self.hasher.digest(block).bytes() == named.bytes()
+    }
+    /// Writes the digests of blocks of `size` bytes, which stand one after the other.
+    pub fn digest_run(&mut self, blocks: &[u8], size: usize, out: &mut [Digest])
+        requires { length blocks.now ≡ length out.old * size }
+        ensures digests { (j : ℕ) → j < length out.old
+            → slice_index_or out.new j [] ≡ (hashing_of self.old).digest (slice_chunk blocks.now size j) }
+        ensures same { self.new ≡ self.old }
+    {
+        self.hasher.digest_many(blocks, size, out);
+    }
+
+    /// How many data blocks from `n` on have the parent that data block `n` has.
+    pub fn siblings(&self, n: u64) -> u64
+        ensures value { result ≡ branching self.now - n % branching self.now }
+        ensures some { 0 < result }
+    {
+        let per_block = self.geometry.per_block() as u64;
+        per_block - n % per_block
     }
 }

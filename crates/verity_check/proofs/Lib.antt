@@ -2,7 +2,10 @@ pub mod FindingLaws
 pub mod RangeLaw
 pub mod CacheLemmas
 pub mod WalkLemmas
+pub mod RunLemmas
 pub mod RangeLemmas
+pub mod RangeRuns
 pub mod VerifierLemmas
 pub mod HoldsLaws
-pub mod ReportLemmas
+pub mod RowCounts
+pub mod DescentLemmas

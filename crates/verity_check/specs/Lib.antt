@@ -7,4 +7,4 @@ pub mod Refusal
 pub mod Verifier
 pub mod Holds
 pub mod Report
-pub mod Reporting
+pub mod Descent

@@ -18,15 +18,20 @@
 //! The tree of a table line, chains of given blocks, the image's own blocks and clashes are defined in `verity_chain`, below.
 //! The other definitions stand in `specs/`: `Range` (ranges of bytes), `Refusal` (why a read is refused), `Finding` and `Report`
 //! (what a report finds and lists), `Holds` (stores that hold an image), `Stores` and `Verifier` (what contracts see of both).
-//! `Cache` has the invariant of the cache, and `Reporting` how far a report has come.
+//! `Cache` has the invariant of the cache, and `Descent` how far a report has come.
 #![tactic(auto)]
 
+mod ahead;
 mod cache;
+mod descent;
 mod fault;
 mod finding;
 pub mod laws;
 mod range;
 mod report;
+mod row;
+mod run;
+mod siblings;
 mod since;
 mod verifier;
 mod walk;

@@ -1,0 +1,127 @@
+//! Runs of data blocks, each checked along its path.
+ghost use Rattle.std.specs.Prelude.{◌≡◌, ◌≢◌, ℕ, ◌+◌, ◌*◌, ◌<◌, ◌≤◌, [], length, slice_index_or, None, OnOk, IfErr, IfSome};
+ghost use Rattle.verity_store.specs.Blocks.{cut};
+ghost use Rattle.verity_store.specs.Stores.{IsOnlyRead};
+ghost use Rattle.verity_chain.specs.Table.{IsTable, height};
+ghost use Rattle.verity_chain.specs.Chain.{Names};
+ghost use Rattle.verity_check.specs.Range.{Served};
+ghost use Rattle.verity_chain.specs.Stores.{hash_given, IsHashStoreOf};
+ghost use Rattle.verity_check.specs.Stores.{given_in, IsDataStoreOf};
+ghost use Rattle.verity_check.specs.Cache.{IsChained};
+ghost use Rattle.verity_check.specs.Refusal.{Explains, RefusesOneOf};
+
+use crate::ahead::{agreeing, read_ahead};
+use crate::cache::Cache;
+use crate::since::Since;
+use crate::walk::name;
+use crate::{CheckFault, Place};
+use std::alloc::Allocator;
+use verity_chain::Tree;
+use verity_digest::Digest;
+use verity_store::{BlockStore, Which};
+
+/// The digests that the checked blocks above the data blocks from `n` on name for these: how many, and the fault that ended
+/// it, if one did.
+fn name_run<H: BlockStore, A: Allocator + Copy + Drop>(
+    tree: &mut Tree<A>,
+    hash_store: &mut H,
+    hash_block: &mut [u8],
+    cache: &mut Cache<A>,
+    alloc: A,
+    since: &Since,
+    n: u64,
+    names: &mut [Digest],
+) -> (usize, Option<CheckFault>)
+    requires allowed { IsTable tree.old }
+    requires store { IsHashStoreOf H.BlockStore tree.old hash_store.old }
+    requires whole { length hash_block.old ≡ tree.old.hash_block_size }
+    requires since { since.now.of_hash ≤ length (H.given hash_store.old) }
+    requires chained { IsChained tree.old (hash_given H.BlockStore tree.old since.now.of_hash hash_store.old) cache.old }
+    requires below { n + length names.old ≤ tree.old.data_blocks }
+    ensures most { result.0 ≤ length names.old }
+    ensures named { (j : ℕ) → j < result.0
+        → Names tree.old (hash_given H.BlockStore tree.old since.now.of_hash hash_store.new) 0 (n + j) (slice_index_or names.new j []) }
+    ensures all { result.1 ≡ None → result.0 ≡ length names.old }
+    ensures short { IfSome result.1 (λ fault. result.0 < length names.old) }
+    ensures err { IfSome result.1 (Explains tree.old (hash_given H.BlockStore tree.old since.now.of_hash hash_store.new) ⊥
+        (H.failures hash_store.old < H.failures hash_store.new) (n + result.0)) }
+    ensures memory { IfSome result.1 (λ fault. fault ≢ CheckFault.NoMemory) }
+    ensures chained { IsChained tree.old (hash_given H.BlockStore tree.old since.now.of_hash hash_store.new) cache.new }
+    ensures keeps { IsOnlyRead H.BlockStore hash_store.old hash_store.new }
+    ensures reads { H.reads hash_store.new ≤ H.reads hash_store.old + length names.old * height tree.old }
+    ensures same { tree.new ≡ tree.old }
+{
+    'each: for j in 0..names.len() {
+        match name(
+            tree,
+            hash_store,
+            hash_block,
+            cache,
+            alloc,
+            since,
+            n + j as u64,
+        ) {
+            Ok(digest) => names[j] = digest,
+            Err(fault) => return (j, Some(fault)),
+        }
+    }
+    (names.len(), None)
+}
+
+/// Reads the data blocks from `n` on into `run`, which has the bytes of `count`, and checks each along its path from the
+/// lowest cached block, or the root. They are hashed side by side, and the first block that isn't right, or whose read or
+/// path failed, is the one that is refused.
+pub(crate) fn read_run<D: BlockStore, H: BlockStore, A: Allocator + Copy + Drop>(
+    tree: &mut Tree<A>,
+    data_store: &mut D,
+    hash_store: &mut H,
+    hash_block: &mut [u8],
+    run: &mut [u8],
+    cache: &mut Cache<A>,
+    alloc: A,
+    since: &Since,
+    n: u64,
+    count: usize,
+) -> Result<(), CheckFault>
+    requires allowed { IsTable tree.old }
+    requires data_store { IsDataStoreOf D.BlockStore tree.old data_store.old }
+    requires hash_store { IsHashStoreOf H.BlockStore tree.old hash_store.old }
+    requires few { count ≤ 8 }
+    requires run_whole { length run.old ≡ count * tree.old.data_block_size }
+    requires hash_whole { length hash_block.old ≡ tree.old.hash_block_size }
+    requires data_since { since.now.of_data ≤ length (D.given data_store.old) }
+    requires hash_since { since.now.of_hash ≤ length (H.given hash_store.old) }
+    requires chained { IsChained tree.old (hash_given H.BlockStore tree.old since.now.of_hash hash_store.old) cache.old }
+    requires below { n + count ≤ tree.old.data_blocks }
+    ensures ok { OnOk result (Served tree.old (given_in D.BlockStore H.BlockStore tree.old since.now data_store.new hash_store.new) n
+        (cut tree.old.data_block_size count run.new)) }
+    ensures err { IfErr result (RefusesOneOf tree.old (given_in D.BlockStore H.BlockStore tree.old since.now data_store.new hash_store.new)
+        (D.failures data_store.old < D.failures data_store.new) (H.failures hash_store.old < H.failures hash_store.new) n count) }
+    ensures memory { IfErr result (λ fault. fault ≢ CheckFault.NoMemory) }
+    ensures chained { IsChained tree.old (hash_given H.BlockStore tree.old since.now.of_hash hash_store.new) cache.new }
+    ensures data_keeps { IsOnlyRead D.BlockStore data_store.old data_store.new }
+    ensures hash_keeps { IsOnlyRead H.BlockStore hash_store.old hash_store.new }
+    ensures data_reads { D.reads data_store.new ≤ D.reads data_store.old + count }
+    ensures hash_reads { H.reads hash_store.new ≤ H.reads hash_store.old + count * height tree.old }
+    ensures same { tree.new ≡ tree.old }
+{
+    let mut room_for_names = [tree.root(); 8];
+    let names = &mut room_for_names[..count];
+    let (named, unnamed) = name_run(tree, hash_store, hash_block, cache, alloc, since, n, names);
+    let size = tree.table().data_block_size();
+    let read = read_ahead(data_store, n, named, &mut run[..named * size]);
+    let mut room_for_digests = [tree.root(); 8];
+    let digests = &mut room_for_digests[..read];
+    tree.digest_run(&run[..read * size], size, digests);
+    let good = agreeing(digests, names);
+    if good < read {
+        return Err(CheckFault::Mismatch(Place::Data(n + good as u64)));
+    }
+    if read < named {
+        return Err(CheckFault::Store(Which::Data));
+    }
+    match unnamed {
+        None => Ok(()),
+        Some(fault) => Err(fault),
+    }
+}
