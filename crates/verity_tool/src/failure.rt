@@ -30,6 +30,8 @@ pub enum Word {
     HashOffset,
     Cache,
     Sessions,
+    Memory,
+    Idle,
 }
 
 impl fmt::Display for Word {
@@ -46,6 +48,8 @@ impl fmt::Display for Word {
             Word::HashOffset => "--hash-offset",
             Word::Cache => "--cache",
             Word::Sessions => "--sessions",
+            Word::Memory => "--memory",
+            Word::Idle => "--idle",
         })
     }
 }

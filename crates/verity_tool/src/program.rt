@@ -17,13 +17,14 @@ use std::fs::File;
 use std::io::{Read, Write};
 use std::net::{Net, TcpListener, TcpStream};
 use std::rt::Files;
+use std::time::Clock;
 
 /// Does what the words ask for, of which the first is the program's own name, and answers the status that the process
 /// ends with: 0 done; 1 refused, corrupt, or a fault of a file, a socket or the output; 2 words that were not
 /// understood; 3 want of memory. What the program has to say goes to `output`; to `errors` goes why it refused, in words for
 /// a person, and nothing where the status is 0.
 pub fn run<
-    R: Files<File = File> + Net<Stream = TcpStream, Listener = TcpListener> + AllocGlobal,
+    R: Files<File = File> + Net<Stream = TcpStream, Listener = TcpListener> + Clock + AllocGlobal,
     I: Read,
     W: Write,
     E: Write,
@@ -57,7 +58,7 @@ fn do_request<
 }
 
 fn answer<
-    R: Files<File = File> + Net<Stream = TcpStream, Listener = TcpListener> + AllocGlobal,
+    R: Files<File = File> + Net<Stream = TcpStream, Listener = TcpListener> + Clock + AllocGlobal,
     I: Read,
     W: Write,
     E: Write,

@@ -3,7 +3,6 @@
 use crate::command::Command;
 use crate::failure::{Failure, Word};
 use crate::opened::open_hub;
-use crate::serve::TURNS;
 use crate::status::{DONE, NO_MEMORY, REFUSED};
 use crate::values::number;
 use crate::words::TalkWords;
@@ -11,6 +10,9 @@ use std::fs::File;
 use std::io::{Read, Write};
 use std::rt::Files;
 use verity_hub::{HubFault, ServeFault, serve_stream};
+
+/// How many turns the session may take.
+const TURNS: u64 = 1 << 40;
 
 /// Serves the volume that a table line names to the client at the other end of `input` and `output`, for servers that
 /// are started for one connection. Nothing but the session's bytes is written once the greeting has begun.
