@@ -52,11 +52,6 @@ impl<D: BlockStore, H: BlockStore, A: Allocator + Copy + Drop> Hub<D, H, A> {
         }
     }
 
-    /// Where the sessions' memory comes from.
-    pub fn allocator(&self) -> A {
-        self.sessions.allocator()
-    }
-
     /// Opens a session, appends the greeting to `out`, and tells the session's number: 0 for the first, and for each one
     /// more than for the one before, whichever have ended.
     ///
