@@ -1,19 +1,14 @@
 //! The command `dump`: prints the superblock of a hash device.
 
-use crate::command::Command;
-use crate::failure::{Failure, Word};
-use crate::fault::Fault;
 use crate::lines::print_superblock;
-use crate::opening::{Opened, open_locked};
-use crate::stores::store_of_most;
-use crate::values::number;
-use crate::words::DumpWords;
 use std::alloc::Global;
 use std::fs::File;
 use std::io::Write;
 use std::rt::Files;
+use verity_files::{Command, Failure, Fault, Opened, Word, number, open_locked, store_of_most};
 use verity_store::{BlockStore, Which};
 use verity_superblock::{SuperFault, Superblock, tree_start};
+use verity_words::DumpWords;
 
 /// The bytes of a superblock, and of the blocks in which a hash device is read before its own block size is known.
 const SUPERBLOCK_SIZE: usize = 512;

@@ -1,24 +1,20 @@
 //! The command `edit`: does a script's lines over a volume.
 
-use crate::command::Command;
 use crate::dump::read_superblock;
-use crate::failure::{Failure, Word};
-use crate::fault::Fault;
-use crate::identity::check_apart;
 use crate::lines::Devices;
-use crate::locks::take_lock;
-use crate::opening::{Opened, fault_of, open_there};
 use crate::script::{Script, read_script, run_script};
-use crate::stores::{VolumeStore, room_of, store_of_most};
-use crate::values::{check_paths, number};
-use crate::words::EditWords;
 use std::alloc::Global;
 use std::fs::File;
 use std::io::Write;
 use std::rt::Files;
 use verity_edit::{EditFault, Editor};
+use verity_files::{
+    Command, Failure, Fault, Opened, VolumeStore, Word, check_apart, check_paths, fault_of, number,
+    open_there, room_of, store_of_most, take_lock,
+};
 use verity_store::{StoreFault, Which};
 use verity_superblock::SuperFault;
+use verity_words::EditWords;
 
 /// An editor over two files.
 type FileEditor = Editor<VolumeStore, VolumeStore>;

@@ -1,17 +1,6 @@
 //! The command `format`: makes the hash device of a block image.
 
-use crate::command::Command;
-use crate::failure::{Failure, Word};
-use crate::fault::Fault;
-use crate::identity::{Identity, check_apart};
 use crate::lines::{Volume, table_line};
-use crate::locks::take_lock;
-use crate::opening::{Opened, open_locked, open_or_make, open_there, unmake};
-use crate::stores::{
-    VolumeStore, check_block_size, new_store, store_of_first, store_of_most, whole_store,
-};
-use crate::values::{algorithm, block_size, check_paths, number, salt, salt_bytes, uuid};
-use crate::words::FormatWords;
 use std::alloc::Global;
 use std::fs::File;
 use std::io::Write;
@@ -19,8 +8,15 @@ use std::rt::Files;
 use uuid::Uuid;
 use verity_build::{Params, build_at};
 use verity_digest::{Algorithm, Digest};
+use verity_files::{
+    Command, Failure, Fault, Identity, Opened, VolumeStore, Word, algorithm, block_size,
+    check_apart, check_block_size, check_paths, new_store, number, open_locked, open_or_make,
+    open_there, salt, salt_bytes, store_of_first, store_of_most, take_lock, unmake, uuid,
+    whole_store,
+};
 use verity_store::{BlockStore, StoreFault, Which};
 use verity_superblock::tree_start;
+use verity_words::FormatWords;
 
 /// The numbers and names among the words.
 #[derive(Clone, Copy)]

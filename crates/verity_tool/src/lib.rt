@@ -4,31 +4,17 @@
 //! worth; here a command reads its words, opens its stores, makes one call or a few, and prints lines.
 #![tactic(auto)]
 
-mod command;
 mod dump;
 mod edit;
-mod explaining;
-mod failure;
-mod fault;
 mod format;
-mod identity;
 mod lines;
-mod locks;
-mod looking;
 mod opened;
-mod opening;
-mod parts;
 mod program;
 mod scratch;
 mod script;
 mod serve;
-mod status;
-mod stores;
 mod talk;
-mod values;
 mod verify;
-mod volume_file;
-mod words;
 
 pub use program::run;
 pub use serve::serve_on;

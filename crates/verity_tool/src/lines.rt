@@ -1,10 +1,9 @@
 //! The lines that commands print of a volume.
 
-use crate::failure::Failure;
-use crate::values::salt;
 use std::alloc::Global;
 use std::io::Write;
 use verity_digest::Digest;
+use verity_files::{Failure, salt};
 use verity_geometry::Geometry;
 use verity_superblock::{Superblock, Table};
 

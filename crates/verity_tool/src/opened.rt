@@ -1,13 +1,10 @@
 //! The volume that a table line names, opened to be read.
 
-use crate::command::Command;
-use crate::failure::Failure;
-use crate::opening::open_locked;
-use crate::stores::{VolumeStore, store_of_most};
 use nbd_session::ExportName;
 use std::fs::File;
 use std::rt::Files;
 use verity_check::Verifier;
+use verity_files::{Command, Failure, VolumeStore, open_locked, store_of_most};
 use verity_hub::Hub;
 use verity_store::Which;
 use verity_superblock::Table;

@@ -2,15 +2,11 @@
 
 use crate::dump::dump;
 use crate::edit::edit;
-use crate::explaining::{explain, explain_corrupt, explain_usage, explain_words};
-use crate::failure::{Failure, fail};
 use crate::format::format;
 use crate::scratch::scratch;
 use crate::serve::serve;
-use crate::status::{DONE, NOT_UNDERSTOOD, REFUSED};
 use crate::talk::talk;
 use crate::verify::verify;
-use crate::words::{Request, read_words};
 use clap::Error;
 use clap::error::ErrorKind;
 use std::fs::File;
@@ -18,6 +14,8 @@ use std::io::{Read, Write};
 use std::net::{Net, TcpListener, TcpStream};
 use std::rt::Files;
 use std::time::Clock;
+use verity_files::{DONE, Failure, NOT_UNDERSTOOD, REFUSED, fail};
+use verity_words::{Request, explain, explain_corrupt, explain_usage, explain_words, read_words};
 
 /// Does what the words ask for, of which the first is the program's own name, and answers the status that the process
 /// ends with: 0 done; 1 refused, corrupt, or a fault of a file, a socket or the output; 2 words that were not

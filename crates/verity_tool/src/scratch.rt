@@ -1,15 +1,14 @@
 //! The run without words: a volume in memory, and a script over it.
 
-use crate::failure::Failure;
 use crate::lines::{Devices, committed_line};
 use crate::script::{Script, read_script, run_script};
-use crate::values::salt;
 use std::alloc::Global;
 use std::io::{Read, Write};
 use uuid::Uuid;
 use verity_build::{Params, build};
 use verity_digest::Algorithm;
 use verity_edit::Editor;
+use verity_files::{Failure, salt};
 use verity_store::MemStore;
 
 const DATA_BLOCK_SIZE: usize = 1024;

@@ -1,16 +1,15 @@
 //! A script over a volume: read whole, then done line by line.
 
-use crate::explaining::{Refusal, Where, explain_line};
-use crate::failure::Failure;
 use crate::lines::{Devices, committed_line};
-use crate::status::{DONE, REFUSED};
 use std::alloc::{AllocError, Global};
 use std::io::{ErrorKind, Read, Write};
 use std::{io, str};
 use verity_edit::{Command, EditFault, Editor, Reply};
+use verity_files::{DONE, Failure, REFUSED};
 use verity_geometry::Geometry;
 use verity_script::{Line, read_line};
 use verity_store::{Block, BlockStore, StoreFault, Which};
+use verity_words::{Refusal, Where, explain_line};
 
 /// The most bytes of a script.
 const MOST_BYTES: u64 = 1 << 30;

@@ -1,12 +1,6 @@
 //! The command `serve`: serves a volume over NBD.
 
-use crate::command::Command;
-use crate::failure::{Failure, Word, fail};
-use crate::fault::Fault;
 use crate::opened::open_hub;
-use crate::status::{DONE, REFUSED};
-use crate::values::{memory, number, sessions};
-use crate::words::ServeWords;
 use nbd_serve::{Door, Limits, Stop, Watched};
 use std::fs::File;
 use std::io::{ErrorKind, Write};
@@ -14,8 +8,10 @@ use std::net::{Net, TcpListener, TcpStream};
 use std::os::unix::net::UnixListener;
 use std::rt::Files;
 use std::time::{Clock, Duration};
+use verity_files::{Command, DONE, Failure, Fault, REFUSED, Word, fail, memory, number, sessions};
 use verity_hub::{Hub, serve_clients};
 use verity_store::BlockStore;
+use verity_words::ServeWords;
 
 /// What stands before the path of a Unix socket.
 const UNIX: &str = "unix:";

@@ -1,15 +1,12 @@
 //! The command `talk`: serves a volume to one NBD client, over standard input and output.
 
-use crate::command::Command;
-use crate::failure::{Failure, Word};
 use crate::opened::open_hub;
-use crate::status::{DONE, NO_MEMORY, REFUSED};
-use crate::values::number;
-use crate::words::TalkWords;
 use std::fs::File;
 use std::io::{Read, Write};
 use std::rt::Files;
+use verity_files::{Command, DONE, Failure, NO_MEMORY, REFUSED, Word, number};
 use verity_hub::{HubFault, ServeFault, serve_stream};
+use verity_words::TalkWords;
 
 /// How many turns the session may take.
 const TURNS: u64 = 1 << 40;

@@ -1,15 +1,13 @@
 //! The command `verify`: reports what is wrong in a volume.
 
-use crate::command::Command;
-use crate::failure::Failure;
 use crate::opened::open_verifier;
-use crate::status::{DONE, REFUSED};
-use crate::words::VerifyWords;
 use std::fs::File;
 use std::io::Write;
 use std::rt::Files;
 use verity_check::{Place, Report, Verdict};
+use verity_files::{Command, DONE, Failure, REFUSED};
 use verity_superblock::Table;
+use verity_words::VerifyWords;
 
 /// How many checked hash blocks the verifier may keep. A report keeps none.
 const CACHE: usize = 1024;

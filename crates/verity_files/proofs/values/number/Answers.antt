@@ -1,6 +1,6 @@
 use Rattle.std.proofs.Common.{sym, ◌∙◌}
-use Rattle.verity_tool.proofs.Decimals.{not_digits, read, unread}
-use Rattle.verity_tool.proofs.values.number.Goals as goal
+use Rattle.verity_files.proofs.Decimals.{not_digits, read, unread}
+use Rattle.verity_files.proofs.values.number.Goals as goal
 
 pub returns-then-not-are_digits : goal.returns-then-not-are_digits
 returns-then-not-are_digits c = not_digits c.args.word c.args.text.now (sym c.are_digits.ensures ∙ c.if-not-are_digits.true)

@@ -8,10 +8,10 @@ use Rattle.std.specs.Str.Parse.{ParsesUnsigned, digits_value}
 use Rattle.std.proofs.lemmas.Bool.{and_from, and_parts, false_from_ne_true, ltb-true, lt-ltb}
 use Rattle.std.proofs.lemmas.Str.Parse.{parse_digits}
 use Rattle.verity_superblock.proofs.Readings.{own, all_ascii_digits-list_all}
-use Rattle.verity_tool.specs.declared.failure.Word.{Word}
-use Rattle.verity_tool.specs.declared.failure.Failure.{Failure}
-use Rattle.verity_tool.specs.declared.failure.Failure.TheVariants as failure
-use Rattle.verity_tool.specs.Words.{is_decimal, number_in}
+use Rattle.verity_files.specs.declared.failure.Word.{Word}
+use Rattle.verity_files.specs.declared.failure.Failure.{Failure}
+use Rattle.verity_files.specs.declared.failure.Failure.TheVariants as failure
+use Rattle.verity_files.specs.Words.{is_decimal, number_in}
 
 chosen : (w : Word) (digits : List ℕ) (b : Bool) → is_decimal digits ≡ b →
     number_in w digits ≡ (if b then Ok (digits_value 10 digits) else Err (failure.Word w))

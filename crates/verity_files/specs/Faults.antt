@@ -15,10 +15,10 @@ use Rattle.verity_store.specs.Texts as store_texts
 use Rattle.verity_superblock.specs.declared.faults.SuperFault.TheVariants as super
 use Rattle.verity_superblock.specs.declared.faults.TableFault.TheVariants as table
 use Rattle.verity_superblock.specs.Texts.{super_text, table_text}
-use Rattle.verity_tool.specs.declared.fault.Fault.{Fault}
-use Rattle.verity_tool.specs.declared.fault.Fault.TheVariants.{Store, InUse, Salt, Superblock, Table, Build, Check, Edit, Session, Socket}
-use Rattle.verity_tool.specs.declared.failure.Failure.{Failure}
-use Rattle.verity_tool.specs.declared.failure.Failure.TheVariants.{Word, Refused, NoMemory, Output}
+use Rattle.verity_files.specs.declared.fault.Fault.{Fault}
+use Rattle.verity_files.specs.declared.fault.Fault.TheVariants.{Store, InUse, Salt, Superblock, Table, Build, Check, Edit, Session, Socket}
+use Rattle.verity_files.specs.declared.failure.Failure.{Failure}
+use Rattle.verity_files.specs.declared.failure.Failure.TheVariants.{Word, Refused, NoMemory, Output}
 
 -- the text is that of what it carries
 abbrev pub fault_text : Fault → List ℕ

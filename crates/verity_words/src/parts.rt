@@ -1,7 +1,7 @@
 //! What a command works on, as its words name it.
 
-use crate::command::Command;
 use crate::words::Request;
+use verity_files::Command;
 use verity_store::Which;
 
 /// The files that a command's words name, and the sizes of their blocks; what the words don't name is empty or 0.

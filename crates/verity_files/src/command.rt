@@ -1,6 +1,6 @@
 //! What each command does to a volume's files.
 ghost use Rattle.std.specs.Prelude.{◌≡◌};
-ghost use Rattle.verity_tool.specs.Commands.{lock_of, writes};
+ghost use Rattle.verity_files.specs.Commands.{lock_of, writes};
 
 use verity_store::Which;
 

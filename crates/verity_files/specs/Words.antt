@@ -8,10 +8,10 @@ use Rattle.std.specs.Str.Parse.{digits_value}
 use Rattle.hex.specs.Hex.{decode_of}
 use Rattle.verity_superblock.specs.Line.{is_path}
 use Rattle.verity_superblock.specs.Reading.{is_text}
-use Rattle.verity_tool.specs.declared.failure.Failure.{Failure}
-use Rattle.verity_tool.specs.declared.failure.Failure.TheVariants as failure
-use Rattle.verity_tool.specs.declared.failure.Word.{Word}
-use Rattle.verity_tool.specs.declared.failure.Word.TheVariants as word
+use Rattle.verity_files.specs.declared.failure.Failure.{Failure}
+use Rattle.verity_files.specs.declared.failure.Failure.TheVariants as failure
+use Rattle.verity_files.specs.declared.failure.Word.{Word}
+use Rattle.verity_files.specs.declared.failure.Word.TheVariants as word
 
 -- decimal digits whose value fits 64 bits, however many
 abbrev pub is_decimal : List ℕ → Bool
@@ -30,7 +30,8 @@ sessions_in digits =
 -- how many MiB of replies may wait: a longest reply's at least, and at most 2^20
 abbrev pub memory_in : List ℕ → Result ℕ Failure
 memory_in digits =
-    if is_decimal digits && (nat_lt 32 (digits_value 10 digits) && nat_lt (digits_value 10 digits) (2 ^ 20 + 1)) then Ok (digits_value 10 digits)
+    if is_decimal digits && (nat_lt 32 (digits_value 10 digits) && nat_lt (digits_value 10 digits) (2 ^ 20 + 1))
+    then Ok (digits_value 10 digits)
     else Err (failure.Word word.Memory)
 
 -- the bytes of a salt: `none` for no bytes, else hexadecimal digits, two for a byte

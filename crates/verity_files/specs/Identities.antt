@@ -1,7 +1,7 @@
 -- Which files and devices can hold a volume, and which two are one.
 use Rattle.std.specs.Prelude.{ℕ, Bool, if◌then◌else◌, Option, Some, None}
-use Rattle.verity_tool.specs.declared.identity.Identity.{Identity}
-use Rattle.verity_tool.specs.declared.identity.Identity.TheVariants.{File, Device}
+use Rattle.verity_files.specs.declared.identity.Identity.{Identity}
+use Rattle.verity_files.specs.declared.identity.Identity.TheVariants.{File, Device}
 
 -- a regular file is known by its file system and its number there, a block device by its device number; nothing else
 -- holds blocks

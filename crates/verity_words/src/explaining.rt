@@ -4,8 +4,6 @@
 //! table of `plain_words`; what more there is to say of a file is found by a second look at it. What can't be written is
 //! passed over: the status and the line on standard output stand.
 
-use crate::failure::Failure;
-use crate::fault::Fault;
 use crate::looking::{Detail, look};
 use crate::parts::{Parts, parts_of};
 use crate::words::Request;
@@ -15,6 +13,7 @@ use std::io;
 use std::io::Write;
 use std::rt::Files;
 use verity_edit::EditFault;
+use verity_files::{Failure, Fault};
 use verity_script::Line;
 
 /// Says why a command stopped.

@@ -2,10 +2,10 @@
 use Rattle.std.specs.Prelude.{Bool, true, false}
 use Rattle.verity_store.specs.declared.fault.Which.{Which}
 use Rattle.verity_store.specs.declared.fault.Which.TheVariants as which
-use Rattle.verity_tool.specs.declared.command.Command.{Command}
-use Rattle.verity_tool.specs.declared.command.Command.TheVariants.{Format, Dump, Edit, Verify, Serve, Talk}
-use Rattle.verity_tool.specs.declared.command.Lock.{Lock}
-use Rattle.verity_tool.specs.declared.command.Lock.TheVariants as lock
+use Rattle.verity_files.specs.declared.command.Command.{Command}
+use Rattle.verity_files.specs.declared.command.Command.TheVariants.{Format, Dump, Edit, Verify, Serve, Talk}
+use Rattle.verity_files.specs.declared.command.Lock.{Lock}
+use Rattle.verity_files.specs.declared.command.Lock.TheVariants as lock
 
 -- `format` writes the hash device and `edit` both; the others only read
 abbrev pub writes : Command → Which → Bool

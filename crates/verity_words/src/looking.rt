@@ -1,9 +1,5 @@
 //! A second look at what a command was refused for: which file or word it is, and what is seen there.
 
-use crate::command::Command;
-use crate::fault::Fault;
-use crate::identity::file_identity;
-use crate::opening::open_there;
 use crate::parts::{Parts, field};
 use std::fs::{File, OpenOptions};
 use std::rt::Files;
@@ -11,6 +7,7 @@ use std::{fmt, fs, io};
 use verity_build::BuildFault;
 use verity_check::CheckFault;
 use verity_edit::EditFault;
+use verity_files::{Command, Fault, file_identity, open_there};
 use verity_profile::is_block_size;
 use verity_store::{StoreFault, Which};
 use verity_superblock::{SuperFault, TableFault};

@@ -1,6 +1,6 @@
 //! The locks on a volume's files.
 ghost use Rattle.std.specs.Prelude.{◌≡◌, ◌↔◌, IsOk, IfErr, ◌≢◌, Err};
-ghost use Rattle.verity_tool.specs.declared.fault.Fault.TheVariants as fault;
+ghost use Rattle.verity_files.specs.declared.fault.Fault.TheVariants as fault;
 
 use crate::command::Lock;
 use crate::fault::Fault;

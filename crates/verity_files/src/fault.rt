@@ -9,7 +9,7 @@ ghost use Rattle.verity_edit.specs.Texts.{edit_text};
 ghost use Rattle.verity_geometry.specs.Texts.{geometry_text};
 ghost use Rattle.verity_store.specs.Texts.{fault_text as store_text};
 ghost use Rattle.verity_superblock.specs.Texts.{super_text, table_text};
-ghost use Rattle.verity_tool.specs.Faults.{fault_text, is_want};
+ghost use Rattle.verity_files.specs.Faults.{fault_text, is_want};
 
 use nbd_session::SessionFault;
 use plain_words::Number;
@@ -231,7 +231,7 @@ impl fmt::Display for Fault {
 }
 
 impl From<StoreFault> for Fault {
-    ghost use Rattle.verity_tool.specs.declared.fault.Fault.TheVariants.{Store};
+    ghost use Rattle.verity_files.specs.declared.fault.Fault.TheVariants.{Store};
 
     ghost from_gives = { λ fault f. f ≡ Store fault };
 
@@ -241,7 +241,7 @@ impl From<StoreFault> for Fault {
 }
 
 impl From<SuperFault> for Fault {
-    ghost use Rattle.verity_tool.specs.declared.fault.Fault.TheVariants.{Superblock};
+    ghost use Rattle.verity_files.specs.declared.fault.Fault.TheVariants.{Superblock};
 
     ghost from_gives = { λ fault f. f ≡ Superblock fault };
 

@@ -4,7 +4,7 @@ ghost use Rattle.std.specs.List.{list_all};
 ghost use Rattle.std.specs.Char.{is_ascii_digit};
 ghost use Rattle.std.specs.Result.{result_err};
 ghost use Rattle.verity_superblock.specs.Line.{is_path};
-ghost use Rattle.verity_tool.specs.Words.{number_in, sessions_in, memory_in, salt_of, paths_refusal};
+ghost use Rattle.verity_files.specs.Words.{number_in, sessions_in, memory_in, salt_of, paths_refusal};
 
 use crate::failure::{Failure, Word};
 use hex::FromHexError;

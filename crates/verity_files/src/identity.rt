@@ -1,6 +1,6 @@
 //! What tells one file from another, however its path is spelled.
 ghost use Rattle.std.specs.Prelude.{◌≡◌, ◌≢◌, ◌↔◌, IsTrue, IsOk, IfErr};
-ghost use Rattle.verity_tool.specs.Identities.{identity_of};
+ghost use Rattle.verity_files.specs.Identities.{identity_of};
 
 use crate::failure::{Failure, Word};
 use std::fs::Metadata;

@@ -1,7 +1,7 @@
 //! Why a command stops, and what is printed then.
 ghost use Rattle.std.specs.Prelude.{◌≡◌, ◌⊎◌};
-ghost use Rattle.verity_tool.specs.Faults.{failure_of, status_for};
-ghost use Rattle.verity_tool.specs.declared.fault.Fault.TheVariants as fault;
+ghost use Rattle.verity_files.specs.Faults.{failure_of, status_for};
+ghost use Rattle.verity_files.specs.declared.fault.Fault.TheVariants as fault;
 
 use crate::fault::Fault;
 use crate::status::{NO_MEMORY, NOT_UNDERSTOOD, REFUSED};
@@ -190,7 +190,7 @@ impl From<SessionFault> for Failure {
 }
 
 impl From<AllocError> for Failure {
-    ghost use Rattle.verity_tool.specs.declared.failure.Failure.TheVariants.{NoMemory};
+    ghost use Rattle.verity_files.specs.declared.failure.Failure.TheVariants.{NoMemory};
 
     ghost from_gives = { λ _ f. f ≡ NoMemory };
 

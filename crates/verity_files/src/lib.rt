@@ -1,0 +1,27 @@
+//! The ground of the program's commands: the files of a volume, how they are opened, told apart and locked, the values of
+//! words, and why a command stops, with its text and the status for it.
+#![tactic(auto)]
+
+mod command;
+mod failure;
+mod fault;
+mod identity;
+mod locks;
+mod opening;
+mod status;
+mod stores;
+mod values;
+mod volume_file;
+
+pub use command::{Command, Lock};
+pub use failure::{Failure, Word, fail};
+pub use fault::Fault;
+pub use identity::{Identity, check_apart, file_identity};
+pub use locks::take_lock;
+pub use opening::{Opened, fault_of, open_locked, open_or_make, open_there, unmake};
+pub use status::{DONE, NO_MEMORY, NOT_UNDERSTOOD, REFUSED};
+pub use stores::{
+    VolumeStore, check_block_size, new_store, room_of, store_of_first, store_of_most, whole_store,
+};
+pub use values::{algorithm, block_size, check_paths, memory, number, salt, salt_bytes, sessions, uuid};
+pub use volume_file::VolumeFile;

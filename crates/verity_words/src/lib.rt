@@ -1,0 +1,15 @@
+//! What the program is asked for and why it stopped, in words: the command line as `clap` reads it, and what standard error
+//! says to a person.
+#![tactic(auto)]
+
+mod explaining;
+mod looking;
+mod parts;
+mod words;
+
+pub use explaining::{
+    Refusal, Where, explain, explain_corrupt, explain_line, explain_usage, explain_words,
+};
+pub use words::{
+    DumpWords, EditWords, FormatWords, Request, ServeWords, TalkWords, VerifyWords, read_words,
+};
