@@ -110,8 +110,14 @@ fn serve_each<E: Export, L: Door, W: Write>(
         } else {
             None
         };
-        poll.poll(&mut events, wait).map_err(socket)?;
-        room.note(&events, !at_once);
+        match poll.poll(&mut events, wait) {
+            Ok(()) => room.note(&events, !at_once),
+            Err(e) => {
+                if e.kind() != ErrorKind::Interrupted {
+                    return Err(socket(e));
+                }
+            }
+        }
     }
     Ok(!room.faulty)
 }

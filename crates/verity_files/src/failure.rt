@@ -69,6 +69,8 @@ impl Word {
             Word::HashOffset => "a count of bytes, in decimal digits",
             Word::Cache => "a count of hash blocks, in decimal digits",
             Word::Sessions => "a count of connections, in decimal digits, at most 4294967295",
+            Word::Memory => "a count of MiB, in decimal digits, from 33 to 1048576",
+            Word::Idle => "a count of seconds, in decimal digits",
         }
     }
 }

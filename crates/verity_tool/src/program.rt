@@ -35,7 +35,7 @@ pub fn run<
 }
 
 fn do_request<
-    R: Files<File = File> + Net<Stream = TcpStream, Listener = TcpListener> + AllocGlobal,
+    R: Files<File = File> + Net<Stream = TcpStream, Listener = TcpListener> + Clock + AllocGlobal,
     I: Read,
     W: Write,
     E: Write,

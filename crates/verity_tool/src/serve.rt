@@ -32,6 +32,8 @@ pub fn serve<
     let limits = limits(words)?;
     let mut hub = open_hub(rt, words.table, words.name, cache, Command::Serve)?;
     match words.listen.strip_prefix(UNIX) {
+        // The system would find a name of its own for an empty path.
+        Some("") => Err(Fault::Socket.into()),
         Some(path) => {
             let door = UnixListener::bind(rt, path).map_err(socket)?;
             let status = serve_on(&mut hub, &watched(rt, door, limits), count, output);
