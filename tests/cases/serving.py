@@ -100,6 +100,16 @@ def before():
     for sessions in ("", "x", "-1", "4294967296", "18446744073709551616"):
         yield Case(f"serve: sessions {sessions!r}", [*SERVE, "--listen", "nowhere", f"--sessions={sessions}"],
                    "error: the value of --sessions is not understood\n", 2, FILES)
+    for memory in ("", "x", "-1", "32", "1048577", "18446744073709551616"):
+        yield Case(f"serve: memory {memory!r}", [*SERVE, "--listen", "nowhere", f"--memory={memory}"],
+                   "error: the value of --memory is not understood\n", 2, FILES)
+    for idle in ("", "x", "-1", "18446744073709551616"):
+        yield Case(f"serve: idle {idle!r}", [*SERVE, "--listen", "nowhere", f"--idle={idle}"],
+                   "error: the value of --idle is not understood\n", 2, FILES)
+    yield Case("serve: the least memory, for the longest silence",
+               [*SERVE, "--listen", "nowhere", "--memory=33", "--idle=18446744073709551615"], "refused N6\n", 1, FILES)
+    for path in ("", "nowhere/socket", "data", "x" * 200):
+        yield Case(f"serve: listen 'unix:{path}'", [*SERVE, "--listen", f"unix:{path}"], "refused N6\n", 1, FILES)
     yield Crowded()
     yield Cramped()
     yield Case("serve: no address", SERVE, ["error: ", "--listen <listen>"], 2, FILES)

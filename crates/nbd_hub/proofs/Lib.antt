@@ -5,3 +5,4 @@ pub mod Outcomes
 pub mod Runs
 pub mod Turns
 pub mod Weaker
+pub mod Asking

@@ -1,7 +1,9 @@
 //! A session and its number.
 
-ghost use Rattle.std.specs.Prelude.{◌≡◌, MatchOption, None};
-ghost use Rattle.nbd_session.specs.Session.{Feeds};
+ghost use Rattle.std.specs.Prelude.{◌≡◌, ◌≤◌, ℕ, List, length, false, MatchOption, None};
+ghost use Rattle.nbd_session.specs.Protocol.{short};
+ghost use Rattle.nbd_session.specs.Session.{Feeds, IsAt, added};
+ghost use Rattle.nbd_session.specs.Short.{asked};
 ghost use Rattle.nbd_session.specs.Conversation.{Grows};
 ghost use Rattle.nbd_hub.specs.Sessions.{Place, lookup};
 
@@ -54,6 +56,15 @@ impl<A: Allocator> Numbered<A> {
         ensures grows { Grows out.old.items out.new.items }
     {
         self.session.feed(piece, export, out)
+    }
+
+    /// How many bytes of the export a piece asks the session for.
+    pub fn asks(&self, piece: &[u8]) -> u32
+        requires { length piece.now ≤ short }
+        ensures { (input : List ℕ) → self.now.session.starved ≡ false → IsAt self.now.session input
+            → result ≡ asked (added self.now.session.offer input piece.now) }
+    {
+        self.session.asks(piece)
     }
 }
 

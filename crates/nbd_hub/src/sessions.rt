@@ -1,11 +1,14 @@
 //! Many sessions over one export.
 
-ghost use Rattle.std.specs.Prelude.{◌≡◌, ◌≢◌, ◌↔◌, ◌≤◌, ◌<◌, ◌+◌, ◌++◌, length, List, [], ℕ, Some, None, IfOk, OnOk, OnErr, Err};
+ghost use Rattle.std.specs.Prelude.{◌≡◌, ◌≢◌, ◌↔◌, ◌≤◌, ◌<◌, ◌+◌, ◌++◌, length, List, [], ℕ, false, Some, None, IfOk, OnOk, OnErr, Err};
+ghost use Rattle.nbd_session.specs.Protocol.{short};
+ghost use Rattle.nbd_session.specs.Session.{added};
+ghost use Rattle.nbd_session.specs.Short.{asked};
 ghost use Rattle.nbd_session.specs.Export.{Keeps};
 ghost use Rattle.nbd_session.specs.Handshake.{greeting};
 ghost use Rattle.nbd_session.specs.Conversation.{Grows};
 ghost use Rattle.nbd_hub.specs.Sessions.{OpensOne, FeedsOne, EndsOne, lookup, max_open, max_opened};
-ghost use Rattle.nbd_hub.specs.History.{Step, IsOpen};
+ghost use Rattle.nbd_hub.specs.History.{Step, IsOpen, own, starved};
 ghost use Rattle.nbd_hub.specs.After.{IsAfter, OpenedAfter, FedAfter, EndedAfter};
 
 use crate::fault::HubFault;
@@ -133,6 +136,20 @@ impl<E: Export, A: Allocator + Copy> Sessions<E, A> {
         };
         let one = &mut self.open[at];
         Ok(one.feed(piece, &mut self.export, out))
+    }
+
+    /// How many bytes of the export a piece of at most 28 bytes asks a session for, as [`Session::asks`] tells. A session that
+    /// isn't open asks for none.
+    pub fn asks(&self, id: u64, piece: &[u8]) -> u32
+        requires { length piece.now ≤ short }
+        ensures asked { (history : List Step) → IsAfter (E.facts self.now.1) self.now.0 history → IsOpen history id
+            → starved history id ≡ false → result ≡ asked (added self.now.0.offer (own history id) piece.now) }
+        ensures unknown { lookup id self.now.0.sessions ≡ None → result ≡ 0 }
+    {
+        match find(&self.open, id) {
+            Some(at) => self.open[at].asks(piece),
+            None => 0,
+        }
     }
 
     /// Ends a session.

@@ -1,5 +1,5 @@
 -- A client as contracts see it, and what came of it after a history of its hub.
-use Rattle.std.specs.Prelude.{◌≡◌, ◌≢◌, ◌↔◌, Bool, true, ℕ, ◌<◌, ◌≤◌, ◌⊎◌, List, [], ◌∷◌, ◌++◌, length, Option}
+use Rattle.std.specs.Prelude.{◌≡◌, ◌≢◌, ◌↔◌, Bool, true, false, ℕ, ◌<◌, ◌≤◌, ◌⊎◌, List, [], ◌∷◌, ◌++◌, length, take, Option}
 use Rattle.std.specs.Io.KnownBytes.{Consumes, Appends, IsAtEnd}
 use Rattle.nbd_session.specs.declared.offer.Offer.{Offer}
 use Rattle.nbd_session.specs.declared.phase.Phase.TheVariants as phase
@@ -8,8 +8,9 @@ use Rattle.nbd_session.specs.declared.status.Status.TheVariants as status
 use Rattle.nbd_session.specs.Export.{Facts}
 use Rattle.nbd_session.specs.Talk.{Verdict, Judged, hear, talk, replies}
 use Rattle.nbd_session.specs.Session.{added}
+use Rattle.nbd_session.specs.Short.{asked}
 use Rattle.nbd_hub.specs.declared.fault.ServeFault.TheVariants as fault
-use Rattle.nbd_hub.specs.History.{Step, Opening, Feeding, Ending, Refusal, own, output, IsOpen}
+use Rattle.nbd_hub.specs.History.{Step, Opening, Feeding, Ending, Refusal, own, output, starved, IsOpen}
 use Rattle.nbd_hub.specs.Sessions.{HubState, FeedsOne}
 use Rattle.nbd_hub.specs.After.{IsAfter, FedAfter}
 use Rattle.nbd_hub.specs.Stream.{HasEnded, Ends, Moved, turn_bytes}
@@ -37,6 +38,11 @@ pub record IsServed (offer : Offer) (history : List Step) (client : ClientState)
 -- the most bytes that are read at once, and so that wait
 abbrev pub input_bytes : ℕ
 input_bytes = 4096
+
+-- the next feeding of an open session asks for so many bytes of the export
+abbrev pub AsksFor : Offer → List Step → ClientState → ℕ → Type 0
+AsksFor offer history client n = IsOpen history client.id → starved history client.id ≡ false →
+    n ≡ asked (added offer (own history client.id) (take turn_bytes client.waiting))
 
 -- a feeding of this session by a request's header at most
 abbrev pub FeedsShort : (id : ℕ) → Step → Type 0

@@ -13,7 +13,7 @@ ghost use Rattle.nbd_session.specs.Protocol.{longest_reply};
 ghost use Rattle.nbd_hub.specs.History.{Step, Opening, own};
 ghost use Rattle.nbd_hub.specs.Sessions.{lookup, OpensOne, max_open, max_opened};
 ghost use Rattle.nbd_hub.specs.After.{IsAfter};
-ghost use Rattle.nbd_relay.specs.Client.{IsServed, TurnsOn, Sends, Reads, Feeds, ends, input_bytes, IsUnready, Moves};
+ghost use Rattle.nbd_relay.specs.Client.{AsksFor, IsServed, TurnsOn, Sends, Reads, Feeds, ends, input_bytes, IsUnready, Moves};
 
 use crate::stream::Stream;
 use nbd_hub::{HubFault, ServeFault, Sessions};
@@ -151,6 +151,15 @@ impl<S: Stream + Drop, A: Allocator> Client<S, A> {
             return false;
         }
         !self.over && self.begin < self.end
+    }
+
+    /// How many bytes of the export its next feeding asks for, as [`Sessions::asks`] tells: those of an allowed READ that it
+    /// makes whole, or none.
+    pub fn asks<E: Export, H: Allocator + Copy>(&self, hub: &Sessions<E, H>) -> u32
+        ensures { (history : List Step) → IsAfter (E.facts hub.now.1) hub.now.0 history → AsksFor hub.now.0.offer history self.now.0 result }
+    {
+        let taken = (self.end - self.begin).min(PIECE_BYTES);
+        hub.asks(self.session, &self.input[self.begin..self.begin + taken])
     }
 
     /// Has its stream hand on what it took and holds.

@@ -1,8 +1,10 @@
 //! The clients that are connected, and those that are taking their leave.
 
+use crate::budget::Budget;
 use crate::connection::Connection;
 use crate::door::Door;
 use crate::line::tell_end;
+use crate::parting::Parting;
 use crate::socket::Socket;
 use crate::stop::Stop;
 use crate::turns::{Came, go_on};
@@ -22,18 +24,6 @@ const MOST: usize = 64;
 /// The token of the listener. No session has its number.
 pub const DOOR: Token = Token(usize::MAX);
 
-/// How many bytes of late input are read at once, how many times in a row, and how many in all.
-const LATE_BYTES: usize = 4_096;
-
-const LATE_PIECES: u64 = 64;
-
-const LATE_MOST: u64 = 1 << 26;
-
-/// Which silence ends a leave: so many seconds by the clock, or so many waits in which nobody was heard.
-const LATE_SECONDS: u64 = 1;
-
-const LATE_WAITS: u64 = 2;
-
 /// `accept` answers these where one connection, or the system for a moment, is at fault: want of descriptors, of buffers or
 /// memory, a connection that went away, a network that did.
 const PASSING: [i32; 17] = [
@@ -50,18 +40,6 @@ struct Seat {
     done: bool,
     /// When something last came of it.
     heard: Option<Duration>,
-}
-
-/// A connection whose session has ended: its last reply arrives only if its late input is read, since a close with unread
-/// input would reset it.
-#[derive(Drop)]
-struct Parting<C: Connection> {
-    id: u64,
-    client: Client<Socket<C>>,
-    ready: bool,
-    waits: u64,
-    heard: Option<Duration>,
-    late: u64,
 }
 
 /// The clients that are connected, with a seat for each at the same place, and those that are taking their leave.
@@ -211,7 +189,7 @@ impl<C: Connection + Drop> Room<C> {
     pub fn round<E: Export, W: Write>(
         &mut self,
         hub: &mut Sessions<E>,
-        limit: u64,
+        budget: Budget,
         now: Option<Duration>,
         output: &mut W,
     ) -> Result<bool, Stop> {
@@ -221,7 +199,7 @@ impl<C: Connection + Drop> Room<C> {
             if at >= self.clients.len() {
                 break;
             }
-            match self.turns_of(hub, at, limit, now) {
+            match self.turns_of(hub, at, budget, now) {
                 Came::On => {
                     goes_on = true;
                     at += 1;
@@ -245,7 +223,7 @@ impl<C: Connection + Drop> Room<C> {
         &mut self,
         hub: &mut Sessions<E>,
         at: usize,
-        limit: u64,
+        budget: Budget,
         now: Option<Duration>,
     ) -> Came {
         let Some(seat) = self.seats.get_mut(at) else {
@@ -258,7 +236,7 @@ impl<C: Connection + Drop> Room<C> {
         let came = if seat.done {
             Came::Done
         } else {
-            self.go_on(hub, at, limit)
+            self.go_on(hub, at, budget)
         };
         let flushed = match came {
             Came::Done | Came::Hungry => match self.clients.get_mut(at) {
@@ -288,9 +266,9 @@ impl<C: Connection + Drop> Room<C> {
         came
     }
 
-    fn go_on<E: Export>(&mut self, hub: &mut Sessions<E>, at: usize, limit: u64) -> Came {
+    fn go_on<E: Export>(&mut self, hub: &mut Sessions<E>, at: usize, budget: Budget) -> Came {
         if at < self.clients.len() {
-            go_on(&mut self.clients, at, hub, limit)
+            go_on(&mut self.clients, at, hub, budget)
         } else {
             Came::Waits
         }
@@ -313,14 +291,7 @@ impl<C: Connection + Drop> Room<C> {
         if fault.is_some() {
             self.faulty = true;
         } else if ended.is_ok() {
-            let _ = self.partings.push(Parting {
-                id: client.id(),
-                client,
-                ready: true,
-                waits: 0,
-                heard: None,
-                late: 0,
-            });
+            let _ = self.partings.push(Parting::new(client));
         }
         tell_end(output, seat.number, fault)
     }
@@ -341,7 +312,7 @@ impl<C: Connection + Drop> Room<C> {
             if stays {
                 match self.partings.get(at) {
                     Some(parting) => {
-                        if parting.ready {
+                        if parting.is_ready() {
                             goes_on = true;
                         }
                     }
@@ -375,9 +346,8 @@ impl<C: Connection + Drop> Room<C> {
             }
             for at in 0..self.partings.len() {
                 if let Some(parting) = self.partings.get_mut(at) {
-                    if parting.id as usize == token.0 {
-                        parting.ready = true;
-                        parting.waits = 0;
+                    if parting.id() as usize == token.0 {
+                        parting.wake();
                     }
                 }
             }
@@ -385,7 +355,7 @@ impl<C: Connection + Drop> Room<C> {
         if waited && !heard {
             for at in 0..self.partings.len() {
                 if let Some(parting) = self.partings.get_mut(at) {
-                    parting.waits = parting.waits.saturating_add(1);
+                    parting.wait();
                 }
             }
         }
@@ -418,46 +388,6 @@ impl<C: Connection + Drop> Room<C> {
             }
         }
         Ok(())
-    }
-}
-
-impl<C: Connection + Drop> Parting<C> {
-    /// Reads what its client still says, and tells whether it stays.
-    fn hear(&mut self, now: Option<Duration>) -> bool {
-        if !self.ready {
-            return self.waits < LATE_WAITS && !self.is_silent(now);
-        }
-        self.heard = now;
-        let mut piece = [0u8; LATE_BYTES];
-        for _ in 0..LATE_PIECES {
-            match self.client.stream().connection().receive(&mut piece) {
-                Ok(0) => return false,
-                Ok(taken) => {
-                    self.late = self.late.saturating_add(taken as u64);
-                    if self.late > LATE_MOST {
-                        return false;
-                    }
-                }
-                Err(e) => {
-                    if e.kind() == ErrorKind::WouldBlock {
-                        self.ready = false;
-                        return true;
-                    }
-                    if e.kind() != ErrorKind::Interrupted {
-                        return false;
-                    }
-                }
-            }
-        }
-        true
-    }
-
-    fn is_silent(&self, now: Option<Duration>) -> bool {
-        match (self.heard, now) {
-            (Some(heard), Some(now)) => now.saturating_sub(heard)
-                >= Duration::from_secs(LATE_SECONDS),
-            _ => false,
-        }
     }
 }
 

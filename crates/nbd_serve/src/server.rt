@@ -1,5 +1,6 @@
 //! The loop.
 
+use crate::budget::Budget;
 use crate::door::Door;
 use crate::line::tell_listening;
 use crate::room::{DOOR, Room};
@@ -85,11 +86,12 @@ fn serve_each<E: Export, L: Door, W: Write>(
 ) -> Result<bool, Stop> {
     let alloc = hub.allocator();
     let limits = door.limits();
+    let budget = Budget::of(limits.pending);
     let mut events = Events::with_capacity(alloc, EVENTS)?;
     let mut room = Room::new(alloc)?;
     for _ in 0..u64::MAX {
         room.accept_all(hub, door, poll.registry(), sessions, output)?;
-        let goes_on = room.round(hub, limits.pending, door.now(), output)?;
+        let goes_on = room.round(hub, budget, door.now(), output)?;
         let parts_on = room.part_all(door.now());
         if let (Some(idle), Some(now)) = (limits.idle, door.now()) {
             room.leave_idle(hub, idle, now, output)?;
@@ -108,8 +110,14 @@ fn serve_each<E: Export, L: Door, W: Write>(
         } else {
             None
         };
-        poll.poll(&mut events, wait).map_err(socket)?;
-        room.note(&events, !at_once);
+        match poll.poll(&mut events, wait) {
+            Ok(()) => room.note(&events, !at_once),
+            Err(e) => {
+                if e.kind() != ErrorKind::Interrupted {
+                    return Err(socket(e));
+                }
+            }
+        }
     }
     Ok(!room.faulty)
 }

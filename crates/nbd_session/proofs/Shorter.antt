@@ -16,7 +16,7 @@ use Rattle.nbd_session.specs.Answers.{answer, next_phase}
 use Rattle.nbd_session.specs.Talk.{Heard, hear, hear_front, Verdict, Bytes, Refused, Judged, replies, read_reply}
 use Rattle.nbd_session.specs.Session.{added}
 use Rattle.nbd_session.specs.Export.{Facts, Fair}
-use Rattle.nbd_session.specs.Short.{asks, AsksOnce, RepliesOnce}
+use Rattle.nbd_session.specs.Short.{asks, asked, reply_head, AsksOnce, RepliesOnce, RepliesWithin}
 use Rattle.nbd_session.proofs.Hearing.{Shorter, front_of-shorter, front-shorter, hear-front, hear-ended}
 use Rattle.nbd_session.proofs.Moving.{rest_partial}
 use Rattle.nbd_session.proofs.Waiting.{front_short}
@@ -35,7 +35,7 @@ front_of_within header rest more (Some n) p =
       | inr l ↦ let q = rw (le-ltb (length rest) n l) at p in absurd (let z : ⊥ = cc in z)
     ]
 
-front_within : (phase : Phase) (u piece : List ℕ) → front phase u ≡ Partial → Shorter (length piece) (front phase (u ++ piece))
+pub front_within : (phase : Phase) (u piece : List ℕ) → front phase u ≡ Partial → Shorter (length piece) (front phase (u ++ piece))
 front_within phase u piece p =
     elim (cases_lt (length u) (header_size phase)) [
       | inl l ↦ elim (cases_lt (length (u ++ piece)) (header_size phase)) [
@@ -68,7 +68,7 @@ few_front offer (Options f z) bytes (Whole m rest) e l s h = h (next_phase offer
 few_front offer Transmission bytes (Whole m rest) e l s h = let q = front_short Transmission bytes l in absurd (let z : ⊥ = cc in z)
 few_front offer Ended bytes (Whole m rest) e l s h = h (next_phase offer Ended m) rest s
 
-few : (offer : Offer) (n : ℕ) (phase : Phase) (bytes : List ℕ) → length bytes < n → length bytes < short →
+pub few : (offer : Offer) (n : ℕ) (phase : Phase) (bytes : List ℕ) → length bytes < n → length bytes < short →
     asks (hear offer phase bytes).answers ≡ 0
 few offer zero phase bytes l m = absurd (omega arith)
 few offer (suc n) phase bytes l m =
@@ -99,17 +99,17 @@ asks_once offer input piece l =
 -- one reply, in transmission
 
 -- nothing, one reply without bytes, or one range
-abbrev IsOneReply : List Answer → Type 0
+abbrev pub IsOneReply : List Answer → Type 0
 IsOneReply [] = Unit {0}
 IsOneReply (Says bytes ∷ []) = length bytes ≤ 16
 IsOneReply (Asks offset len cookie ∷ []) = (len ≤ max_length) × (length cookie ≤ 8)
 IsOneReply (a ∷ b ∷ more) = ⊥
 
-and_right : (a b : Bool) → (a && b) ≡ true → b ≡ true
+pub and_right : (a b : Bool) → (a && b) ≡ true → b ≡ true
 and_right true b e = e
 and_right false b e = absurd (let q : ⊥ = cc in q)
 
-and_left : (a b : Bool) → (a && b) ≡ true → a ≡ true
+pub and_left : (a b : Bool) → (a && b) ≡ true → a ≡ true
 and_left true b e = refl
 and_left false b e = absurd (let q : ⊥ = cc in q)
 
@@ -144,7 +144,7 @@ reply_bound size r h =
     ]
 
 -- the next message isn't whole
-silent : (offer : Offer) (over : Bool) (rest : List ℕ) → length rest < short →
+pub silent : (offer : Offer) (over : Bool) (rest : List ℕ) → length rest < short →
     (hear offer (if over then Ended else Transmission) rest).answers ≡ []
 silent offer true rest l = ap (λ (h : Heard). h.answers) (hear-ended offer rest)
 silent offer false rest l =
@@ -184,8 +184,9 @@ reply_len P (Asks offset len cookie ∷ []) [] f i j = absurd j
 reply_len P (Asks offset len cookie ∷ []) (v ∷ verdicts) f i j = verdict_len P offset len cookie v f i.0 i.1 j.0
 reply_len P (a ∷ b ∷ more) verdicts f i j = absurd i
 
-pub replies_once : (P : ℕ → ℕ → Verdict → Type 0) → ((o l : ℕ) (bytes : List ℕ) → P o l (Bytes bytes) → length bytes ≡ l) → RepliesOnce P
-replies_once P f offer input piece verdicts t l j =
+pub one_reply : (offer : Offer) (input piece : List ℕ) → (hear offer Flags input).phase ≡ Transmission → length piece ≤ short →
+    IsOneReply (added offer input piece)
+one_reply offer input piece t l =
     let h = hear offer Flags input in
     let bytes = h.unfinished ++ piece in
     let Q : Phase → Type 0 = λ p. front p h.unfinished ≡ Partial in
@@ -195,7 +196,40 @@ replies_once P f offer input piece verdicts t l j =
     subst R (sym (hear-front offer Transmission bytes)) (reply_front offer bytes (length piece) (front Transmission bytes) l
     (front_within Transmission h.unfinished piece p)) in
     let S : Phase → Type 0 = λ x. IsOneReply (hear offer x bytes).answers in
-    reply_len P (added offer input piece) verdicts f (subst S (sym t) one) j
+    subst S (sym t) one
+
+pub replies_once : (P : ℕ → ℕ → Verdict → Type 0) → ((o l : ℕ) (bytes : List ℕ) → P o l (Bytes bytes) → length bytes ≡ l) → RepliesOnce P
+replies_once P f offer input piece verdicts t l j =
+    reply_len P (added offer input piece) verdicts f (one_reply offer input piece t l) j
+
+verdict_within : (P : ℕ → ℕ → Verdict → Type 0) (offset len : ℕ) (cookie : List ℕ) (v : Verdict) →
+    ((o l : ℕ) (bytes : List ℕ) → P o l (Bytes bytes) → length bytes ≡ l) → length cookie ≤ 8
+    → P offset len v → length (read_reply cookie v ++ []) ≤ 16 + len
+verdict_within P offset len cookie (Bytes bytes) f c h =
+    omega (
+      arith,
+      f offset len bytes h,
+      length-append (simple_reply 0 cookie) bytes,
+      length-append (simple_reply 0 cookie ++ bytes) [],
+      simple_len 0 cookie c,
+    )
+verdict_within P offset len cookie (Refused error) f c h =
+    omega (arith, length-append (simple_reply error cookie) [], simple_len error cookie c)
+
+reply_within : (P : ℕ → ℕ → Verdict → Type 0) (answers : List Answer) (verdicts : List Verdict) →
+    ((o l : ℕ) (bytes : List ℕ) → P o l (Bytes bytes) → length bytes ≡ l)
+    → IsOneReply answers → Judged P answers verdicts → length (replies answers verdicts) ≤ reply_head + asked answers
+reply_within P [] verdicts f i j = omega arith
+reply_within P (Says bytes ∷ []) verdicts f i j = omega (arith, length-append bytes [])
+reply_within P (Asks offset len cookie ∷ []) [] f i j = absurd j
+reply_within P (Asks offset len cookie ∷ []) (v ∷ verdicts) f i j =
+    let h = verdict_within P offset len cookie v f i.1 j.0 in omega (arith, h)
+reply_within P (a ∷ b ∷ more) verdicts f i j = absurd i
+
+pub replies_within : (P : ℕ → ℕ → Verdict → Type 0) → ((o l : ℕ) (bytes : List ℕ) → P o l (Bytes bytes) → length bytes ≡ l) →
+    RepliesWithin P
+replies_within P f offer input piece verdicts t l j =
+    reply_within P (added offer input piece) verdicts f (one_reply offer input piece t l) j
 
 pub fair_len : (a b : Facts) (offset len : ℕ) (bytes : List ℕ) → Fair a b offset len (Bytes bytes) → length bytes ≡ len
 fair_len a b offset len bytes h = h.exact

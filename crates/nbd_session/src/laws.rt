@@ -6,7 +6,7 @@ ghost use Rattle.nbd_session.specs.Handshake.{greeting};
 ghost use Rattle.nbd_session.specs.Talk.{talk};
 ghost use Rattle.nbd_session.specs.Export.{Fair, Keeps};
 ghost use Rattle.nbd_session.specs.Session.{HearingGoesOn, Talked, TalksOn};
-ghost use Rattle.nbd_session.specs.Short.{AsksOnce, RepliesOnce};
+ghost use Rattle.nbd_session.specs.Short.{AsksOnce, RepliesOnce, RepliesWithin};
 
 use crate::export::Export;
 
@@ -36,4 +36,9 @@ pub fn short_pieces_ask_once()
 /// And in transmission what it adds is one reply at most, of 33,554,448 bytes at most.
 pub fn short_pieces_reply_once<E: Export>()
     ensures { (a b : E) → RepliesOnce (Fair (E.facts a) (E.facts b)) }
+{}
+
+/// Nor is it longer than what the piece asks for ([`Session::asks`](crate::Session::asks)), and 16 bytes.
+pub fn short_pieces_reply_within<E: Export>()
+    ensures { (a b : E) → RepliesWithin (Fair (E.facts a) (E.facts b)) }
 {}

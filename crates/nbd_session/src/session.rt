@@ -1,8 +1,11 @@
 //! A session.
 
-ghost use Rattle.std.specs.Prelude.{◌≡◌, ◌≤◌, ◌+◌, ◌++◌, [], false, IfOk, OnOk, OnErr, IsOk, Err, vec_len, vec_capacity};
+ghost use Rattle.std.specs.Prelude.{◌≡◌, ◌≤◌, ◌+◌, ◌++◌, ℕ, List, [], length, false, IfOk, OnOk, OnErr, IsOk, Err, vec_len};
+ghost use Rattle.std.specs.Prelude.{vec_capacity};
 ghost use Rattle.nbd_session.specs.Handshake.{greeting};
-ghost use Rattle.nbd_session.specs.Session.{Feeds, IsAt};
+ghost use Rattle.nbd_session.specs.Protocol.{short};
+ghost use Rattle.nbd_session.specs.Session.{Feeds, IsAt, added};
+ghost use Rattle.nbd_session.specs.Short.{asked};
 ghost use Rattle.nbd_session.specs.Conversation.{Grows};
 
 use crate::conversation::turns;
@@ -13,8 +16,12 @@ use crate::inbox::Inbox;
 use crate::offer::{ExportName, Offer};
 use crate::phase::Phase;
 use crate::status::Status;
+use crate::transmission::asked;
 use std::alloc::{Allocator, Global};
 use std::marker::Model;
+
+/// The bytes of a request's header.
+const HEADER_BYTES: usize = 28;
 
 /// One client's session with a server of one export.
 ///
@@ -116,5 +123,28 @@ impl<A: Allocator> Session<A> {
                 Status::Starved
             }
         }
+    }
+
+    /// How many bytes of the export a piece of at most 28 bytes asks for: the length of the READ that it makes whole, if
+    /// that is allowed, and else none. A feed of it adds at most 16 bytes more, once the negotiation is over
+    /// ([`laws::short_pieces_reply_within`](crate::laws::short_pieces_reply_within)).
+    pub fn asks(&self, piece: &[u8]) -> u32
+        requires { length piece.now ≤ short }
+        ensures { (input : List ℕ) → self.now.starved ≡ false → IsAt self.now input
+            → result ≡ asked (added self.now.offer input piece.now) }
+    {
+        match self.inbox.phase {
+            Phase::Transmission => {}
+            _ => return 0,
+        }
+        let begun = self.inbox.held.len().min(HEADER_BYTES);
+        let more = HEADER_BYTES - begun;
+        if piece.len() < more {
+            return 0;
+        }
+        let mut header = [0u8; HEADER_BYTES];
+        header[..begun].copy_from_slice(&self.inbox.held[..begun]);
+        header[begun..].copy_from_slice(&piece[..more]);
+        asked(self.offer.size, &header)
     }
 }

@@ -12,6 +12,7 @@
 ghost use Rattle.std.specs.Prelude.{◌≡◌, ◌≤◌, ◌+◌, ◌++◌, length, take, IfOk, OnOk, OnErr};
 ghost use Rattle.nbd_session.specs.Messages.{request_body};
 ghost use Rattle.nbd_session.specs.Transmission.{may_read, phase_after_request, read_answer, request_answer, request_of, simple_reply};
+ghost use Rattle.nbd_session.specs.Short.{header_asks};
 ghost use Rattle.nbd_session.specs.Export.{Keeps, error_number};
 ghost use Rattle.nbd_session.specs.Conversation.{AppendsAnswer, Grows};
 
@@ -94,6 +95,22 @@ impl Request {
     {
         let end = u128::from(self.offset) + u128::from(self.len);
         self.flags == 0 && self.len <= MAX_LENGTH && end <= u128::from(size)
+    }
+}
+
+/// How many bytes a request asks of an export of this size: those of a READ that is allowed.
+pub fn asked(size: u64, header: &[u8]) -> u32
+    requires { 28 ≤ length header.now }
+    ensures { result ≡ header_asks size header.now (request_body header.now) }
+{
+    if body_size(header).is_none() {
+        return 0;
+    }
+    let request = Request::of(header);
+    if request.kind == NBD_CMD_READ && request.may_read(size) {
+        request.len
+    } else {
+        0
     }
 }
 

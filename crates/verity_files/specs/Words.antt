@@ -1,5 +1,5 @@
 -- What the words of a command are read as.
-use Rattle.std.specs.Prelude.{ℕ, ◌^◌, ◌==◌, nat_lt, Bool, ◌&&◌, ◌||◌, not, if◌then◌else◌, List, [], length, codes, Option, Some}
+use Rattle.std.specs.Prelude.{ℕ, ◌^◌, ◌+◌, ◌==◌, nat_lt, Bool, ◌&&◌, ◌||◌, not, if◌then◌else◌, List, [], length, codes, Option, Some}
 use Rattle.std.specs.Prelude.{None, Result, Ok, Err}
 use Rattle.std.specs.List.{list_all}
 use Rattle.std.specs.Char.{is_ascii_digit}
@@ -26,6 +26,13 @@ abbrev pub sessions_in : List ℕ → Result ℕ Failure
 sessions_in digits =
     if is_decimal digits && nat_lt (digits_value 10 digits) (2 ^ 32) then Ok (digits_value 10 digits)
     else Err (failure.Word word.Sessions)
+
+-- how many MiB of replies may wait: a longest reply's at least, and at most 2^20
+abbrev pub memory_in : List ℕ → Result ℕ Failure
+memory_in digits =
+    if is_decimal digits && (nat_lt 32 (digits_value 10 digits) && nat_lt (digits_value 10 digits) (2 ^ 20 + 1))
+    then Ok (digits_value 10 digits)
+    else Err (failure.Word word.Memory)
 
 -- the bytes of a salt: `none` for no bytes, else hexadecimal digits, two for a byte
 abbrev pub salt_of : List ℕ → Option (List ℕ)

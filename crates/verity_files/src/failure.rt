@@ -30,6 +30,8 @@ pub enum Word {
     HashOffset,
     Cache,
     Sessions,
+    Memory,
+    Idle,
 }
 
 impl fmt::Display for Word {
@@ -46,6 +48,8 @@ impl fmt::Display for Word {
             Word::HashOffset => "--hash-offset",
             Word::Cache => "--cache",
             Word::Sessions => "--sessions",
+            Word::Memory => "--memory",
+            Word::Idle => "--idle",
         })
     }
 }
@@ -65,6 +69,8 @@ impl Word {
             Word::HashOffset => "a count of bytes, in decimal digits",
             Word::Cache => "a count of hash blocks, in decimal digits",
             Word::Sessions => "a count of connections, in decimal digits, at most 4294967295",
+            Word::Memory => "a count of MiB, in decimal digits, from 33 to 1048576",
+            Word::Idle => "a count of seconds, in decimal digits",
         }
     }
 }

@@ -23,5 +23,7 @@ pub use status::{DONE, NO_MEMORY, NOT_UNDERSTOOD, REFUSED};
 pub use stores::{
     VolumeStore, check_block_size, new_store, room_of, store_of_first, store_of_most, whole_store,
 };
-pub use values::{algorithm, block_size, check_paths, number, salt, salt_bytes, sessions, uuid};
+pub use values::{
+    algorithm, block_size, check_paths, memory, number, salt, salt_bytes, sessions, uuid,
+};
 pub use volume_file::VolumeFile;

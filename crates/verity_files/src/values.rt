@@ -4,13 +4,18 @@ ghost use Rattle.std.specs.List.{list_all};
 ghost use Rattle.std.specs.Char.{is_ascii_digit};
 ghost use Rattle.std.specs.Result.{result_err};
 ghost use Rattle.verity_superblock.specs.Line.{is_path};
-ghost use Rattle.verity_files.specs.Words.{number_in, sessions_in, salt_of, paths_refusal};
+ghost use Rattle.verity_files.specs.Words.{number_in, sessions_in, memory_in, salt_of, paths_refusal};
 
 use crate::failure::{Failure, Word};
 use hex::FromHexError;
 use std::alloc::Global;
 use uuid::Uuid;
 use verity_digest::{Algorithm, Salt};
+
+/// The least and the most MiB of replies that may wait.
+const LEAST_MEMORY: u64 = 33;
+
+const MOST_MEMORY: u64 = 1 << 20;
 
 /// The most connections that `serve` may be asked to serve.
 const MOST_SESSIONS: u64 = 4294967295;
@@ -54,6 +59,22 @@ pub fn sessions(text: &str) -> Result<u64, Failure>
                 Err(Failure::Word(Word::Sessions))
             } else {
                 Ok(count)
+            }
+        }
+        Err(failure) => Err(failure),
+    }
+}
+
+/// The number of MiB of replies that may wait that a word is: at least 33, so that a longest reply fits, and at most 2^20.
+pub fn memory(text: &str) -> Result<u64, Failure>
+    ensures { result ≡ memory_in text.now }
+{
+    match number(Word::Memory, text) {
+        Ok(mebibytes) => {
+            if (LEAST_MEMORY..=MOST_MEMORY).contains(&mebibytes) {
+                Ok(mebibytes)
+            } else {
+                Err(Failure::Word(Word::Memory))
             }
         }
         Err(failure) => Err(failure),

@@ -29,10 +29,12 @@
 mod hub;
 pub mod laws;
 mod relay;
+mod server;
 mod stream;
 mod volume;
 
 pub use hub::Hub;
 pub use nbd_hub::{Event, HubFault, HubReply, Piece, ServeFault};
 pub use relay::{accept, leave, turn, turn_at};
+pub use server::serve_clients;
 pub use stream::serve_stream;

@@ -13,6 +13,7 @@ use std::fs::File;
 use std::io::{Read, Write};
 use std::net::{Net, TcpListener, TcpStream};
 use std::rt::Files;
+use std::time::Clock;
 use verity_files::{DONE, Failure, NOT_UNDERSTOOD, REFUSED, fail};
 use verity_words::{Request, explain, explain_corrupt, explain_usage, explain_words, read_words};
 
@@ -21,7 +22,7 @@ use verity_words::{Request, explain, explain_corrupt, explain_usage, explain_wor
 /// understood; 3 want of memory. What the program has to say goes to `output`; to `errors` goes why it refused, in words for
 /// a person, and nothing where the status is 0.
 pub fn run<
-    R: Files<File = File> + Net<Stream = TcpStream, Listener = TcpListener> + AllocGlobal,
+    R: Files<File = File> + Net<Stream = TcpStream, Listener = TcpListener> + Clock + AllocGlobal,
     I: Read,
     W: Write,
     E: Write,
@@ -34,7 +35,7 @@ pub fn run<
 }
 
 fn do_request<
-    R: Files<File = File> + Net<Stream = TcpStream, Listener = TcpListener> + AllocGlobal,
+    R: Files<File = File> + Net<Stream = TcpStream, Listener = TcpListener> + Clock + AllocGlobal,
     I: Read,
     W: Write,
     E: Write,
@@ -55,7 +56,7 @@ fn do_request<
 }
 
 fn answer<
-    R: Files<File = File> + Net<Stream = TcpStream, Listener = TcpListener> + AllocGlobal,
+    R: Files<File = File> + Net<Stream = TcpStream, Listener = TcpListener> + Clock + AllocGlobal,
     I: Read,
     W: Write,
     E: Write,

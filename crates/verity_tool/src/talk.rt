@@ -1,13 +1,15 @@
 //! The command `talk`: serves a volume to one NBD client, over standard input and output.
 
 use crate::opened::open_hub;
-use crate::serve::TURNS;
 use std::fs::File;
 use std::io::{Read, Write};
 use std::rt::Files;
 use verity_files::{Command, DONE, Failure, NO_MEMORY, REFUSED, Word, number};
 use verity_hub::{HubFault, ServeFault, serve_stream};
 use verity_words::TalkWords;
+
+/// How many turns the session may take.
+const TURNS: u64 = 1 << 40;
 
 /// Serves the volume that a table line names to the client at the other end of `input` and `output`, for servers that
 /// are started for one connection. Nothing but the session's bytes is written once the greeting has begun.

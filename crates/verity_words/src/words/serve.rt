@@ -18,19 +18,38 @@ pub struct ServeWords<'a> {
     pub name: &'a str,
     pub cache: &'a str,
     pub sessions: &'a str,
+    pub memory: &'a str,
+    pub idle: &'a str,
 }
 
 pub fn serve_command<'a>(alloc: Global) -> Result<Command<'a>, AllocError> {
     Command::new(alloc, "serve")
-        .about("Serves a volume over NBD, one connection after the other")
+        .about("Serves a volume over NBD, to up to 64 clients at once")
         .after_help(EXAMPLE)
         .arg(table(alloc))?
-        .arg(option(alloc, "listen", "The address to listen on, as HOST:PORT").required(true))?
+        .arg(option(
+            alloc,
+            "listen",
+            "The address to listen on, as HOST:PORT or unix:PATH",
+        )
+        .required(true))?
         .arg(name(alloc))?
         .arg(cache(alloc))?
         .arg(option(alloc, "sessions", "How many connections are served").default_value(
             "4294967295",
-        ))
+        ))?
+        .arg(option(
+            alloc,
+            "memory",
+            "The most MiB of replies that wait to be sent",
+        )
+        .default_value("128"))?
+        .arg(option(
+            alloc,
+            "idle",
+            "After how many seconds a silent client is left; 0: never",
+        )
+        .default_value("0"))
 }
 
 pub fn serve_words<'a>(matches: &ArgMatches<'a>) -> Option<ServeWords<'a>> {
@@ -40,5 +59,7 @@ pub fn serve_words<'a>(matches: &ArgMatches<'a>) -> Option<ServeWords<'a>> {
         name: matches.get_str("name")?,
         cache: matches.get_str("cache")?,
         sessions: matches.get_str("sessions")?,
+        memory: matches.get_str("memory")?,
+        idle: matches.get_str("idle")?,
     })
 }

@@ -1,7 +1,7 @@
-use Rattle.std.proofs.Common.{◌≡◌, ◌≤◌, refl, ◌∙◌, inl, inr}
+use Rattle.std.proofs.Common.{◌≡◌, refl, ◌∙◌, inl, inr}
 use Rattle.nbd_hub.specs.declared.fault.ServeFault.TheVariants as fault
 use Rattle.nbd_relay.proofs.Many.{runs_more}
-use Rattle.nbd_serve.specs.Pending.{pending}
+use Rattle.nbd_serve.specs.Pending.{IsWithin}
 use Rattle.nbd_serve.specs.declared.turns.Came.{Came}
 use Rattle.nbd_serve.specs.declared.turns.Came.TheVariants as came
 use Rattle.nbd_serve.proofs.Counting.{runs_none}
@@ -14,7 +14,8 @@ pub loop-init : goal.loop-init
 loop-init g c = record {
   count = refl;
   offer = refl;
-  limit = λ p. inl p;
+  budget = λ p. inl p;
+  hungry = λ e. absurd (let z : ⊥ = cc in z);
   serves = λ h logs x v. runs_none g.S.Stream.remaining g.S.Stream.contents (g.E.Export.facts c.args.hub.now.1) c.args.hub.now.0 h
       c.args.clients.now logs x v;
 }
@@ -27,11 +28,12 @@ loop-preserved g c =
     record {
       count = t.ensures.count ∙ i.count;
       offer = t.ensures.offer ∙ i.offer;
-      limit = λ p.
-          let q : pending c.loop.clients ≤ c.args.limit = elim (i.limit p) [
+      budget = λ p.
+          let q : IsWithin c.args.budget.limit c.args.budget.share c.loop.clients = elim (i.budget p) [
             | inl a ↦ a
             | inr b ↦ absurd (apart c.loop.came c.in-On.is b)
-          ] in t.ensures.limit q;
+          ] in t.ensures.budget q;
+      hungry = t.ensures.hungry;
       serves = λ h logs x v.
           runs_more g.S.Stream.remaining g.S.Stream.contents (f c.loop.hub.1) (f t.new.hub.1) c.loop.hub.0 t.new.hub.0 h
           c.args.clients.now c.loop.clients t.new.clients logs (i.serves h logs x v) t.ensures.serves;
