@@ -1,7 +1,7 @@
 -- A plan that was made of checked blocks is that of the image of the table line, or there is a clash.
 use Rattle.std.proofs.Common.{◌≡◌, ◌≢◌, ℕ, suc, ◌+◌, ◌-◌, ◌<◌, ◌≤◌, ◌++◌, List, [], length, take, drop, replicate, get_or}
 use Rattle.std.proofs.Common.{Contains, Option, None, Some, true, inl, inr, ⊎_elim, refl, sym, ap, ◌∙◌, subst, arith}
-use Rattle.std.specs.Prelude.{IfSome, Err}
+use Rattle.std.specs.Prelude.{IfSome, Result, Ok, Err, IfOk}
 use Rattle.std.proofs.Math.Seq.{drop-append_seam}
 use Rattle.std.proofs.lemmas.List.{take_all, length-replicate, get_or-replicate, get_or-drop}
 use Rattle.std.proofs.Math.ListN.{get_or-append}
@@ -9,10 +9,13 @@ use Rattle.verity_profile.specs.Profile.{zero_block}
 use Rattle.verity_digest.specs.Tree.{Hashing, root, tree}
 use Rattle.verity_digest.specs.Hash.{hashing}
 use Rattle.verity_digest.specs.Shape.{level_count, level_len, place}
+use Rattle.std.proofs.Common.{zero}
+use Rattle.verity_store.specs.Given.{GoesOn}
+use Rattle.verity_store.proofs.GivenLemmas.{since_on}
 use Rattle.verity_store.specs.Stores.{IsOnlyRead}
 use Rattle.verity_store.specs.declared.store.BlockStore as store
 use Rattle.verity_superblock.specs.Superblock.{Volume}
-use Rattle.verity_chain.specs.Table.{Table, IsTable, hashing_of, branching, height, row_len}
+use Rattle.verity_chain.specs.Table.{Table, IsTable, hashing_of, branching, height, row_len, hash_place}
 use Rattle.verity_chain.specs.Chain.{WrongAt}
 use Rattle.verity_chain.specs.Right.{Fits, Clash}
 use Rattle.verity_chain.specs.Stores.{hash_given}
@@ -21,7 +24,7 @@ use Rattle.verity_chain.specs.Notes.{Note, noted, AreChecked, AreOwn, ExplainsUn
 use Rattle.verity_chain.specs.Checked.{IsAnswer, Checking, IsChecking, bound_to}
 use Rattle.verity_chain.specs.declared.notes.ReadRefused.{ReadRefused}
 use Rattle.verity_chain.specs.declared.notes.ReadRefused.TheVariants as refused
-use Rattle.verity_chain.proofs.ChainLemmas.{Grows}
+use Rattle.verity_chain.proofs.ChainLemmas.{Grows, WrongAt-grows}
 use Rattle.verity_chain.proofs.NoteLemmas.{noted_given}
 use Rattle.verity_chain.proofs.NoteLaws.{own_or_clashes}
 use Rattle.verity_chain.proofs.OriginLaws.{rows_same, bound_same}
@@ -35,7 +38,7 @@ use Rattle.verity_edit.specs.Draft.{Draft}
 use Rattle.verity_edit.specs.Faults.{PlansOrFails}
 use Rattle.verity_edit.specs.Planning.{volume_hashing, IsRight}
 use Rattle.verity_edit.specs.Standing.{BeginsWith}
-use Rattle.verity_edit.specs.Under.{IsLineFor, IsRightUnder, ExplainsUnplanned, refusal_of}
+use Rattle.verity_edit.specs.Under.{IsLineFor, IsRightUnder, ExplainsUnplanned, refusal_of, line_given}
 use Rattle.verity_edit.proofs.Trees.{stands_at}
 
 -- blocks behind so many zero blocks
@@ -104,6 +107,29 @@ answers_shown : (t : Table) (notes : List Note) (blocks : List (List ℕ)) (n : 
     → IsAnswer t notes n b → get_or (behind t.hash_block_size t.hash_start_block blocks) n [] ≡ b
 answers_shown t notes blocks n b shown =
     ⊎_elim (λ front. get_or-front t.hash_block_size t.hash_start_block n blocks front.0 ∙ sym front.1) shown
+
+-- what is true of an answer
+pub from_ok : {X E : Type 0} (r : Result X E) (x : X) (P : X → Type 0) → r ≡ Ok x → IfOk r P → P x
+from_ok r x P is h = subst (λ s. IfOk s P) is h
+
+-- what was given is in the log
+was_given : {H : Type 0} (hash : store.Ghosts H) (t : Table) (mark : ℕ) (h : H) → Grows (hash_given hash t mark h) (line_given hash t mark h)
+was_given hash t mark h zero i y gave = absurd gave
+was_given hash t mark h (suc l) i y gave = gave.0
+
+-- and stays there
+pub given_on : {H : Type 0} (hash : store.Ghosts H) (t : Table) (mark : ℕ) (old new : H) → GoesOn (hash.given old) (hash.given new)
+    → Grows (line_given hash t mark old) (line_given hash t mark new)
+given_on hash t mark old new on zero i y gave = absurd gave
+given_on hash t mark old new on (suc l) i y gave = since_on (hash.given old) (hash.given new) on mark (hash_place t l i) y gave
+
+-- what a plan is under a line it stays
+pub right_later : {H A : Type 0} (hash : store.Ghosts H) (t : Table) (mark : ℕ) (old new : H) (v : Volume) (d : Draft) (first : ℕ)
+    (plan : CommitPlan A) → GoesOn (hash.given old) (hash.given new) → IsRightUnder hash t mark old v d first plan
+    → IsRightUnder hash t mark new v d first plan
+right_later hash t mark old new v d first plan on right image fits =
+    ⊎_elim inl (λ clash. inr (clash_grows t image (line_given hash t mark old) (line_given hash t mark new)
+    (given_on hash t mark old new on) clash)) (right image fits)
 
 -- which of these an answer is
 abbrev kind : Option ReadRefused → ℕ
@@ -174,8 +200,11 @@ module _ {H : Type 0} (hash : store.Ghosts H) (t : Table) (h : H) (new : Checkin
   explains_by T (Some (refused.Mismatch level index)) f why none same fails =
       let P : Table → ℕ → Type 0 = λ u m. (level < height u) × (index < row_len u (suc level))
       × WrongAt u (hash_given hash u m new.hash_store) (suc level) index in
-      let there : P t (length (hash.given h)) = subst (λ m. P t m) since_then (subst (λ u. P u new.since) same_table why) in
-      (there.0, there.1, there.2, same (λ e. absurd (omega (arith, ap kind e))))
+      let mark : ℕ = length (hash.given h) in
+      let there : P t mark = subst (λ m. P t m) since_then (subst (λ u. P u new.since) same_table why) in
+      let wrong = WrongAt-grows t (hash_given hash t mark new.hash_store) (line_given hash t mark new.hash_store)
+      (was_given hash t mark new.hash_store) (suc level) index there.2 in
+      (there.0, there.1, wrong, same (λ e. absurd (omega (arith, ap kind e))))
   explains_by T (Some refused.Store) f why none same fails = subst (λ w. w.failures < hash.failures new.hash_store) was_then why
   explains_by T (Some refused.NoMemory) f why none same fails = same (λ e. absurd (omega (arith, ap kind e)))
   explains_by T None f why none same fails =
@@ -218,9 +247,11 @@ module _ {H : Type 0} (hash : store.Ghosts H) (t : Table) (h : H) (new : Checkin
         inl (right blocks (λ n b has. answers_shown t new.notes (tree k image) n b
         (own_shown t image new.notes ok fits own n b) (answered n b has))
         image (fits.blocks ∙ line.data_blocks ∙ count) stands is_root))
-        (λ clash. inr (clash_grows t image (noted t new.notes) (hash_given hash t (length (hash.given h)) new.hash_store)
+        (λ clash. let mark : ℕ = length (hash.given h) in
+        inr (clash_grows t image (hash_given hash t mark new.hash_store) (line_given hash t mark new.hash_store)
+        (was_given hash t mark new.hash_store) (clash_grows t image (noted t new.notes) (hash_given hash t mark new.hash_store)
         (subst (λ m. Grows (noted t new.notes) (hash_given hash t m new.hash_store)) since_then
-        (noted_given hash t new.since new.hash_store new.notes is.noted)) clash))
+        (noted_given hash t new.since new.hash_store new.notes is.noted)) clash)))
         (own_or_clashes t image ok fits new.notes (subst (λ u. AreChecked u new.notes) same_table is.checked))
 
     -- a noted block is the one that the store holds, if it tells

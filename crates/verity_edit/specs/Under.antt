@@ -6,9 +6,9 @@ use Rattle.verity_store.specs.declared.store.BlockStore as store
 use Rattle.verity_superblock.specs.Superblock.{Volume}
 use Rattle.verity_store.specs.declared.fault.Which.TheVariants as which
 use Rattle.verity_chain.specs.Table.{Table, height, row_len}
-use Rattle.verity_chain.specs.Chain.{WrongAt}
+use Rattle.verity_store.specs.Given.{GaveSince}
+use Rattle.verity_chain.specs.Chain.{Given, given_by, WrongAt}
 use Rattle.verity_chain.specs.Right.{Fits, Clash}
-use Rattle.verity_chain.specs.Stores.{hash_given}
 use Rattle.verity_chain.specs.declared.notes.ReadRefused.{ReadRefused}
 use Rattle.verity_chain.specs.declared.notes.ReadRefused.TheVariants as refused
 use Rattle.verity_edit.specs.declared.fault.EditFault.{EditFault}
@@ -16,6 +16,7 @@ use Rattle.verity_edit.specs.declared.fault.EditFault.TheVariants as fault
 use Rattle.verity_edit.specs.declared.planning.CommitPlan.{CommitPlan}
 use Rattle.verity_edit.specs.declared.under.PlanRefused.{PlanRefused}
 use Rattle.verity_edit.specs.declared.under.PlanRefused.TheVariants.{Untrusted, Fault}
+use Rattle.verity_build.specs.Faults.{HasFailed}
 use Rattle.verity_edit.specs.Draft.{Draft, edits_of}
 use Rattle.verity_edit.specs.Making.{touched_blocks}
 use Rattle.verity_edit.specs.Planning.{volume_shape, volume_hashing}
@@ -37,17 +38,21 @@ PlansEdits v d first image plan =
     (levels_of (volume_shape v.params d.working)))
     × (plan.root ≡ root (volume_hashing v.params) (edits_of image d).working)
 
+-- behind the first `mark` of what it gave the hash store gave the block at this place of the tree
+abbrev pub line_given : {H : Type 0} → store.Ghosts H → Table → ℕ → H → Given
+line_given hash t mark h = given_by t (λ n block. ⊥) (GaveSince (hash.given h) mark)
+
 -- so it is for every image that fits the table line, unless the hash store, behind the first `mark` of what it gave, gave a block
 -- that differs from the image's own at its place and has its length and its digest
 abbrev pub IsRightUnder : {H A : Type 0} → store.Ghosts H → Table → ℕ → H → Volume → Draft → ℕ → CommitPlan A → Type 0
 IsRightUnder hash t mark h v d first plan = (image : List (List ℕ)) → Fits t image
-    → PlansEdits v d first image plan ⊎ Clash t (hash_given hash t mark h) image
+    → PlansEdits v d first image plan ⊎ Clash t (line_given hash t mark h) image
 
 -- why there is no plan: behind the first `mark` of what it gave the hash store gave a block without the digest that is named at its
 -- place, below a chain of given blocks; or memory was refused; or the hash store failed
 abbrev pub ExplainsUnplanned : {H : Type 0} → store.Ghosts H → Table → ℕ → (old new : H) → PlanRefused → Type 0
 ExplainsUnplanned hash t mark old new (Untrusted level index) = (level < height t) × (index < row_len t (suc level))
-    × WrongAt t (hash_given hash t mark new) (suc level) index × (hash.failures new ≡ hash.failures old)
+    × WrongAt t (line_given hash t mark new) (suc level) index × (hash.failures new ≡ hash.failures old)
 ExplainsUnplanned hash t mark old new (Fault fault.NoMemory) = hash.failures new ≡ hash.failures old
 ExplainsUnplanned hash t mark old new (Fault (fault.Store which.Hash)) = hash.failures old < hash.failures new
 ExplainsUnplanned hash t mark old new (Fault _) = ⊥
@@ -58,3 +63,14 @@ refusal_of (Some (refused.Mismatch level index)) f = Untrusted level index
 refusal_of (Some refused.Store) f = Fault (fault.Store which.Hash)
 refusal_of (Some refused.NoMemory) f = Fault fault.NoMemory
 refusal_of None f = Fault f
+
+-- why nothing was committed: as for a plan; or a store failed
+abbrev pub ExplainsUncommitted : {D H : Type 0} → store.Ghosts D → store.Ghosts H → Table → ℕ → (d d' : D) (h h' : H) → PlanRefused → Type 0
+ExplainsUncommitted data_facts hash t mark d d' h h' (Untrusted level index) = (level < height t) × (index < row_len t (suc level))
+    × WrongAt t (line_given hash t mark h') (suc level) index
+    × (data_facts.failures d' ≡ data_facts.failures d) × (hash.failures h' ≡ hash.failures h)
+ExplainsUncommitted data_facts hash t mark d d' h h' (Fault fault.NoMemory) =
+    (data_facts.failures d' ≡ data_facts.failures d) × (hash.failures h' ≡ hash.failures h)
+ExplainsUncommitted data_facts hash t mark d d' h h' (Fault (fault.Store which)) =
+    HasFailed (data_facts.failures d < data_facts.failures d') (hash.failures h < hash.failures h') which
+ExplainsUncommitted data_facts hash t mark d d' h h' (Fault _) = ⊥

@@ -1,17 +1,20 @@
 //! The plan of a commit under a trusted table line: each hash block that it reads is checked from the root down, so that
 //! the hash store need not be honest.
-ghost use Rattle.std.specs.Prelude.{◌≡◌, ℕ, ◌+◌, ◌^◌, ◌≤◌, true, length, IfErr, IfOk, OnOk};
+ghost use Rattle.std.specs.Prelude.{◌≡◌, ℕ, ◌+◌, ◌-◌, ◌^◌, ◌≤◌, true, false, length, IfErr, IfOk, OnOk, OnErr};
 ghost use Rattle.verity_digest.specs.Hash.{size_of};
-ghost use Rattle.verity_store.specs.Stores.{IsOnlyRead};
+ghost use Rattle.verity_store.specs.Stores.{IsOnlyRead, IsOnlyWritten, StaysStore};
 ghost use Rattle.verity_superblock.specs.Superblock.{salted};
 ghost use Rattle.verity_chain.specs.Table.{IsTable};
 ghost use Rattle.verity_chain.specs.Stores.{IsHashStoreOf};
 ghost use Rattle.verity_chain.specs.Checked.{unread};
+ghost use Rattle.verity_edit.specs.Levels.{KeepsFront};
+ghost use Rattle.verity_edit.specs.Committing.{CanCommit, IsCarriedOut};
 ghost use Rattle.verity_edit.specs.Planning.{IsPlan, IsRight};
 
 use crate::EditFault;
+use crate::committing::{carry_out, reserve_both};
 use crate::pending::Pending;
-use crate::planning::{CommitPlan, plan_commit};
+use crate::planning::{CommitPlan, plan_commit, zeros};
 use std::alloc::Allocator;
 use verity_chain::{Checked, ReadRefused, Tree};
 use verity_digest::{Digest, Hasher};
@@ -32,7 +35,7 @@ pub enum PlanRefused {
     Fault(EditFault),
 }
 
-ghost use Rattle.verity_edit.specs.Under.{IsLineFor, IsRightUnder, ExplainsUnplanned, refusal_of};
+ghost use Rattle.verity_edit.specs.Under.{IsLineFor, IsRightUnder, ExplainsUnplanned, ExplainsUncommitted, refusal_of};
 
 /// Why there is no plan, where a read was refused for this reason, or none was.
 fn refused_for(refusal: Option<ReadRefused>, fault: EditFault) -> PlanRefused
@@ -136,4 +139,82 @@ pub fn plan_under<H: BlockStore, A: Allocator + Copy + Drop>(
     );
     let (tree, hash_store) = checked.into_parts();
     (tree, hash_store, planned)
+}
+
+/// Commits the pending edits to both stores under a table line: plans, makes room, raises the flag `broken`, and changes the
+/// stores. On success the flag is still raised, and whoever called lowers it. The tree, which is the old one, and the hash store
+/// come back.
+pub fn commit_under<D: BlockStore, H: BlockStore, A: Allocator + Copy + Drop>(
+    alloc: A,
+    tree: Tree<A>,
+    data_store: &mut D,
+    hash_store: H,
+    hasher: &mut Hasher<A>,
+    pending: &Pending<A>,
+    superblock: &Superblock<A>,
+    broken: &mut bool,
+) -> (Tree<A>, H, Result<CommitPlan<A>, PlanRefused>)
+    requires sound { broken.old ≡ false }
+    requires line { IsLineFor tree superblock.now tree.hash_start_block tree.root }
+    requires can { CanCommit D.BlockStore H.BlockStore superblock.now pending.now tree.hash_start_block tree.root data_store.old hash_store }
+    requires salted { hasher.old.salted ≡ salted superblock.now.params }
+    ensures same { result.0 ≡ tree }
+    ensures done { OnOk result.2 (IsCarriedOut D.BlockStore H.BlockStore superblock.now pending.now tree.hash_start_block tree.root
+        data_store.old data_store.new hash_store result.1) }
+    ensures plan { IfOk result.2 (λ plan. IsPlan superblock.now pending.now tree.hash_start_block tree.root plan) }
+    ensures right { IfOk result.2 (λ plan. IsRightUnder H.BlockStore tree (length (H.given hash_store)) result.1
+        superblock.now pending.now tree.hash_start_block plan) }
+    ensures refused { IfErr result.2 (ExplainsUncommitted D.BlockStore H.BlockStore tree (length (H.given hash_store)) data_store.old
+        data_store.new hash_store result.1) }
+    ensures unfailed { OnOk result.2 ((D.failures data_store.new ≡ D.failures data_store.old)
+        × (H.failures result.1 ≡ H.failures hash_store)) }
+    ensures counts { IfOk result.2 (λ plan. hasher.new.hashed ≡ hasher.old.hashed + plan.hashed) }
+    ensures salted { hasher.new.salted ≡ hasher.old.salted }
+    ensures unchanged { OnErr result.2 (broken.new ≡ false
+        → (D.content data_store.new ≡ D.content data_store.old) × (H.content result.1 ≡ H.content hash_store)) }
+    ensures front { KeepsFront (tree.hash_start_block - 1) (H.content hash_store) (H.content result.1) }
+    ensures data_store { IsOnlyWritten D.BlockStore data_store.old data_store.new }
+    ensures hash_store { StaysStore H.BlockStore hash_store result.1 }
+{
+    let first = tree.table().hash_start_block();
+    let root = tree.root();
+    let Ok(mut block) = zeros(alloc, superblock.hash_block_size()) else {
+        return (
+            tree,
+            hash_store,
+            Err(PlanRefused::Fault(EditFault::NoMemory)),
+        );
+    };
+    let (tree, hash_store, planned) = plan_under(
+        alloc, tree, hash_store, hasher, pending, superblock, first, root, &mut block,
+    );
+    let plan = match planned {
+        Ok(plan) => plan,
+        Err(why) => return (tree, hash_store, Err(why)),
+    };
+    let mut hash_store = hash_store;
+    let hash_blocks = first + plan.change.new.total();
+    if reserve_both(data_store, &mut hash_store, pending.blocks(), hash_blocks).is_err() {
+        return (
+            tree,
+            hash_store,
+            Err(PlanRefused::Fault(EditFault::NoMemory)),
+        );
+    }
+    match carry_out(
+        data_store,
+        &mut hash_store,
+        pending,
+        superblock,
+        &plan,
+        &mut block,
+        broken,
+    ) {
+        Ok(()) => (tree, hash_store, Ok(plan)),
+        Err(which) => (
+            tree,
+            hash_store,
+            Err(PlanRefused::Fault(EditFault::Store(which))),
+        ),
+    }
 }

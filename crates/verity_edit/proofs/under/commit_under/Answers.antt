@@ -1,0 +1,113 @@
+use Rattle.std.proofs.Common.{◌≡◌, ℕ, true, List, length, arith, subst, sym, ap, ◌∙◌}
+use Rattle.verity_geometry.specs.Geometry.{total_of}
+use Rattle.verity_store.proofs.GivenLemmas.{goes_on_then}
+use Rattle.verity_chain.proofs.ChainLemmas.{ok_here}
+use Rattle.verity_superblock.specs.Superblock.{Volume}
+use Rattle.verity_edit.specs.declared.tree.Change.{Change}
+use Rattle.verity_edit.specs.Draft.{Draft}
+use Rattle.verity_edit.specs.Planning.{IsPlan, IsRight}
+use Rattle.verity_edit.specs.Committing.{IsCarriedOut}
+use Rattle.verity_edit.specs.Under.{IsRightUnder}
+use Rattle.verity_edit.proofs.CommitLemmas.{carried_before}
+use Rattle.verity_edit.proofs.UnderLemmas.{from_ok, right_later}
+use Rattle.verity_edit.proofs.under.commit_under.Goals as goal
+
+pub carry_out-requires-clause-plan : goal.carry_out-requires-clause-plan
+carry_out-requires-clause-plan g c =
+    let v : Volume = c.args.superblock.now in
+    let d : Draft = c.args.pending.now in
+    let plan = c.in-Ok-planned.plan in
+    let made = from_ok c.plan_under-tree.result.2 plan (λ p. IsPlan v d c.hash_start_block-first.result c.root-root.result p)
+    c.in-Ok-planned.is c.plan_under-tree.ensures.plan in
+    subst (λ (x : Change). IsPlan v d x.first x.root plan) (sym made.change) made
+
+pub carry_out-requires-clause-right : goal.carry_out-requires-clause-right
+carry_out-requires-clause-right g c = λ told.
+    let H = g.H.BlockStore in
+    let v : Volume = c.args.superblock.now in
+    let d : Draft = c.args.pending.now in
+    let plan = c.in-Ok-planned.plan in
+    let first : ℕ = c.hash_start_block-first.result in
+    let root : List ℕ = c.root-root.result in
+    let read = c.plan_under-tree.ensures.read_only in
+    let kept = c.reserve_both.ensures.hash_store in
+    let made = from_ok c.plan_under-tree.result.2 plan (λ p. IsPlan v d first root p) c.in-Ok-planned.is c.plan_under-tree.ensures.plan in
+    let right = from_ok c.plan_under-tree.result.2 plan (λ p. H.tells c.args.hash_store ≡ true
+    → IsRight v d first root (H.content c.args.hash_store) p) c.in-Ok-planned.is c.plan_under-tree.ensures.told in
+    subst (λ (x : Change). IsRight v d x.first x.root (H.content c.reserve_both.new.hash_store) plan) (sym made.change)
+    (subst (λ (blocks : List (List ℕ)). IsRight v d first root blocks plan) (sym (kept.content ∙ read.content))
+    (right (sym (kept.later.tells ∙ read.later.tells) ∙ told)))
+
+pub carry_out-requires-clause-data_room : goal.carry_out-requires-clause-data_room
+carry_out-requires-clause-data_room g c =
+    let room = ok_here c.reserve_both.result _ c.reserve_both.ensures.data_room c.if-is_err.ensures.value in
+    let blocks = c.blocks-2.ensures.value in
+    omega arith
+
+pub carry_out-requires-clause-hash_room : goal.carry_out-requires-clause-hash_room
+carry_out-requires-clause-hash_room g c =
+    let v : Volume = c.args.superblock.now in
+    let d : Draft = c.args.pending.now in
+    let plan = c.in-Ok-planned.plan in
+    let made = from_ok c.plan_under-tree.result.2 plan (λ p. IsPlan v d c.hash_start_block-first.result c.root-root.result p)
+    c.in-Ok-planned.is c.plan_under-tree.ensures.plan in
+    let room = ok_here c.reserve_both.result _ c.reserve_both.ensures.hash_room c.if-is_err.ensures.value in
+    let total = c.total.ensures.value ∙ ap (λ x. total_of x.new) made.change in
+    let first = ap (λ x. x.first) made.change in
+    omega arith
+
+pub returns-in-Ok-carry_out-clause-done : goal.returns-in-Ok-carry_out-clause-done
+returns-in-Ok-carry_out-clause-done g c =
+    let D = g.D.BlockStore in
+    let H = g.H.BlockStore in
+    let v : Volume = c.args.superblock.now in
+    let d : Draft = c.args.pending.now in
+    let plan = c.in-Ok-planned.plan in
+    let t = c.args.tree in
+    let first : c.hash_start_block-first.result ≡ t.hash_start_block =
+    c.hash_start_block-first.ensures.value ∙ ap (λ u. u.hash_start_block) c.table.ensures.value in
+    let root : c.root-root.result ≡ t.root = c.root-root.ensures in
+    let made = from_ok c.plan_under-tree.result.2 plan (λ p. IsPlan v d c.hash_start_block-first.result c.root-root.result p)
+    c.in-Ok-planned.is c.plan_under-tree.ensures.plan in
+    let read = c.plan_under-tree.ensures.read_only in
+    let kept = c.reserve_both.ensures.hash_store in
+    let data_kept = c.reserve_both.ensures.data_store in
+    let now = c.reserve_both.new.data_store in
+    let hash_now = c.reserve_both.new.hash_store in
+    let new_data = c.carry_out.new.data_store in
+    let new_hash = c.carry_out.new.hash_store in
+    let done = subst (λ (x : Change). IsCarriedOut D H v d x.first x.root now new_data hash_now new_hash) made.change
+    c.in-Ok-carry_out.ensures.done in
+    let here = subst (λ (r : List ℕ). IsCarriedOut D H v d t.hash_start_block r now new_data hash_now new_hash) root
+    (subst (λ (f : ℕ). IsCarriedOut D H v d f c.root-root.result now new_data hash_now new_hash) first done) in
+    carried_before D H v d t.hash_start_block t.root c.args.data_store.now now new_data c.args.hash_store hash_now new_hash here
+    data_kept.content data_kept.later.tells (kept.content ∙ read.content) (kept.later.tells ∙ read.later.tells)
+
+pub returns-in-Ok-carry_out-clause-plan : goal.returns-in-Ok-carry_out-clause-plan
+returns-in-Ok-carry_out-clause-plan g c =
+    let v : Volume = c.args.superblock.now in
+    let d : Draft = c.args.pending.now in
+    let plan = c.in-Ok-planned.plan in
+    let t = c.args.tree in
+    let first : c.hash_start_block-first.result ≡ t.hash_start_block =
+    c.hash_start_block-first.ensures.value ∙ ap (λ u. u.hash_start_block) c.table.ensures.value in
+    let made = from_ok c.plan_under-tree.result.2 plan (λ p. IsPlan v d c.hash_start_block-first.result c.root-root.result p)
+    c.in-Ok-planned.is c.plan_under-tree.ensures.plan in
+    subst (λ (r : List ℕ). IsPlan v d t.hash_start_block r plan) c.root-root.ensures
+    (subst (λ (f : ℕ). IsPlan v d f c.root-root.result plan) first made)
+
+pub returns-in-Ok-carry_out-clause-right : goal.returns-in-Ok-carry_out-clause-right
+returns-in-Ok-carry_out-clause-right g c =
+    let H = g.H.BlockStore in
+    let v : Volume = c.args.superblock.now in
+    let d : Draft = c.args.pending.now in
+    let plan = c.in-Ok-planned.plan in
+    let t = c.args.tree in
+    let mark : ℕ = length (H.given c.args.hash_store) in
+    let first : c.hash_start_block-first.result ≡ t.hash_start_block =
+    c.hash_start_block-first.ensures.value ∙ ap (λ u. u.hash_start_block) c.table.ensures.value in
+    let right = from_ok c.plan_under-tree.result.2 plan (λ p. IsRightUnder H t mark c.plan_under-tree.result.1 v d
+    c.hash_start_block-first.result p) c.in-Ok-planned.is c.plan_under-tree.ensures.right in
+    let here = subst (λ (f : ℕ). IsRightUnder H t mark c.plan_under-tree.result.1 v d f plan) first right in
+    right_later H t mark c.plan_under-tree.result.1 c.carry_out.new.hash_store v d t.hash_start_block plan
+    (goes_on_then _ _ _ c.reserve_both.ensures.hash_store.later.gave c.carry_out.ensures.hash_store.gave) here
