@@ -100,9 +100,7 @@ fn write_tree<A: Allocator, D: BlockStore, H: BlockStore>(
 {
     let mut leaves = Leaves::new();
     for n in 0..tree.geometry.blocks() {
-        let Ok(digest) = leaves.next(tree, data_store, n, buffer) else {
-            return Err(Which::Data);
-        };
+        let digest = leaves.next(tree, data_store, n, buffer)?;
         tree.take(digest);
         let Ok(()) = write_done(tree, hash_store, start, n + 1) else {
             return Err(Which::Hash);
@@ -111,7 +109,7 @@ fn write_tree<A: Allocator, D: BlockStore, H: BlockStore>(
     Ok(())
 }
 
-/// Writes a superblock, and zeros behind it, to a block.
+/// Writes a superblock, and zeros behind it, to a block, and syncs.
 fn write_superblock<H: BlockStore>(
     hash_store: &mut H,
     place: u64,
@@ -127,12 +125,14 @@ fn write_superblock<H: BlockStore>(
     ensures reads { H.reads hash_store.new ≡ H.reads hash_store.old }
     ensures later { IsLater H.BlockStore hash_store.old hash_store.new }
     ensures failed { OnErr result (H.failures hash_store.old < H.failures hash_store.new) }
+    ensures synced { OnOk result (H.synced hash_store.new ≡ true) }
     ensures unfailed { OnOk result (H.failures hash_store.new ≡ H.failures hash_store.old) }
 {
     let len = superblock.len();
     block[..len].copy_from_slice(superblock);
     block[len..].fill(0);
-    hash_store.write(place, block)
+    hash_store.write(place, block)?;
+    hash_store.sync()
 }
 
 /// Makes the hash device whose tree begins at `start`: sets its length, writes the tree, then the
@@ -182,9 +182,6 @@ fn write_device<A: Allocator, D: BlockStore, H: BlockStore>(
     let hash_size = tree.geometry.hash_size();
     let block = &mut buffer[..hash_size];
     let Ok(()) = write_superblock(hash_store, start - 1, superblock, block) else {
-        return Err(Which::Hash);
-    };
-    let Ok(()) = hash_store.sync() else {
         return Err(Which::Hash);
     };
     match tree.root {
@@ -299,6 +296,6 @@ pub fn build_at<A: Allocator + Copy, P: Allocator, D: BlockStore, H: BlockStore>
         &mut buffer,
     ) {
         Ok(root) => Ok(root),
-        Err(which) => Err(BuildFault::Store(which)),
+        Err(which) => Err(BuildFault::from(which)),
     }
 }

@@ -154,9 +154,7 @@ fn compare_tree<A: Allocator, D: BlockStore, H: BlockStore>(
     let mut leaves = Leaves::new();
     let mut found = None;
     for n in 0..tree.geometry.blocks() {
-        let Ok(digest) = leaves.next(tree, data_store, n, buffer) else {
-            return Err(Which::Data);
-        };
+        let digest = leaves.next(tree, data_store, n, buffer)?;
         tree.take(digest);
         let Ok(first) = compare_done(tree, hash_store, start, n + 1, hash_block, found) else {
             return Err(Which::Hash);
@@ -243,17 +241,14 @@ pub fn compare_at<A: Allocator + Copy, P: Allocator, D: BlockStore, H: BlockStor
     let (start, mut tree) = prepare(alloc, data_store, hash_store, params, offset)?;
     let mut buffer = zeros(alloc, bytes_at_a_time(tree.geometry.data_size()))?;
     let mut hash_block = zeros(alloc, tree.geometry.hash_size())?;
-    let found = match compare_tree(
+    let found = compare_tree(
         &mut tree,
         data_store,
         hash_store,
         start,
         &mut buffer,
         &mut hash_block,
-    ) {
-        Ok(found) => found,
-        Err(which) => return Err(BuildFault::Store(which)),
-    };
+    )?;
     match found {
         Some(place) => Ok(Compared::Differs {
             level: place.level,

@@ -1,5 +1,5 @@
 //! Why nothing was built or compared.
-ghost use Rattle.std.specs.Prelude.{Some};
+ghost use Rattle.std.specs.Prelude.{◌≡◌, Some};
 
 use std::fmt;
 use thiserror::Error;
@@ -18,6 +18,17 @@ pub enum BuildFault {
     NoMemory,
     /// U4: no tree can begin behind a superblock at this byte offset.
     Offset,
+}
+
+impl From<Which> for BuildFault {
+    ghost use Rattle.verity_build.specs.declared.fault.BuildFault.TheVariants as fault;
+
+    ghost from_gives = { λ which built. built ≡ fault.Store which };
+
+    /// U2 with this store.
+    fn from(which: Which) -> Self {
+        BuildFault::Store(which)
+    }
 }
 
 impl fmt::Display for BuildFault {

@@ -1,5 +1,5 @@
 //! The digests of the data blocks in their order, of which several are made at a time.
-ghost use Rattle.std.specs.Prelude.{◌≡◌, ◌+◌, ◌-◌, ◌^◌, ◌<◌, ◌≤◌, [], true, length, slice_index_or, OnOk, OnErr, IfOk};
+ghost use Rattle.std.specs.Prelude.{◌≡◌, ◌+◌, ◌-◌, ◌^◌, ◌<◌, ◌≤◌, [], true, length, slice_index_or, OnOk, OnErr, IfOk, IfErr};
 ghost use Rattle.verity_digest.specs.Hash.{size_of, salted_digest};
 ghost use Rattle.verity_store.specs.Stores.{IsOnlyRead};
 ghost use Rattle.verity_build.specs.Ahead.{AreAhead};
@@ -7,7 +7,7 @@ ghost use Rattle.verity_build.specs.Ahead.{AreAhead};
 use crate::open_tree::OpenTree;
 use std::alloc::Allocator;
 use verity_digest::Digest;
-use verity_store::{BlockStore, StoreFault};
+use verity_store::{BlockStore, Which};
 
 /// How many data blocks are hashed side by side.
 const AT_A_TIME: usize = 8;
@@ -48,14 +48,15 @@ impl Leaves {
         }
     }
 
-    /// Reads the data blocks from `n` on for which `buffer` has room, eight at most, and makes their digests.
+    /// Reads the data blocks from `n` on for which `buffer` has room, eight at most, and makes their digests. The data store
+    /// where a read failed.
     fn fill<A: Allocator, D: BlockStore>(
         &mut self,
         tree: &mut OpenTree<A>,
         data_store: &mut D,
         n: u64,
         buffer: &mut [u8],
-    ) -> Result<(), StoreFault>
+    ) -> Result<(), Which>
         requires within { n < tree.old.geometry.blocks }
         requires blocks { length (D.content data_store.old) ≡ tree.old.geometry.blocks }
         requires size { D.size data_store.old ≡ tree.old.geometry.data_size }
@@ -66,6 +67,7 @@ impl Leaves {
         ensures reads { OnOk result (D.reads data_store.new ≡ D.reads data_store.old + (self.new.held - self.new.taken)) }
         ensures reads_most { D.reads data_store.new + n ≤ D.reads data_store.old + tree.old.geometry.blocks }
         ensures read { IsOnlyRead D.BlockStore data_store.old data_store.new }
+        ensures which { IfErr result (λ which. which ≡ Which.Data) }
         ensures failed { OnErr result (D.failures data_store.old < D.failures data_store.new) }
         ensures unfailed { OnOk result (D.failures data_store.new ≡ D.failures data_store.old) }
         ensures opens { tree.new.blocks.items ≡ tree.old.blocks.items }
@@ -77,7 +79,9 @@ impl Leaves {
         let left = tree.geometry.blocks() - n;
         let count = (buffer.len() / size).min(AT_A_TIME).min(left as usize);
         let run = &mut buffer[..count * size];
-        data_store.read_run(n, count, run)?;
+        let Ok(()) = data_store.read_run(n, count, run) else {
+            return Err(Which::Data);
+        };
         tree.digest_run(run, &mut self.digests[..count]);
         self.taken = 0;
         self.held = count;
@@ -87,14 +91,14 @@ impl Leaves {
     /// The digest of data block `n`, whose turn it is. Where none is ahead, the blocks from `n` on are read into `buffer`, as
     /// many as it has room for, eight at most.
     ///
-    /// S1 where a read failed.
+    /// The data store where a read failed.
     pub(crate) fn next<A: Allocator, D: BlockStore>(
         &mut self,
         tree: &mut OpenTree<A>,
         data_store: &mut D,
         n: u64,
         buffer: &mut [u8],
-    ) -> Result<Digest, StoreFault>
+    ) -> Result<Digest, Which>
         requires ahead { AreAhead D.BlockStore tree.old.hasher.salted n data_store.old self.old.digests self.old.taken self.old.held }
         requires within { n < tree.old.geometry.blocks }
         requires blocks { length (D.content data_store.old) ≡ tree.old.geometry.blocks }
@@ -110,6 +114,7 @@ impl Leaves {
         ensures reads_most { D.reads data_store.new + n + (self.old.held - self.old.taken) ≤ D.reads data_store.old +
             tree.old.geometry.blocks }
         ensures read { IsOnlyRead D.BlockStore data_store.old data_store.new }
+        ensures which { IfErr result (λ which. which ≡ Which.Data) }
         ensures failed { OnErr result (D.failures data_store.old < D.failures data_store.new) }
         ensures unfailed { OnOk result (D.failures data_store.new ≡ D.failures data_store.old) }
         ensures opens { tree.new.blocks.items ≡ tree.old.blocks.items }

@@ -31,8 +31,7 @@ returns-clause-front g c = λ q below inside.
     let H = g.H.BlockStore in
     let wrote = c.in_ok-write_tree.ensures in
     let apart : q ≢ c.args.start - 1 = λ e. absurd (omega arith) in
-    ap (λ blocks. get_or blocks q []) c.in-Ok-sync.ensures.content
-    ∙ c.in-Ok-write_superblock.ensures.others.1 q apart
+    c.in-Ok-write_superblock.ensures.others.1 q apart
     ∙ wrote.hash_store.front q (omega arith)
     ∙ ap (λ blocks. get_or blocks q []) c.in-Ok.ensures.done
     ∙ get_or-resized_old (H.size c.args.hash_store.now) (c.args.start + c.total.result) (H.content c.args.hash_store.now) q
@@ -69,5 +68,4 @@ returns-clause-written g c = λ td th.
     c.requires.blocks start new
     (stored_behind s start (tree (hashing salted s.hash_size) image) opens mid new superblock c.requires.behind is stored)
     (ap length is ∙ length-set mid (start - 1) superblock ∙ mid_len) in
-    c.in-Ok-sync.ensures.content
-    ∙ device_is s start (tree (hashing salted s.hash_size) image) old mid new superblock c.requires.behind mid_len mid_front is there
+    device_is s start (tree (hashing salted s.hash_size) image) old mid new superblock c.requires.behind mid_len mid_front is there

@@ -56,12 +56,12 @@ write_done-requires-clause-come g c =
     let mid = c.take.new.self in
     let kept = c.loop-n.invariant in
     let n : ℕ = c.loop-n.n in
-    let same = c.take.ensures.geometry ∙ c.in-Ok.ensures.geometry ∙ kept.geometry in
+    let same = c.take.ensures.geometry ∙ c.in_ok-digest.ensures.geometry ∙ kept.geometry in
     let growing = kept.growing (omega (arith, c.loop-n-test.true, c.blocks-n-end.ensures.value)) in
-    let comes = comes_now c.in-Ok.digest now.blocks.items c.next.new.tree.blocks.items mid.blocks.items now.root
-    c.next.new.tree.root mid.root c.in-Ok.ensures.opens c.in-Ok.ensures.root c.take.ensures.comes in
+    let comes = comes_now c.in_ok-digest.digest now.blocks.items c.next.new.tree.blocks.items mid.blocks.items now.root
+    c.next.new.tree.root mid.root c.in_ok-digest.ensures.opens c.in_ok-digest.ensures.root c.take.ensures.comes in
     subst (λ t. Settling (digests_per_block t) (n + 1) t.blocks 0 mid.blocks.items mid.root) (sym same)
-    (settling_from (digests_per_block s) n c.in-Ok.digest now.blocks.items mid.blocks.items now.root mid.root growing comes s.blocks)
+    (settling_from (digests_per_block s) n c.in_ok-digest.digest now.blocks.items mid.blocks.items now.root mid.root growing comes s.blocks)
 
 pub loop-n-preserved : goal.loop-n-preserved
 loop-n-preserved g c =
@@ -76,10 +76,10 @@ loop-n-preserved g c =
     let mid = c.take.new.self in
     let new = c.write_done.new.tree in
     let kept = c.loop-n.invariant in
-    let next = c.in-Ok.ensures in
-    let wrote = c.in-Ok-write_done.ensures in
+    let next = c.in_ok-digest.ensures in
+    let wrote = c.in-Ok.ensures in
     let n : ℕ = c.loop-n.n in
-    let digest : List ℕ = c.in-Ok.digest in
+    let digest : List ℕ = c.in_ok-digest.digest in
     let block : List ℕ = get_or image n [] in
     let geometry = c.take.ensures.geometry ∙ next.geometry ∙ kept.geometry in
     let same_salted = c.take.ensures.salted ∙ next.salted ∙ kept.salted in

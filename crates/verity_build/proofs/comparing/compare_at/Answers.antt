@@ -15,14 +15,14 @@ pub unreachable-requires : goal.unreachable-requires
 unreachable-requires g c =
     let first = c.in_ok-start.tree in
     let new = c.compare_tree.new.tree in
-    let done = c.in-Ok.ensures in
+    let done = c.in_ok-found.ensures in
     root_known first.geometry new.blocks.items new.root first.shaped (new.levels ∙ ap levels_of done.geometry) done.grown c.in-None-root.is
 
 pub returns-in-Some-clause-compared : goal.returns-in-Some-clause-compared
 returns-in-Some-clause-compared g c = λ td th.
     let first = c.in_ok-start.tree in
     let new = c.compare_tree.new.tree in
-    let done = c.in-Ok.ensures in
+    let done = c.in_ok-found.ensures in
     let begun = c.in_ok-start.ensures in
     let s : Shape = first.geometry in
     let image : List (List ℕ) = g.D.BlockStore.content c.args.data_store.now in
@@ -48,7 +48,7 @@ pub returns-in-Some-root-clause-compared : goal.returns-in-Some-root-clause-comp
 returns-in-Some-root-clause-compared g c = λ td th.
     let first = c.in_ok-start.tree in
     let new = c.compare_tree.new.tree in
-    let done = c.in-Ok.ensures in
+    let done = c.in_ok-found.ensures in
     let begun = c.in_ok-start.ensures in
     let s : Shape = first.geometry in
     let image : List (List ℕ) = g.D.BlockStore.content c.args.data_store.now in

@@ -60,12 +60,12 @@ compare_done-requires-clause-come g c =
     let mid = c.take.new.self in
     let kept = c.loop-n.invariant in
     let n : ℕ = c.loop-n.n in
-    let same = c.take.ensures.geometry ∙ c.in-Ok.ensures.geometry ∙ kept.geometry in
+    let same = c.take.ensures.geometry ∙ c.in_ok-digest.ensures.geometry ∙ kept.geometry in
     let growing = kept.growing (omega (arith, c.loop-n-test.true, c.blocks-n-end.ensures.value)) in
-    let comes = comes_now c.in-Ok.digest now.blocks.items c.next.new.tree.blocks.items mid.blocks.items now.root
-    c.next.new.tree.root mid.root c.in-Ok.ensures.opens c.in-Ok.ensures.root c.take.ensures.comes in
+    let comes = comes_now c.in_ok-digest.digest now.blocks.items c.next.new.tree.blocks.items mid.blocks.items now.root
+    c.next.new.tree.root mid.root c.in_ok-digest.ensures.opens c.in_ok-digest.ensures.root c.take.ensures.comes in
     subst (λ t. Settling (digests_per_block t) (n + 1) t.blocks 0 mid.blocks.items mid.root) (sym same)
-    (settling_from (digests_per_block s) n c.in-Ok.digest now.blocks.items mid.blocks.items now.root mid.root growing comes s.blocks)
+    (settling_from (digests_per_block s) n c.in_ok-digest.digest now.blocks.items mid.blocks.items now.root mid.root growing comes s.blocks)
 
 pub loop-n-preserved : goal.loop-n-preserved
 loop-n-preserved g c =
@@ -80,10 +80,10 @@ loop-n-preserved g c =
     let mid = c.take.new.self in
     let new = c.compare_done.new.tree in
     let kept = c.loop-n.invariant in
-    let next = c.in-Ok.ensures in
-    let done = c.in-Ok-compare_done.ensures in
+    let next = c.in_ok-digest.ensures in
+    let done = c.in-Ok.ensures in
     let n : ℕ = c.loop-n.n in
-    let digest : List ℕ = c.in-Ok.digest in
+    let digest : List ℕ = c.in_ok-digest.digest in
     let block : List ℕ = get_or image n [] in
     let geometry = c.take.ensures.geometry ∙ next.geometry ∙ kept.geometry in
     let same_salted = c.take.ensures.salted ∙ next.salted ∙ kept.salted in
@@ -108,13 +108,13 @@ loop-n-preserved g c =
     let content : List (List ℕ) = H.content c.args.hash_store.now in
     let stays_compared : H.tells c.args.hash_store.now ≡ true →
     StaysCompared h s c.args.start content mid.blocks.items mid.root c.loop-n.found new.blocks.items
-    c.in-Ok-compare_done.first = λ tells.
+    c.in-Ok.first = λ tells.
     let P : Shape → Type 0 = λ t. StaysCompared h t c.args.start content mid.blocks.items mid.root c.loop-n.found new.blocks.items
-    c.in-Ok-compare_done.first in
+    c.in-Ok.first in
     let Q : Hashing → Type 0 = λ x. StaysCompared x mid.geometry c.args.start content mid.blocks.items mid.root c.loop-n.found
-    new.blocks.items c.in-Ok-compare_done.first in
+    new.blocks.items c.in-Ok.first in
     let R : List (List ℕ) → Type 0 = λ bs. StaysCompared (hashing mid.hasher.salted mid.geometry.hash_size) mid.geometry
-    c.args.start bs mid.blocks.items mid.root c.loop-n.found new.blocks.items c.in-Ok-compare_done.first in
+    c.args.start bs mid.blocks.items mid.root c.loop-n.found new.blocks.items c.in-Ok.first in
     subst P geometry (subst Q hashes (subst R kept.hash_store.content (done.compared (kept.hash_store.later.tells ∙ tells)))) in
     record {
       growing = λ more. subst (λ t. Growing (digests_per_block t) (n + 1) new.blocks.items new.root) geometry
@@ -144,8 +144,8 @@ loop-n-preserved g c =
       hash_unfailed = done.unfailed ∙ kept.hash_unfailed;
     }
 
-pub returns-in_default-clause-hash_reads : goal.returns-in_default-clause-hash_reads
-returns-in_default-clause-hash_reads g c =
+pub returns-in_err-digest-clause-hash_reads : goal.returns-in_err-digest-clause-hash_reads
+returns-in_err-digest-clause-hash_reads g c =
     let s : Shape = c.args.tree.now.geometry in
     let now = c.loop-n.tree in
     let kept = c.loop-n.invariant in
@@ -157,17 +157,17 @@ returns-in_default-clause-hash_reads g c =
           ∙ ap levels_of kept.geometry) (omega arith) (kept.growing below),
     )
 
-pub returns-in_default-compare_done-clause-hash_reads : goal.returns-in_default-compare_done-clause-hash_reads
-returns-in_default-compare_done-clause-hash_reads g c =
+pub returns-in_default-clause-hash_reads : goal.returns-in_default-clause-hash_reads
+returns-in_default-clause-hash_reads g c =
     let s : Shape = c.args.tree.now.geometry in
     let now = c.loop-n.tree in
     let mid = c.take.new.self in
     let kept = c.loop-n.invariant in
-    let geometry = c.take.ensures.geometry ∙ c.in-Ok.ensures.geometry ∙ kept.geometry in
+    let geometry = c.take.ensures.geometry ∙ c.in_ok-digest.ensures.geometry ∙ kept.geometry in
     let below : c.loop-n.n < s.blocks = omega (arith, c.loop-n-test.true, c.blocks-n-end.ensures.value) in
-    let comes = comes_now c.in-Ok.digest now.blocks.items c.next.new.tree.blocks.items mid.blocks.items now.root
-    c.next.new.tree.root mid.root c.in-Ok.ensures.opens c.in-Ok.ensures.root c.take.ensures.comes in
-    let none = comes_none (digests_per_block s) c.loop-n.n c.in-Ok.digest now.blocks.items mid.blocks.items now.root mid.root
+    let comes = comes_now c.in_ok-digest.digest now.blocks.items c.next.new.tree.blocks.items mid.blocks.items now.root
+    c.next.new.tree.root mid.root c.in_ok-digest.ensures.opens c.in_ok-digest.ensures.root c.take.ensures.comes in
+    let none = comes_none (digests_per_block s) c.loop-n.n c.in_ok-digest.digest now.blocks.items mid.blocks.items now.root mid.root
     (kept.growing below) comes in
     omega (arith, c.compare_done.ensures.reads_most, ap total_of geometry, kept.hash_reads, none)
 

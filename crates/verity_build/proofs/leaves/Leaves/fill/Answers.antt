@@ -1,8 +1,11 @@
-use Rattle.std.proofs.Common.{◌≡◌, ◌∙◌, ℕ, ◌+◌, [], length, take, ap, sym, get_or, arith}
+use Rattle.std.proofs.Common.{◌≡◌, ◌∙◌, ℕ, ◌+◌, [], length, take, ap, sym, get_or, refl, arith}
 use Rattle.std.proofs.lemmas.List.{length-take-le}
 use Rattle.std.specs.Fork.{slice_chunk}
 use Rattle.verity_build.proofs.Ahead.{ahead_made}
 use Rattle.verity_build.proofs.leaves.Leaves.fill.Goals as goal
+
+pub returns-in_default-clause-which : goal.returns-in_default-clause-which
+returns-in_default-clause-which g c = refl
 
 pub returns-clause-ahead : goal.returns-clause-ahead
 returns-clause-ahead g c =
@@ -10,7 +13,7 @@ returns-clause-ahead g c =
     let n : ℕ = c.args.n in
     let count : ℕ = c.min-count.result in
     let run = c.read_run.new.out in
-    let read = c.in_ok-read_run.ensures in
+    let read = c.in-Ok.ensures in
     let room : length (take count c.args.self.now.digests) ≡ count = length-take-le count c.args.self.now.digests (omega arith) in
     ahead_made D c.args.tree.now.hasher.salted n c.read_run.new.self c.digest_run.new.out _ run c.args.tree.now.geometry.data_size count
     (c.digest_run.auto.out ∙ room)
