@@ -25,3 +25,4 @@ pub mod Committing
 pub mod Editing
 pub mod Opening
 pub mod Running
+pub mod Exchange
