@@ -27,3 +27,4 @@ pub mod Committing
 pub mod Editing
 pub mod Opening
 pub mod Running
+pub mod Exchange

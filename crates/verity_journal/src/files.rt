@@ -25,6 +25,7 @@ pub struct FileDisks<F: RawFile, A: Allocator = Global> {
     files: ThreeFiles<F>,
     unchanged_journal: Option<Vec<u8, A>>,
     failed: Count,
+    last_failed: Option<Device>,
     past: Past,
     ghost journal: { ForSome unchanged_journal (λ bytes. bytes.items ≡ read_of files.on_journal) },
 }
@@ -45,8 +46,14 @@ impl<F: RawFile, A: Allocator> FileDisks<F, A> {
             files: ThreeFiles::new(on_data, on_hash, on_journal),
             unchanged_journal: Some(journal),
             failed: Count::new(),
+            last_failed: None,
             past: Past::new(),
         }
+    }
+
+    /// The device of which a call failed last; none where none did.
+    pub fn last_failed(&self) -> Option<Device> {
+        self.last_failed
     }
 }
 
@@ -70,6 +77,7 @@ impl<F: RawFile, A: Allocator> Disks for FileDisks<F, A> {
         let is_small = bytes.len() as u64 <= u64::MAX - at;
         if !is_small {
             self.failed.step();
+            self.last_failed = Some(device);
             return Err(DiskFault::Device);
         }
         self.unchanged_journal = None;
@@ -77,6 +85,7 @@ impl<F: RawFile, A: Allocator> Disks for FileDisks<F, A> {
             return Ok(());
         }
         self.failed.step();
+        self.last_failed = Some(device);
         Err(DiskFault::Device)
     }
 
@@ -87,6 +96,7 @@ impl<F: RawFile, A: Allocator> Disks for FileDisks<F, A> {
             return Ok(());
         }
         self.failed.step();
+        self.last_failed = Some(device);
         Err(DiskFault::Device)
     }
 
@@ -96,6 +106,7 @@ impl<F: RawFile, A: Allocator> Disks for FileDisks<F, A> {
             return Ok(());
         }
         self.failed.step();
+        self.last_failed = Some(device);
         Err(DiskFault::Device)
     }
 
@@ -111,6 +122,7 @@ impl<F: RawFile, A: Allocator> Disks for FileDisks<F, A> {
             return Ok(());
         }
         self.failed.step();
+        self.last_failed = Some(device);
         Err(DiskFault::Device)
     }
 }

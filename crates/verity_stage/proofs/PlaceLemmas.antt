@@ -20,8 +20,8 @@ use Rattle.verity_store.specs.Blocks.{resized, cut}
 use Rattle.verity_store.specs.RawFile.{overwritten, with_length}
 use Rattle.verity_store.proofs.BlockLemmas.{cut-resize, cut-write, concat-cut, length-cut, AllSized-replicate}
 use Rattle.verity_profile.specs.Profile.{zero_block, AllSized}
-use Rattle.verity_journal.specs.Plan.{made, changed}
-use Rattle.verity_stage.specs.Stage.{Stage, IsStage, written_at, block_at, staged, at_place, side_of, FitPlaces}
+use Rattle.verity_journal.specs.Plan.{made, changed, Fit, IsSide}
+use Rattle.verity_stage.specs.Stage.{Stage, IsStage, written_at, block_at, staged, at_place, side_of, below_of, FitPlaces}
 use Rattle.verity_stage.proofs.StageLemmas.{is_at_apart, at_blocks, length-staged}
 
 pub length-concat-sized : (size : ℕ) (bs : List (List ℕ)) → AllSized size bs → length (concat bs) ≡ length bs * size
@@ -273,3 +273,25 @@ pub kept_bytes : (content : List (List ℕ)) (size least : ℕ) → AllSized siz
     least * size ≤ length (concat content)
 kept_bytes content size least all kept = let a : least * size ≤ length content * size = mul-le-mul_right size kept in
     omega (arith, length-concat-sized size content all)
+
+-- the changes of blocks that lie within so many lie below their bytes
+Fit-from : (es : List (ℕ × List ℕ)) (len size : ℕ) → FitIn len size es → Fit (len * size) (map (at_place size) es)
+Fit-from [] len size fits = tt
+Fit-from (e ∷ es) len size fits = let a : suc e.0 * size ≤ len * size = mul-le-mul_right size fits.0.0 in (
+  omega (arith, suc-mul e.0 size, fits.0.1),
+  Fit-from es len size fits.1,
+)
+
+-- a stage is a plan of changes below its length
+pub is_side : (d : Stage) → IsStage d → IsStrictlySortedBy nat_cmp (keys_of d.written) → IsSide (side_of d)
+is_side d ok sorted = record {
+  kept = mul-le-mul_right d.size ok.least;
+  fit = Fit-from d.written d.blocks d.size (FitIn-from d.written 0 d.blocks d.size (KeysRise-ordered d.written sorted) ok.behind ok.sized);
+}
+
+-- what a store is bound to tells its blocks
+pub below-same : (xs ys : List (List ℕ)) → below_of xs ≡ below_of ys → xs ≡ ys
+below-same xs ys same = sym (seconds xs) ∙ ap (map (λ (p : ℕ × List ℕ). p.1)) same ∙ seconds ys where
+  seconds : (zs : List (List ℕ)) → map (λ (p : ℕ × List ℕ). p.1) (below_of zs) ≡ zs
+  seconds [] = refl
+  seconds (z ∷ zs) = ap (λ rest. z ∷ rest) (seconds zs)

@@ -6,7 +6,7 @@ use Rattle.std.specs.Ordering.{nat_cmp}
 use Rattle.std.specs.Map.{lookup}
 use Rattle.std.specs.BTreeMap.{is_at}
 use Rattle.verity_profile.specs.Profile.{zero_block}
-use Rattle.verity_journal.specs.Plan.{Side}
+use Rattle.verity_journal.specs.Plan.{Side, Plan}
 
 -- the bytes of a block; how many blocks there were at least, and how many there are; and the blocks that were written and are
 -- still there, each with its number
@@ -50,3 +50,11 @@ side_of stage = record {
   len = stage.blocks * stage.size;
   changes = map (at_place stage.size) stage.written;
 }
+
+-- the blocks of the store below, as what a staged store is bound to: no call on it changes them
+abbrev pub below_of : List (List ℕ) → List (ℕ × List ℕ)
+below_of content = map (λ block. (0, block)) content
+
+-- the stages of two devices as one plan
+abbrev pub plan_of : Stage → Stage → Plan
+plan_of on_data on_hash = record { on_data = side_of on_data; on_hash = side_of on_hash }

@@ -15,8 +15,10 @@
 //! S1 where the store below fails to be read, and where memory for a block that is written was refused.
 #![tactic(auto)]
 
+mod committing;
 mod stage;
 mod staged;
 
+pub use committing::commit_staged;
 pub use stage::Stage;
 pub use staged::Staged;

@@ -1,8 +1,8 @@
 //! A store whose changes are staged.
 ghost use Rattle.std.specs.Prelude.{◌≡◌, ◌≤◌, ◌^◌, ◌<◌, [], true, length, slice_index_or, IfOk, IfErr, OnOk};
 ghost use Rattle.std.specs.List.{concat};
-ghost use Rattle.verity_journal.specs.Plan.{made};
-ghost use Rattle.verity_stage.specs.Stage.{staged};
+ghost use Rattle.verity_journal.specs.Plan.{made, IsSide};
+ghost use Rattle.verity_stage.specs.Stage.{staged, side_of, below_of};
 
 use crate::Stage;
 use std::alloc::{AllocError, Allocator, Global};
@@ -21,6 +21,7 @@ pub struct Staged<S: BlockStore, A: Allocator + Copy = Global> {
     read_count: Count,
     failed: Count,
     given: Given,
+    is_starved: bool,
     ghost size: { S.size store ≡ stage.size },
     ghost kept: { stage.least ≤ length (S.content store) },
 }
@@ -47,7 +48,24 @@ impl<S: BlockStore, A: Allocator + Copy> Staged<S, A> {
             read_count: Count::new(),
             failed: Count::new(),
             given: Given::new(),
+            is_starved: false,
         })
+    }
+
+    /// What is staged is a plan for the bytes of the store below, and makes of them what this store holds.
+    pub fn facts(&self)
+        ensures side { IsSide (side_of self.now.stage) }
+        ensures kept { (side_of self.now.stage).keep ≤ length (concat (S.content self.now.store)) }
+        ensures made { made (side_of self.now.stage) (concat (S.content self.now.store))
+            ≡ concat (⟦<Staged<S, A> as BlockStore>⟧.content self.now) }
+    {
+        let _size = self.store.block_size();
+        self.stage.facts();
+    }
+
+    /// Whether a write failed since memory for its block was refused.
+    pub fn is_starved(&self) -> bool {
+        self.is_starved
     }
 
     /// The changes that make of a device with the bytes of the store below one with what is staged. It takes memory for the
@@ -56,6 +74,7 @@ impl<S: BlockStore, A: Allocator + Copy> Staged<S, A> {
         ensures made { IfOk result (λ side. made side (concat (S.content self.now.store))
             ≡ concat (⟦<Staged<S, A> as BlockStore>⟧.content self.now)) }
         ensures kept { IfOk result (λ side. side.keep ≤ length (concat (S.content self.now.store))) }
+        ensures side { IfOk result (λ side. side ≡ side_of self.now.stage) }
     {
         let _size = self.store.block_size();
         self.stage.facts();
@@ -111,6 +130,8 @@ impl<S: BlockStore, A: Allocator + Copy> BlockStore for Staged<S, A> {
 
     ghost room = { λ _. 2 ^ 41 };
 
+    ghost fixed = { λ s. below_of (S.content s.store) };
+
     fn block_size(&self) -> usize {
         self.stage.facts();
         self.store.block_size()
@@ -135,6 +156,7 @@ impl<S: BlockStore, A: Allocator + Copy> BlockStore for Staged<S, A> {
             Ok(()) => Ok(()),
             Err(_) => {
                 self.failed.step();
+                self.is_starved = true;
                 Err(StoreFault::Device)
             }
         }

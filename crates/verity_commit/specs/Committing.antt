@@ -1,0 +1,24 @@
+-- What a commit makes of the devices of a volume.
+use Rattle.std.specs.Prelude.{◌≡◌, ◌⊎◌, ⊤, Result, Ok, Err}
+use Rattle.std.specs.List.{concat}
+use Rattle.verity_store.specs.declared.store.BlockStore as store
+use Rattle.verity_journal.specs.Disks.{Contents}
+use Rattle.verity_journal.specs.Journal.{Pair, pair_of, volume}
+use Rattle.verity_edit.specs.declared.command.Committed.{Committed}
+use Rattle.verity_commit.specs.declared.fault.CommitFault.{CommitFault}
+use Rattle.verity_commit.specs.declared.fault.CommitFault.TheVariants as fault
+
+-- the editor refused
+abbrev pub IsEdit : Result Committed CommitFault → Type 0
+IsEdit (Ok committed) = ⊥
+IsEdit (Err (fault.Edit e)) = ⊤
+IsEdit (Err (fault.Disks e)) = ⊥
+
+-- the devices hold these two stores
+abbrev pub Holds : {D H : Type 0} → store.Ghosts D → store.Ghosts H → D → H → Contents → Type 0
+Holds data_facts hash_facts data_store hash_store seen =
+    pair_of seen ≡ (concat (data_facts.content data_store), concat (hash_facts.content hash_store))
+
+-- recovery makes the one pair or the other
+abbrev pub IsOneOf : Pair → Pair → Contents → Type 0
+IsOneOf old new contents = (volume contents ≡ old) ⊎ (volume contents ≡ new)

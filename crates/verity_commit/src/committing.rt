@@ -1,0 +1,47 @@
+//! A commit of an editor through a journal.
+ghost use Rattle.std.specs.Prelude.{◌≡◌, ◌⊎◌, true, IfOk, OnOk};
+ghost use Rattle.std.specs.List.{concat};
+ghost use Rattle.verity_journal.specs.Disks.{LeavesOnly};
+ghost use Rattle.verity_journal.specs.Journal.{pair_of, volume};
+ghost use Rattle.verity_edit.specs.Editing.{Commits, Stays};
+ghost use Rattle.verity_commit.specs.Committing.{IsEdit, Holds, IsOneOf};
+
+use crate::CommitFault;
+use std::alloc::Allocator;
+use verity_edit::{Committed, Editor};
+use verity_journal::{Disks, Keeper};
+use verity_stage::{Staged, commit_staged};
+use verity_store::BlockStore;
+
+/// Commits the pending edits of an editor over two staged stores, and brings them through the journal to the devices, which hold
+/// the stores below.
+///
+/// An editor's fault leaves the devices as they were. After a fault of the devices a start comes next, and the editor is of no more
+/// use. It writes each changed block twice, syncs five times, and takes memory for the changed blocks three times.
+pub fn commit_editor<K: Disks, D: BlockStore, H: BlockStore, A: Allocator + Copy>(
+    alloc: A,
+    keeper: &mut Keeper<K>,
+    editor: &mut Editor<Staged<D, A>, Staged<H, A>, A>,
+) -> Result<Committed, CommitFault>
+    ensures done { IfOk result (λ committed. Commits ⟦<Staged<D, A> as BlockStore>⟧ ⟦<Staged<H, A> as BlockStore>⟧
+        editor.old editor.new committed) }
+    ensures made { OnOk result (Holds D.BlockStore H.BlockStore editor.old.data_store.store editor.old.hash_store.store (K.seen keeper.old.disks)
+        → pair_of (K.seen keeper.new.disks) ≡ (concat (⟦<Staged<D, A> as BlockStore>⟧.content editor.new.data_store),
+          concat (⟦<Staged<H, A> as BlockStore>⟧.content editor.new.hash_store))) }
+    ensures any_moment { Holds D.BlockStore H.BlockStore editor.old.data_store.store editor.old.hash_store.store (K.seen keeper.old.disks)
+        → keeper.old.is_settled ≡ true → IsEdit result ⊎ LeavesOnly K.moment K.left_since keeper.old.disks keeper.new.disks
+          (IsOneOf (pair_of (K.seen keeper.old.disks)) (concat (⟦<Staged<D, A> as BlockStore>⟧.content editor.new.data_store),
+          concat (⟦<Staged<H, A> as BlockStore>⟧.content editor.new.hash_store))) }
+    ensures settled { OnOk result (keeper.new.is_settled ≡ true) }
+    ensures untouched { IsEdit result → keeper.new ≡ keeper.old }
+    ensures stays { Stays ⟦<Staged<D, A> as BlockStore>⟧ ⟦<Staged<H, A> as BlockStore>⟧ editor.old editor.new }
+{
+    let committed = match editor.commit() {
+        Ok(committed) => committed,
+        Err(fault) => return Err(CommitFault::Edit(fault)),
+    };
+    match commit_staged(alloc, keeper, editor.data_store(), editor.hash_store()) {
+        Ok(()) => Ok(committed),
+        Err(fault) => Err(CommitFault::Disks(fault)),
+    }
+}
