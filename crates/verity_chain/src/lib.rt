@@ -7,13 +7,13 @@
 //! (`proofs/ChainLaw`; `verity_check` says it of its two stores, as contracts of its `laws`).
 //!
 //! [`fetch`] reads a hash block and the missing ones above it, from the top down, checks each and notes it; [`Checked`] is a
-//! store that reads so. Nothing uses the two yet. What was noted is the image's own, or there is such a clash ([`laws`]).
+//! store that reads so, until a read is refused. What was noted is the image's own, or there is such a clash ([`laws`]).
 //!
 //! The errors are [`ReadRefused`], which has no number of its own, and `AllocError`.
 //!
 //! The definitions stand in `specs/`: `Table` (the tree of a table line), `Chain` (chains of given blocks), `Right` (the
-//! image's own blocks, clashes), `Stores` (what a store gave at the places of the volume), `Notes` (noted blocks), `Checked`
-//! (a store of checked blocks).
+//! image's own blocks, clashes), `Stores` (what a store gave at the places of the volume), `Notes` (noted blocks), `Origin`
+//! (what was true of a store at some moment), `Checked` (a store of checked blocks).
 #![tactic(auto)]
 
 mod checked;

@@ -14,6 +14,9 @@
 //!
 //! Over any stores each reply of `answer` says what it means (`IsAnswered`), and `run` is the chain of such records.
 //!
+//! A commit under a trusted table line (`under`) checks each old hash block from the root down before it is used. No public call
+//! makes one yet.
+//!
 //! The errors are those of [`EditFault`], E1 to E12. A refused call changes nothing, but for a commit of which a store failed
 //! after its first change: the editor is then broken, and all but the getters and `close` answers E7.
 //!
@@ -21,7 +24,7 @@
 //! (the touched hash blocks and their bound), `Editing` (what a contract sees of an editor, and what a commit leaves),
 //! `Opening` (when a volume is opened), `Faults` (what a failure of a store is answered by), `Running` (commands and lists of
 //! them); the others are of the way to them: `Draft` (pending edits), `Plan`, `Planning`, `Level`, `Making` (hash blocks made
-//! again), `Levels`, `Written`, `Carried`, `Committing` (what is changed). What calls leave of a store is said once, by the
+//! again), `Seen` (what a store shows of what it holds), `Under` (a commit under a table line), `Levels`, `Written`, `Carried`, `Committing` (what is changed). What calls leave of a store is said once, by the
 //! records of `verity_store` `Stores`.
 #![tactic(auto)]
 
