@@ -24,7 +24,8 @@
 //! (the touched hash blocks and their bound), `Editing` (what a contract sees of an editor, and what a commit leaves),
 //! `Opening` (when a volume is opened), `Faults` (what a failure of a store is answered by), `Running` (commands and lists of
 //! them); the others are of the way to them: `Draft` (pending edits), `Plan`, `Planning`, `Level`, `Making` (hash blocks made
-//! again), `Seen` (what a store shows of what it holds), `Under` (a commit under a table line), `Levels`, `Written`, `Carried`, `Committing` (what is changed). What calls leave of a store is said once, by the
+//! again), `Seen` (what a store shows of what it holds), `Under` (a commit under a table line), `Levels`, `Written`, `Carried`,
+//! `Committing` (what is changed). What calls leave of a store is said once, by the
 //! records of `verity_store` `Stores`.
 #![tactic(auto)]
 
