@@ -76,9 +76,9 @@ pub(crate) fn agreeing(digests: &[Digest], names: &[Digest]) -> usize
     ensures same { (j : ℕ) → j < result → slice_index_or digests.now j [] ≡ slice_index_or names.now j [] }
     ensures differs { result < length digests.now → slice_index_or digests.now result [] ≢ slice_index_or names.now result [] }
 {
-    'each: for j in 0..digests.len() {
-        if digests[j].bytes() != names[j].bytes() {
-            return j;
+    'each: for i in 0..digests.len() {
+        if digests[i].bytes() != names[i].bytes() {
+            return i;
         }
     }
     digests.len()
