@@ -2,11 +2,18 @@
 import re
 
 from cases.case import UUID, Case, image
+from cases.formatting import WORKED, numbered
 from cases.verifying import flipped
 from verity import Volume
 
 SALT = b"\x00\xff"
 MOST_BLOCKS = 1 << 40
+
+# Blocks that are written twice, added and dropped again, dropped while they are pending; counts across a level; a discard.
+ALL_KINDS = "\n".join((
+    "fill 0 01", "fill 16 02", "fill 0 03", "commit", "grow 300", "fill 299 04", "commit", "shrink 20", "grow 40", "fill 30 05",
+    "shrink 33", "commit", "fill 2 06", "discard", "commit", "shrink 1", "commit", "grow 18", "commit", "shrink 17", "fill 16 07",
+    "commit", ""))
 
 
 class Edited:
@@ -106,11 +113,15 @@ def edits():
     yield edited("a block", volume(17), f"write 16 {'5a' * 512}\ncommit\nwrite 0 {'A5' * 512}\nwrite 0 {'a5' * 512}\ncommit\n")
     for before, after in ((16, 17), (17, 16), (256, 257), (257, 256), (1, 257), (257, 17), (17, 1), (1, 2), (2, 1), (257, 1)):
         word = "grow" if before < after else "shrink"
-        yield edited(f"{word} {before} to {after}", volume(before), f"{word} {after}\ncommit\n")
+        yield edited(f"{word} {before} to {after}", volume(before), f"{word} {after}\ncommit\ncommit\n")
     yield edited("shrink 4097 to 256", volume(4097), "shrink 256\ncommit\ncommit\n")
     yield edited("grow and shrink back", volume(256), "grow 257\ncommit\nshrink 256\ncommit\n")
     yield edited("blocks that come back are zeros", volume(3), "shrink 1\ngrow 3\ncommit\n", b"\xaa" * 1536)
     yield edited("a discard", volume(17), "shrink 2\nfill 0 01\ndiscard\nfill 1 02\ncommit\n")
+    for blocks in (17, 257):
+        yield edited(f"all kinds, over {blocks}", volume(blocks), ALL_KINDS, numbered(volume(blocks)))
+    for one, _, digest in WORKED:
+        yield edited(f"worked, device {digest[:8]}", one, "commit\n", numbered(one))
     yield edited("sha512, grow 8 to 9", volume(8, algorithm="sha512"), "grow 9\ncommit\nfill 8 07\ncommit\n")
     yield edited("larger blocks", volume(130, data_size=4096, hash_size=1024), "grow 1025\nfill 1024 09\ncommit\nshrink 32\ncommit\n")
     front = volume(17, front=b"\x11" * 1024)
@@ -128,6 +139,8 @@ def refusals():
     yield edited("counts that don't shrink", volume(17), "shrink 0\nshrink 17\nshrink 18\nshrink 16\nshrink 16\ncommit\n")
     yield edited("counts that don't grow", volume(17),
                  f"grow 17\ngrow 0\ngrow 1099511627777\ngrow 18446744073709551615\ngrow 18\ngrow 18\ncommit\n")
+    yield edited("each rule, then a block", volume(17), "shrink 0\nshrink 17\ngrow 17\ngrow 1099511627777\nfill 17 01\n"
+                 f"write 16 {'01' * 511}\nfill 16 01\ncommit\ncommit\n")
     yield edited("bad lines", volume(17), "\n".join((
         "", "x", "Commit", " commit", "commit ", "commit\r", "\r", "grow", "grow ", "grow  18", "grow 18 ", "grow x", "grow +18",
         "grow -1", "grow 000000000000000000018", "grow 18446744073709551616", "grow 18 19", "fill 0", "fill 0 f", "fill 0 fff",

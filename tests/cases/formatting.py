@@ -1,4 +1,6 @@
 """`format`: the hash device, the table line, and what is refused."""
+import hashlib
+
 from cases.case import UUID, Case, image
 from verity import Volume
 
@@ -56,6 +58,53 @@ def volumes():
     yield made("leading zeros", Volume(2, **plain),
                words(sizes=["--data-block-size", "0512", "--hash-block-size", "000512"]))
     yield made("rubbish in the hash device's place", Volume(2, **plain), words(), files={"hash": b"\x77" * 5000})
+
+
+def numbered(volume):
+    """Data blocks that are filled with their numbers."""
+    return b"".join(bytes([n % 256]) * volume.data_size for n in range(volume.blocks))
+
+
+# Volumes of such blocks as `veritysetup` makes them: the root hash, and the SHA-256 digest of the whole hash device.
+WORKED = (
+    (Volume(1, data_size=1024, uuid=UUID), "5f70bf18a086007016e948b04aed3b82103a36bea41755b6cddfaf10ace3c6ef",
+     "89d304d1f13a15c1e92ad71638a21aae0c9e684049af58cbcb639da335ea3f97"),
+    (Volume(1, b"\x00\xff", uuid=UUID), "07d9e49bf8574ba4bab0e659328e0683c45282eac728fc6d8e839322a8c851b4",
+     "8e91827a1d14e11400763d86fee20adb035ba03c52261ecada188c26d5e68039"),
+    (Volume(16, b"\x00\xff", uuid=UUID), "9c7ed1e7d37fb10176a0000bf0c38482f1a5e88c80a27639562f6c5514fd2b5e",
+     "0d1bc8e83007a88a0046672bdaa2aa3f5307584b8b37ddcc32a3cf729c2269f7"),
+    (Volume(17, b"\x00\xff", uuid=UUID), "234259a12cf4cba78bef127291893994c9f0193ae855cdd6a74e8538a6e6665c",
+     "e09e13cbbcecbd7430b1421e7d2949a76a881e6f6fb90de13892b82b63ced73b"),
+    (Volume(257, b"\x00\xff", uuid=UUID), "db6cef9ec919c3e3a95c974c72fbc739599f900fef79b0616b5fe46ca368f823",
+     "34e7065155d4fe8ec764a6f8a8064f6fa8d492742bb717ccb8497add8fb55573"),
+    (Volume(17, data_size=1024, uuid=UUID), "5586f9a611484c478cf1ba2b010e5bd68ed9a10ce900f13c6da3979dc619d219",
+     "826c703cf5cccf34bc45051809c7bd069dacbd9fc353c64423b54bca16b41366"),
+    (Volume(40, hash_size=1024, uuid=UUID), "7f726a519cae01dfdf392dbaf2850ce9cc3b511e19defa85f61c4c64010cc29d",
+     "86cd5cd51ff0371fd7cda2b44827f7445aad8126b6444cfcf073181f8730d485"),
+    (Volume(8, b"\x00\xff", algorithm="sha512", uuid=UUID),
+     "2b909479caabbc00dba1fb1a035931b1abc45a186b3694d7944142bf0815274bc72edfa03b718b3034fafad6360619e36913ba5b875c8f29ee83608014d177a0",
+     "881290a1ea9792aea6f15d2a4e78bd1316f72857b40eca3fe0e2de676a32db36"),
+    (Volume(9, b"\x00\xff", algorithm="sha512", uuid=UUID),
+     "5c6c0c8d0e9923808ebe37224509e6a0193c2ee38451ceef808c2c6f10f5bd9a19d458aa2ac7e91df67cb7c38edfed1203d73a1cc0a87359e44cbd05685fe749",
+     "e41cb43c7582fa9f25525befb467875a62885bf33021a27c17627dfc02c8fb0f"),
+    (Volume(17, b"\x00\xff", front=b"\x11" * 1024, uuid=UUID), "234259a12cf4cba78bef127291893994c9f0193ae855cdd6a74e8538a6e6665c",
+     "d8d5a44d2e7f69814876ad842168dd6874ddb536cdda9e72cb7c9d4db38aeb67"),
+    (Volume(17, b"\x00\xff", front=bytes(1024), uuid=UUID), "234259a12cf4cba78bef127291893994c9f0193ae855cdd6a74e8538a6e6665c",
+     "5c7b593f473f6d061a3158bcc9b102d52f017412257258c67f6a7c4b0f3430f5"),
+)
+
+
+def worked():
+    """Their roots and devices, which the model of the format has to have too."""
+    for volume, root, digest in WORKED:
+        data = numbered(volume)
+        device = volume.device(data)
+        assert volume.line(data).split(" ")[8] == root and hashlib.sha256(device).hexdigest() == digest
+        given = words("--algorithm", volume.algorithm, "--hash-offset", str(len(volume.front)),
+                      salted=["--salt", volume.salt.hex() or "none", "--uuid", UUID],
+                      sizes=["--data-block-size", str(volume.data_size), "--hash-block-size", str(volume.hash_size)])
+        yield Case(f"format: worked, device {digest[:8]}", given,
+                   volume.line(data) + "\n", files={"data": data, "hash": volume.front}, leaves={"hash": device})
 
 
 def offsets():
@@ -136,7 +185,7 @@ def values():
 
 
 def cases():
-    for table in (volumes, offsets, first_blocks, refusals, values):
+    for table in (volumes, worked, offsets, first_blocks, refusals, values):
         yield from table()
     data = image(1)
     yield Case("format: an output that can't be written", words(), "", 1, {"data": data},

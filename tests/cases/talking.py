@@ -79,8 +79,21 @@ def transmission():
         yield talk(f"request {kind}", BEGUN + reply(1, error) + bytes_at(7, 3, 2),
                    BEGIN + request(kind, 1, 0, 512) + read(7, 3, 2))
     yield talk("DISC", BEGUN, BEGIN + request(DISC, 1, 5, 5, flags=9) + read(0, 1))
+    yield talk("ten bytes of the first request", BEGUN, BEGIN + read(512, 512)[:10])
     yield talk("ten bytes of a request", BEGUN + bytes_at(0, 1), BEGIN + read(0, 1) + read(0, 1, 2)[:10])
     yield talk("a wrong magic in a request", BEGUN + bytes_at(0, 1), BEGIN + read(0, 1) + bytes(28) + read(0, 1, 2))
+
+
+def cut():
+    """A conversation cut after each of its bytes: a message is answered once it is whole, and not before."""
+    messages = [(flags(), b""), (option(8), option_reply(8, ERR_UNSUP)), (go(), gone(SIZE)), (read(8703, 1), bytes_at(8703, 1))]
+    heard = b"".join(message for message, _ in messages)
+    for length in range(len(heard) + 1):
+        said, end = GREETING, 0
+        for message, answer in messages:
+            end += len(message)
+            said += answer if end <= length else b""
+        yield talk(f"cut after {length} bytes", said, heard[:length])
 
 
 def altered():
@@ -95,6 +108,16 @@ def altered():
                hashes=flipped(HASHES, 512))
     yield talk("another superblock", BEGUN + bytes_at(0, SIZE), BEGIN + read(0, SIZE),
                hashes=Volume(2, uuid=UUID).superblock() + HASHES[512:])
+    yield talk("rubbish in place of the superblock", BEGUN + bytes_at(0, SIZE), BEGIN + read(0, SIZE), hashes=b"\x02" * 512 + HASHES[512:])
+    yield talk("a bit of a data block", BEGUN + reply(1, EIO) + bytes_at(2048, 512, 2), BEGIN + read(2048, 1536) + read(2048, 512, 2),
+               data=flipped(DATA, 2567))
+    yield talk("a bit of level 0", BEGUN + reply(1, EIO) + reply(2, EIO) + reply(3) + bytes_at(8192, 512, 4),
+               BEGIN + read(0, 1) + read(8191, 2, 2) + read(0, 0, 3) + read(8192, 512, 4), hashes=flipped(HASHES, 1024))
+    other = bytes(byte ^ 128 for byte in DATA)
+    for cache in ("1", "4"):
+        yield talk(f"both devices of another volume, a cache of {cache}", BEGUN + b"".join(reply(n, EIO) for n in range(4)),
+                   BEGIN + b"".join(read(512 * block, 512, n) for n, block in enumerate((3, 3, 16, 16))),
+                   data=other, hashes=VOLUME.device(other), more=["--cache", cache])
     wide = Volume(17, algorithm="sha512")
     yield talk("a bad block of level 0, sha512", BEGUN + reply(1, EIO) + bytes_at(4096, 512, 2),
                BEGIN + read(4095, 1) + read(4096, 512, 2), volume=wide, hashes=flipped(wide.device(DATA), 1024))
@@ -124,7 +147,7 @@ def refusals(command=("talk",)):
 
 
 def cases():
-    for table in (negotiation, transmission, altered, refusals):
+    for table in (negotiation, transmission, cut, altered, refusals):
         yield from table()
     name = "x" * 255
     yield Case("talk: a name of 255 bytes", ["talk", "--table", VOLUME.line(DATA), "--name", name], BEGUN, 0,

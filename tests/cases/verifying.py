@@ -63,6 +63,8 @@ def lines():
     yield sound("a superblock of two blocks", Volume(32, uuid=UUID), hashes=Volume(2, uuid=UUID).superblock() + hashes[512:])
     yield sound("no superblock's block", Volume(32), hashes=hashes[512:],
                 line=Volume(32).line(data).replace(" 1 sha256", " 0 sha256"))
+    yield seen("a count that the root doesn't bind", Volume(2, uuid=UUID).line(hashes[1024:]), ["unchecked 0", "verified"],
+               hashes[1024:], hashes)
     yield sound("a longer data device", SMALL, data=image(17) + bytes(700 * 512))
     yield sound("a longer hash device", SMALL, hashes=SMALL.device(image(17)) + b"\x77" * 512)
     yield sound("no hash device's block", Volume(1), hashes=b"")

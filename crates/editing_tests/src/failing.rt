@@ -54,8 +54,11 @@ fn open_fails(alloc: Global, failure: Failure) -> Result<bool, Fail> {
         Ok(_editor) => Ok(false),
         Err(refused) => Ok(
             refused.fault == EditFault::Store(failure.which)
-                && refused.data_store.store().bytes() == kept.data_store.bytes()
-                && refused.hash_store.store().bytes() == kept.hash_store.bytes(),
+                && is_same(
+                    refused.data_store.store(),
+                    refused.hash_store.store(),
+                    &kept,
+                ),
         ),
     }
 }
@@ -63,84 +66,67 @@ fn open_fails(alloc: Global, failure: Failure) -> Result<bool, Fail> {
 // An editor that was opened, with pending edits.
 fn edited(alloc: Global, failure: Failure) -> Result<Option<Frail>, Fail> {
     let (data_store, hash_store) = over(volume_of(alloc, 16)?, failure);
-    match Editor::open(alloc, data_store, hash_store) {
-        Ok(editor) => Ok(with_edits(editor)),
-        Err(_) => Ok(None),
-    }
-}
-
-fn with_edits(editor: Frail) -> Option<Frail> {
-    let mut editor = editor;
+    let Ok(mut editor) = Editor::open(alloc, data_store, hash_store) else {
+        return Ok(None);
+    };
     if editor.write(3, &[9; 512]).is_ok() && editor.grow(17).is_ok() {
-        Some(editor)
+        Ok(Some(editor))
     } else {
-        None
+        Ok(None)
     }
 }
 
-fn commits(editor: Frail) -> Option<Frail> {
-    let mut editor = editor;
-    if editor.commit().is_ok() {
-        Some(editor)
-    } else {
-        None
+// What came of a commit whose call failed: whether the editor broke, and what stands in both stores.
+#[derive(Drop)]
+struct Left {
+    broken: bool,
+    data_store: MemStore,
+    hash_store: MemStore,
+}
+
+fn left_by(editor: Frail) -> Left {
+    let broken = editor.broken();
+    let (data_store, hash_store) = editor.close();
+    Left {
+        broken,
+        data_store: data_store.into_inner(),
+        hash_store: hash_store.into_inner(),
     }
 }
 
 // An editor whose commit named the store that failed.
 fn refused(alloc: Global, failure: Failure) -> Result<Option<Frail>, Fail> {
-    match edited(alloc, failure)? {
-        Some(editor) => Ok(refuses(editor, failure.which)),
-        None => Ok(None),
-    }
-}
-
-fn refuses(editor: Frail, which: Which) -> Option<Frail> {
-    let mut editor = editor;
-    if editor.commit().err() == Some(EditFault::Store(which)) {
-        Some(editor)
+    let Some(mut editor) = edited(alloc, failure)? else {
+        return Ok(None);
+    };
+    if editor.commit().err() == Some(EditFault::Store(failure.which)) {
+        Ok(Some(editor))
     } else {
-        None
+        Ok(None)
     }
 }
 
-// An editor that answers E7 to every call but the getters and `close`.
-fn stuck(editor: Frail) -> Option<Frail> {
-    let mut editor = editor;
+// Whether a broken editor answers E7 to every call but the getters and `close`, and another one commits.
+fn goes_on(editor: &mut Frail) -> bool {
+    if !editor.broken() {
+        return editor.commit().is_ok();
+    }
     let broken = Err(EditFault::Broken);
-    if editor.write(0, &[1; 512]) == broken
+    editor.write(0, &[1; 512]) == broken
         && editor.grow(99) == broken
         && editor.shrink(1) == broken
         && editor.discard() == broken
         && editor.commit().err() == Some(EditFault::Broken)
-    {
-        Some(editor)
-    } else {
-        None
-    }
-}
-
-fn close(editor: Frail) -> (MemStore, MemStore) {
-    let (data_store, hash_store) = editor.close();
-    (data_store.into_inner(), hash_store.into_inner())
 }
 
 // Whether both stores hold what a successful commit leaves.
-fn is_whole(alloc: Global, data_store: &MemStore, hash_store: &MemStore) -> Result<bool, Fail> {
-    let wanted = edited_volume(alloc)?;
-    Ok(
-        data_store.bytes() == wanted.data_store.bytes()
-            && hash_store.bytes() == wanted.hash_store.bytes(),
-    )
+fn is_whole(alloc: Global, left: &Left) -> Result<bool, Fail> {
+    Ok(is_same(&left.data_store, &left.hash_store, &edited_volume(alloc)?))
 }
 
 // Both stores again, where they are opened, or refused since tree and data differ.
-fn opened_or_torn(
-    alloc: Global,
-    data_store: MemStore,
-    hash_store: MemStore,
-) -> Option<(MemStore, MemStore)> {
-    match Editor::open(alloc, data_store, hash_store) {
+fn opened_or_torn(alloc: Global, left: Left) -> Option<(MemStore, MemStore)> {
+    match Editor::open(alloc, left.data_store, left.hash_store) {
         Ok(editor) => Some(editor.close()),
         Err(refused) => match refused.fault {
             EditFault::Mismatch { .. } | EditFault::Superblock(_) | EditFault::DataLength => {
@@ -151,10 +137,11 @@ fn opened_or_torn(
     }
 }
 
-// Whether a build over what stands makes a volume that opens.
-fn is_rebuilt(alloc: Global, data_store: MemStore, hash_store: MemStore) -> Result<bool, Fail> {
-    let mut data_store = data_store;
-    let mut hash_store = hash_store;
+// Whether what a broken editor left is opened or torn, and a build over it makes a volume that opens.
+fn is_rebuilt(alloc: Global, left: Left) -> Result<bool, Fail> {
+    let Some((mut data_store, mut hash_store)) = opened_or_torn(alloc, left) else {
+        return Ok(false);
+    };
     let root = build(alloc, &mut data_store, &mut hash_store, &params(alloc)?)?;
     match Editor::open(alloc, data_store, hash_store) {
         Ok(editor) => Ok(editor.root() == root),
@@ -162,84 +149,50 @@ fn is_rebuilt(alloc: Global, data_store: MemStore, hash_store: MemStore) -> Resu
     }
 }
 
-// Whether a broken editor answers E7, and what stands is opened or torn, and can be built again.
-fn is_given_up(alloc: Global, editor: Frail) -> Result<bool, Fail> {
-    let Some(editor) = stuck(editor) else {
-        return Ok(false);
-    };
-    let (data_store, hash_store) = close(editor);
-    match opened_or_torn(alloc, data_store, hash_store) {
-        Some((data_store, hash_store)) => is_rebuilt(alloc, data_store, hash_store),
-        None => Ok(false),
-    }
-}
-
-// Whether the next commit of an editor leaves what a successful one leaves.
-fn goes_on(alloc: Global, editor: Frail) -> Result<bool, Fail> {
-    match commits(editor) {
-        Some(editor) => {
-            let (data_store, hash_store) = close(editor);
-            is_whole(alloc, &data_store, &hash_store)
-        }
-        None => Ok(false),
-    }
-}
-
 // Whether a commit whose call fails names the store, and goes on or is given up.
 fn commit_fails(alloc: Global, failure: Failure) -> Result<bool, Fail> {
-    match refused(alloc, failure)? {
-        Some(editor) if editor.broken() => is_given_up(alloc, editor),
-        Some(editor) => goes_on(alloc, editor),
-        None => Ok(false),
+    let Some(mut editor) = refused(alloc, failure)? else {
+        return Ok(false);
+    };
+    if !goes_on(&mut editor) {
+        return Ok(false);
+    }
+    let left = left_by(editor);
+    if left.broken {
+        is_rebuilt(alloc, left)
+    } else {
+        is_whole(alloc, &left)
     }
 }
 
-// Whether a commit of which a call fails breaks the editor.
-fn breaks(alloc: Global, failure: Failure) -> Result<bool, Fail> {
-    match refused(alloc, failure)? {
-        Some(editor) => Ok(editor.broken()),
-        None => Ok(false),
-    }
-}
-
-// Whether a commit of which a call fails leaves what a successful one leaves.
-fn is_done(alloc: Global, failure: Failure) -> Result<bool, Fail> {
-    match refused(alloc, failure)? {
-        Some(editor) => {
-            let (data_store, hash_store) = close(editor);
-            is_whole(alloc, &data_store, &hash_store)
-        }
-        None => Ok(false),
-    }
+// Whether a commit of which a call fails breaks the editor, and whether both stores then hold what a successful one leaves.
+fn fate(alloc: Global, failure: Failure) -> Result<Option<(bool, bool)>, Fail> {
+    let Some(editor) = refused(alloc, failure)? else {
+        return Ok(None);
+    };
+    let left = left_by(editor);
+    let is_whole = is_whole(alloc, &left)?;
+    Ok(Some((left.broken, is_whole)))
 }
 
 // The calls at a store of `open` and a commit none of whose calls fails.
 fn calls(alloc: Global, which: Which) -> Result<u64, Fail> {
-    let committed = match edited(alloc, Failure { which, call: 0 })? {
-        Some(editor) => commits(editor),
-        None => None,
+    let Some(mut editor) = edited(alloc, Failure { which, call: 0 })? else {
+        return Ok(0);
     };
-    match committed {
-        Some(editor) => Ok(calls_at(editor, which)),
-        None => Ok(0),
+    if editor.commit().is_err() {
+        return Ok(0);
     }
-}
-
-fn calls_at(editor: Frail, which: Which) -> u64 {
     let (data_store, hash_store) = editor.close();
     match which {
-        Which::Data => data_store.calls(),
-        Which::Hash => hash_store.calls(),
+        Which::Data => Ok(data_store.calls()),
+        Which::Hash => Ok(hash_store.calls()),
     }
 }
 
-// `open` makes the first calls, the commit the others, of which the last is the sync. The number of the last call.
-fn each_call_fails(
-    rt: &impl Abort,
-    alloc: Global,
-    which: Which,
-    opening: u64,
-) -> Result<Failure, Fail> {
+// `open` makes the first calls, the commit the others, of which the last is the sync: it breaks the editor, and the stores
+// hold all.
+fn each_call_fails(rt: &impl Abort, alloc: Global, which: Which, opening: u64) -> Result<(), Fail> {
     let last = calls(alloc, which)?;
     assert!(rt; opening < last && last < 100, "{last} calls");
     for call in 1..last + 1 {
@@ -250,28 +203,21 @@ fn each_call_fails(
             assert!(rt; commit_fails(alloc, failure)?, "call {call}");
         }
     }
-    Ok(Failure { which, call: last })
-}
-
-#[test]
-fn each_call_at_the_data_store_fails(rt: HostRuntime) -> Result<(), Fail> {
-    let alloc = rt.alloc();
-    let sync = each_call_fails(&rt, alloc, Which::Data, 16)?;
-    assert!(rt; breaks(alloc, sync)?);
-    assert!(rt; is_done(alloc, sync)?);
+    let sync = Failure { which, call: last };
+    assert_eq!(rt; fate(alloc, sync)?, Some((true, true)));
     Ok(())
 }
 
+// The third call at the hash store is the commit's first, before any change.
 #[test]
-fn each_call_at_the_hash_store_fails(rt: HostRuntime) -> Result<(), Fail> {
+fn each_call_fails_in_turn(rt: HostRuntime) -> Result<(), Fail> {
     let alloc = rt.alloc();
-    let sync = each_call_fails(&rt, alloc, Which::Hash, 2)?;
-    assert!(rt; breaks(alloc, sync)?);
-    assert!(rt; is_done(alloc, sync)?);
+    each_call_fails(&rt, alloc, Which::Data, 16)?;
+    each_call_fails(&rt, alloc, Which::Hash, 2)?;
     let planning = Failure {
         which: Which::Hash,
         call: 3,
     };
-    assert!(rt; !breaks(alloc, planning)?);
+    assert_eq!(rt; fate(alloc, planning)?, Some((false, false)));
     Ok(())
 }

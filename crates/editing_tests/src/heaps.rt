@@ -4,8 +4,8 @@ use linked_list_allocator::LocalHeap;
 use std::alloc::{Allocator, Global};
 use std::test::Fail;
 use test_volumes::{Volume, fill};
-use verity_edit::{EditFault, Editor};
-use verity_store::{BlockStore, MemStore};
+use verity_edit::Editor;
+use verity_store::MemStore;
 
 // Room for an editor of the tests and its stores, with some to spare.
 pub const AMPLE: usize = 65_536;
@@ -47,20 +47,6 @@ pub fn opened_in<S: Allocator + Copy, A: Allocator + Copy>(
         Ok(editor) => Ok(editor),
         Err(refused) => Err(refused.fault.into()),
     }
-}
-
-// Commits where a heap has so many bytes left: the editor, and why it was refused.
-pub fn commit_in<S: Allocator + Drop, A: Allocator + Copy>(
-    alloc: Global,
-    heap: &LocalHeap,
-    room: usize,
-    editor: Editor<MemStore<S>, MemStore<S>, A>,
-) -> Result<(Editor<MemStore<S>, MemStore<S>, A>, Option<EditFault>), Fail> {
-    let mut editor = editor;
-    let rest = squeeze(alloc, heap, room)?;
-    let fault = editor.commit().err();
-    drop(rest);
-    Ok((editor, fault))
 }
 
 // An editor that committed.

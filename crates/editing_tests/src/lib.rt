@@ -16,8 +16,6 @@ mod opening;
 #[cfg(test)]
 mod running;
 #[cfg(test)]
-mod scripts;
-#[cfg(test)]
 mod steps;
 #[cfg(test)]
 mod volumes;

@@ -81,167 +81,157 @@ fn commits_to<S: Allocator + Drop, A: Allocator + Copy>(
     committed_in(editor).is_some_and(|editor| holds(editor, wanted))
 }
 
-// Writes block 3 where a heap has so many bytes left: the editor, and why it was refused.
-fn write_in<'a>(
+// A call that is refused memory.
+#[derive(Clone, Copy, Debug)]
+enum Call {
+    Write,
+    Commit,
+}
+
+// Writes block 3, or commits that and added blocks, where a heap has so many bytes left: the editor, and why it was refused.
+fn squeezed<S: Allocator + Copy + Drop, A: Allocator + Copy>(
     alloc: Global,
-    heap: &'a LocalHeap,
+    editor: Editor<MemStore<S>, MemStore<S>, A>,
+    heap: &LocalHeap,
     room: usize,
-    editor: Bounded<'a>,
-) -> Result<(Bounded<'a>, Option<EditFault>), Fail> {
+    call: Call,
+    count: u64,
+) -> Result<(Editor<MemStore<S>, MemStore<S>, A>, Option<EditFault>), Fail> {
     let mut editor = editor;
+    if let Call::Commit = call {
+        editor.write(3, &[0x5a; 512])?;
+        editor.grow(count)?;
+    }
     let rest = squeeze(alloc, heap, room)?;
-    let fault = editor.write(3, &[0x5a; 512]).err();
+    let fault = match call {
+        Call::Write => editor.write(3, &[0x5a; 512]).err(),
+        Call::Commit => editor.commit().err(),
+    };
     drop(rest);
     Ok((editor, fault))
 }
 
-// Whether a write with so little room is refused for it and nothing is edited. None where it is done.
-fn edits_nothing(alloc: Global, room: usize, case: &Case) -> Result<Option<bool>, Fail> {
-    let heap = LocalHeap::new(alloc, AMPLE)?;
-    let editor = opened_in(alloc, &heap, &case.old, SIZE)?;
-    let (editor, fault) = write_in(alloc, &heap, room, editor)?;
-    match fault {
-        None => Ok(None),
-        Some(fault) => Ok(Some(fault == EditFault::NoMemory && commits_to(editor, &case.old))),
-    }
-}
-
-// Whether a write is done with ample room after one with little.
-fn is_written_again(alloc: Global, room: usize, case: &Case) -> Result<bool, Fail> {
-    let heap = LocalHeap::new(alloc, AMPLE)?;
-    let editor = opened_in(alloc, &heap, &case.old, SIZE)?;
-    let (mut editor, _fault) = write_in(alloc, &heap, room, editor)?;
-    Ok(editor.write(3, &[0x5a; 512]).is_ok() && commits_to(editor, &case.new))
-}
-
-#[test]
-fn a_refused_write_edits_nothing(rt: HostRuntime) -> Result<(), Fail> {
-    let alloc = rt.alloc();
-    let case = make_case(alloc, 17, 17)?;
-    for steps in 0..1000 {
-        let room = steps * STEP;
-        match edits_nothing(alloc, room, &case)? {
-            Some(is_right) => assert!(rt; is_right, "{steps} steps"),
-            None => {
-                assert!(rt; steps > 16, "{steps} steps");
-                return Ok(());
-            }
-        }
-        assert!(rt; is_written_again(alloc, room, &case)?, "{steps} steps");
-    }
-    assert!(rt; false);
-    Ok(())
-}
-
-// An editor with a block written and blocks added.
-fn edited<S: Allocator + Drop, A: Allocator + Copy>(
+// Whether nothing is edited by a refused write, and both stores are as before a refused commit, whose edits are still pending.
+fn stays<S: Allocator + Drop, A: Allocator + Copy>(
     editor: Editor<MemStore<S>, MemStore<S>, A>,
-    count: u64,
-) -> Result<Editor<MemStore<S>, MemStore<S>, A>, Fail> {
+    call: Call,
+    case: &Case,
+) -> bool {
+    match call {
+        Call::Write => commits_to(editor, &case.old),
+        Call::Commit => editor.blocks() == case.count && holds(editor, &case.old),
+    }
+}
+
+// Whether the refused call is done with ample room.
+fn goes_on<S: Allocator + Drop, A: Allocator + Copy>(
+    editor: Editor<MemStore<S>, MemStore<S>, A>,
+    call: Call,
+    case: &Case,
+) -> bool {
     let mut editor = editor;
-    editor.write(3, &[0x5a; 512])?;
-    editor.grow(count)?;
-    Ok(editor)
+    let is_ready = match call {
+        Call::Write => editor.write(3, &[0x5a; 512]).is_ok(),
+        Call::Commit => !editor.broken(),
+    };
+    is_ready && commits_to(editor, &case.new)
 }
 
-// Commits the edits of a case where a heap has so many bytes left. The stores have ample room.
-fn planned<'a>(
+// Whether a call with so little room in a heap, of which stores or edits take memory, is refused for it, changes nothing,
+// and is then done with ample room. None where it is done at once.
+fn is_refused_well<S: Allocator + Copy + Drop, A: Allocator + Copy>(
     alloc: Global,
-    heap: &'a LocalHeap,
+    stores_in: S,
+    edits_in: A,
+    heap: &LocalHeap,
     room: usize,
+    call: Call,
     case: &Case,
-) -> Result<(Bounded<'a>, Option<EditFault>), Fail> {
-    let editor = opened_in(alloc, heap, &case.old, SIZE)?;
-    commit_in(alloc, heap, room, edited(editor, case.count)?)
+) -> Result<Option<bool>, Fail> {
+    let editor = opened_in(stores_in, edits_in, &case.old, SIZE)?;
+    let (editor, fault) = squeezed(alloc, editor, heap, room, call, case.count)?;
+    let Some(fault) = fault else {
+        return Ok(None);
+    };
+    let stays = fault == EditFault::NoMemory && stays(editor, call, case);
+    let editor = opened_in(stores_in, edits_in, &case.old, SIZE)?;
+    let (editor, _fault) = squeezed(alloc, editor, heap, room, call, case.count)?;
+    Ok(Some(stays && goes_on(editor, call, case)))
 }
 
-// Whether a commit with so little room is refused for it, and both stores are as before. None where it is done.
-fn keeps_stores(alloc: Global, room: usize, case: &Case) -> Result<Option<bool>, Fail> {
+// What takes memory of the heap with little room.
+#[derive(Clone, Copy, Debug)]
+enum Memory {
+    Edits,
+    Stores,
+}
+
+// A call over a volume of `old` blocks that is to have `new`, by how much its room grows from run to run, and how often it
+// is refused at least.
+#[derive(Clone, Copy, Debug)]
+struct Row {
+    call: Call,
+    memory: Memory,
+    old: usize,
+    new: usize,
+    step: usize,
+    least: usize,
+}
+
+// The stores' 17 data blocks take 8,704 bytes beside the 16.
+const ROWS: [Row; 3] = [
+    Row {
+        call: Call::Write,
+        memory: Memory::Edits,
+        old: 17,
+        new: 17,
+        step: STEP,
+        least: 16,
+    },
+    Row {
+        call: Call::Commit,
+        memory: Memory::Edits,
+        old: 256,
+        new: 257,
+        step: STEP,
+        least: 64,
+    },
+    Row {
+        call: Call::Commit,
+        memory: Memory::Stores,
+        old: 16,
+        new: 17,
+        step: SIZE,
+        least: 17,
+    },
+];
+
+fn refused(alloc: Global, row: Row, room: usize, case: &Case) -> Result<Option<bool>, Fail> {
     let heap = LocalHeap::new(alloc, AMPLE)?;
-    let (editor, fault) = planned(alloc, &heap, room, case)?;
-    match fault {
-        None => Ok(None),
-        Some(fault) => Ok(Some(
-            fault == EditFault::NoMemory
-                && editor.blocks() == case.count
-                && holds(editor, &case.old),
-        )),
+    match row.memory {
+        Memory::Edits => is_refused_well(alloc, alloc, &heap, &heap, room, row.call, case),
+        Memory::Stores => is_refused_well(alloc, &heap, alloc, &heap, room, row.call, case),
     }
 }
 
-// Whether a commit is done with ample room after one with little.
-fn keeps_edits(alloc: Global, room: usize, case: &Case) -> Result<bool, Fail> {
-    let heap = LocalHeap::new(alloc, AMPLE)?;
-    let (editor, _fault) = planned(alloc, &heap, room, case)?;
-    Ok(!editor.broken() && commits_to(editor, &case.new))
+// How many runs are refused, one after the other, before one is done.
+fn refusals(alloc: Global, row: Row) -> Result<usize, Fail> {
+    let case = make_case(alloc, row.old, row.new)?;
+    for runs in 0..1000usize {
+        match refused(alloc, row, runs.saturating_mul(row.step), &case)? {
+            Some(true) => {}
+            Some(false) => return Err(Fail::from("a refused call is wrong")),
+            None => return Ok(runs),
+        }
+    }
+    Err(Fail::from("memory was refused at every size"))
 }
 
 #[test]
-fn a_refused_commit_changes_nothing(rt: HostRuntime) -> Result<(), Fail> {
-    let alloc = rt.alloc();
-    let case = make_case(alloc, 256, 257)?;
-    for steps in 0..1000 {
-        let room = steps * STEP;
-        match keeps_stores(alloc, room, &case)? {
-            Some(is_right) => assert!(rt; is_right, "{steps} steps"),
-            None => {
-                assert!(rt; steps > 64, "{steps} steps");
-                return Ok(());
-            }
-        }
-        assert!(rt; keeps_edits(alloc, room, &case)?, "{steps} steps");
+fn a_refused_call_changes_nothing(rt: HostRuntime) -> Result<(), Fail> {
+    for row in ROWS {
+        let refused = refusals(rt.alloc(), row)?;
+        assert!(rt; refused > row.least, "{row:?}: {refused}");
     }
-    assert!(rt; false);
-    Ok(())
-}
-
-// An editor whose stores take memory of a heap.
-type Cramped<'a> = Editor<MemStore<&'a LocalHeap>, MemStore<&'a LocalHeap>>;
-
-// Commits the edits of a case where the stores' heap has so many bytes left.
-fn cramped<'a>(
-    alloc: Global,
-    heap: &'a LocalHeap,
-    room: usize,
-    case: &Case,
-) -> Result<(Cramped<'a>, Option<EditFault>), Fail> {
-    let editor = opened_in(heap, alloc, &case.old, SIZE)?;
-    commit_in(alloc, heap, room, edited(editor, case.count)?)
-}
-
-// Whether stores with so little room refuse a commit for it, and are as before. None where it is done.
-fn stores_stay(alloc: Global, room: usize, case: &Case) -> Result<Option<bool>, Fail> {
-    let heap = LocalHeap::new(alloc, AMPLE)?;
-    let (editor, fault) = cramped(alloc, &heap, room, case)?;
-    match fault {
-        None => Ok(None),
-        Some(fault) => Ok(Some(fault == EditFault::NoMemory && holds(editor, &case.old))),
-    }
-}
-
-// Whether stores take a commit with ample room after one with little.
-fn stores_grow(alloc: Global, room: usize, case: &Case) -> Result<bool, Fail> {
-    let heap = LocalHeap::new(alloc, AMPLE)?;
-    let (editor, _fault) = cramped(alloc, &heap, room, case)?;
-    Ok(!editor.broken() && commits_to(editor, &case.new))
-}
-
-// The data store's 17 blocks take 8,704 bytes beside its 16.
-#[test]
-fn stores_without_room_stay(rt: HostRuntime) -> Result<(), Fail> {
-    let alloc = rt.alloc();
-    let case = make_case(alloc, 16, 17)?;
-    for blocks in 0..100 {
-        let room = blocks * SIZE;
-        match stores_stay(alloc, room, &case)? {
-            Some(is_right) => assert!(rt; is_right, "{blocks} blocks"),
-            None => {
-                assert!(rt; blocks > 17, "{blocks} blocks");
-                return Ok(());
-            }
-        }
-        assert!(rt; stores_grow(alloc, room, &case)?, "{blocks} blocks");
-    }
-    assert!(rt; false);
     Ok(())
 }
