@@ -10,7 +10,7 @@ Commands:
   dump    Prints the superblock of a hash device
   edit    Does a script's lines over a volume, and prints an answer to each
   verify  Reports what is wrong in a volume
-  serve   Serves a volume over NBD, one connection after the other
+  serve   Serves a volume over NBD, to up to 64 clients at once
   talk    Serves a volume to one NBD client, over standard input and output
   help    Print this message or the help of the given subcommand(s)
 

@@ -156,7 +156,8 @@ impl<S: Stream + Drop, A: Allocator> Client<S, A> {
     /// How many bytes of the export its next feeding asks for, as [`Sessions::asks`] tells: those of an allowed READ that it
     /// makes whole, or none.
     pub fn asks<E: Export, H: Allocator + Copy>(&self, hub: &Sessions<E, H>) -> u32
-        ensures { (history : List Step) → IsAfter (E.facts hub.now.1) hub.now.0 history → AsksFor hub.now.0.offer history self.now.0 result }
+        ensures { (history : List Step) → IsAfter (E.facts hub.now.1) hub.now.0 history
+            → AsksFor hub.now.0.offer history self.now.0 result }
     {
         let taken = (self.end - self.begin).min(PIECE_BYTES);
         hub.asks(self.session, &self.input[self.begin..self.begin + taken])

@@ -1,5 +1,6 @@
 -- What is pending, client by client; and no turn.
-use Rattle.std.proofs.Common.{◌≡◌, ◌<◌, ◌≤◌, ◌+◌, ◌-◌, ◌*◌, ℕ, zero, suc, List, [], ◌∷◌, length, get_or, take, Option, refl, sym, subst, arith, append-nil}
+use Rattle.std.proofs.Common.{◌≡◌, ◌<◌, ◌≤◌, ◌+◌, ◌-◌, ◌*◌, ℕ, zero, suc, List, [], ◌∷◌, length, get_or, take}
+use Rattle.std.proofs.Common.{Option, refl, sym, subst, arith, append-nil}
 use Rattle.nbd_session.specs.Export.{Facts}
 use Rattle.nbd_hub.specs.History.{Step}
 use Rattle.nbd_hub.specs.Sessions.{HubState, max_open}

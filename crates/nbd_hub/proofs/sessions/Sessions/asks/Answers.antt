@@ -1,5 +1,4 @@
 use Rattle.std.proofs.Common.{◌≡◌, List, Option, Some, None, ap, sym, ◌∙◌, subst, arith}
-use Rattle.nbd_session.specs.declared.offer.Offer.{Offer}
 use Rattle.nbd_session.specs.Session.{State}
 use Rattle.nbd_hub.specs.Sessions.{Entry, Place, lookup}
 use Rattle.nbd_hub.proofs.Lookup.{Place-within, lookup-at, AllOffer-at}
@@ -38,4 +37,5 @@ returns-in-Some-clause-unknown g c = λ n.
     let p : Place c.args.id ns c.in-Some.at = subst P c.deref.ensures.value c.in-Some.ensures in
     let d = c.index.result.now in
     let v : ns ≡ c.args.self.now.0.sessions = ap (λ p. p.0.sessions) c.self.view_is in
-    absurd (some (lookup c.args.id c.args.self.now.0.sessions) _ (ap (lookup c.args.id) (sym v) ∙ lookup-at c.args.id ns c.in-Some.at d p) n)
+    let f = ap (lookup c.args.id) (sym v) ∙ lookup-at c.args.id ns c.in-Some.at d p in
+    absurd (some (lookup c.args.id c.args.self.now.0.sessions) _ f n)
