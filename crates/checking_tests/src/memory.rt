@@ -67,14 +67,14 @@ fn try_room(alloc: Global, volume: &Volume, steps: usize) -> Result<Outcome, Fai
     Ok(judged(alloc, made))
 }
 
-// With how many steps, from so many on, the outcome is first another than this, and which; at the end of 250, it itself.
+// With how many steps, from so many on, the outcome is first another than this, and which; at the end of 600, it itself.
 fn next_outcome(
     alloc: Global,
     volume: &Volume,
     from: usize,
     kind: Outcome,
 ) -> Result<(usize, Outcome), Fail> {
-    for steps in from..from.saturating_add(250) {
+    for steps in from..from.saturating_add(600) {
         let next = try_room(alloc, volume, steps)?;
         if next != kind {
             return Ok((steps, next));
