@@ -1,4 +1,5 @@
-//! Whole hash devices, made and compared: values of another program, refusals, memory refused, stores that fail. Tests, and nothing else.
+//! Hash devices, made and compared: differences, refusals, memory refused, stores that fail. Tests, and nothing else. Whole devices of
+//! another program are in `tests/program`.
 #![tactic(auto)]
 
 #[cfg(test)]
@@ -11,8 +12,6 @@ mod memory;
 mod order;
 #[cfg(test)]
 mod refusals;
-#[cfg(test)]
-mod rows;
 #[cfg(test)]
 mod volumes;
 #[cfg(test)]

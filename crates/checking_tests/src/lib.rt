@@ -15,8 +15,6 @@ mod reading;
 #[cfg(test)]
 mod refused;
 #[cfg(test)]
-mod reporting;
-#[cfg(test)]
 mod salted;
 #[cfg(test)]
 mod volumes;

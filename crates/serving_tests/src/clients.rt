@@ -15,9 +15,6 @@ pub const GREETING: &[u8] = b"NBDMAGICIHAVEOPT\x00\x03";
 /// The greeting, the size of 17 blocks, and the transmission flags.
 pub const WELCOME_17: &[u8] = b"NBDMAGICIHAVEOPT\x00\x03\x00\x00\x00\x00\x00\x00\x22\x00\x00\x03";
 
-/// The same of 32 blocks.
-pub const WELCOME_32: &[u8] = b"NBDMAGICIHAVEOPT\x00\x03\x00\x00\x00\x00\x00\x00\x40\x00\x00\x03";
-
 /// Client flags, and GO for the export's name and its block sizes.
 pub const GO: &[u8] = b"\x00\x00\x00\x03\
     IHAVEOPT\x00\x00\x00\x07\x00\x00\x00\x0b\x00\x00\x00\x03vol\x00\x01\x00\x03";

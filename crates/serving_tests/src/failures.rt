@@ -28,46 +28,32 @@ fn expected(alloc: Global, refused: [bool; 2]) -> Result<Vec<u8>, Fail> {
     Ok(said)
 }
 
-/// What is said where the data store fails at its call of this number.
-fn said_with_data_failure(alloc: Global, call: u64) -> Result<Vec<u8>, Fail> {
-    let input = client(alloc, &RANGES)?;
+/// What is said where the stores fail at their calls of these numbers; of number 0, none does.
+fn said_with(alloc: Global, data_call: u64, hash_call: u64) -> Result<Vec<u8>, Fail> {
+    let data = FailStore::at(data_17(alloc)?, data_call);
+    let hash = FailStore::at(hash_17(alloc)?, hash_call);
+    let hub = hub_17(alloc, data, hash, 1)?;
     let mut said = Vec::new(alloc);
-    let data = FailStore::at(data_17(alloc)?, call);
-    let hub = hub_17(alloc, data, hash_17(alloc)?, 1)?;
-    serve_once(hub, &input, &mut said)?;
+    serve_once(hub, &client(alloc, &RANGES)?, &mut said)?;
     Ok(said)
 }
 
-/// What is said where the hash store fails at its call of this number.
-fn said_with_hash_failure(alloc: Global, call: u64) -> Result<Vec<u8>, Fail> {
-    let input = client(alloc, &RANGES)?;
-    let mut said = Vec::new(alloc);
-    let hash = FailStore::at(hash_17(alloc)?, call);
-    let hub = hub_17(alloc, data_17(alloc)?, hash, 1)?;
-    serve_once(hub, &input, &mut said)?;
-    Ok(said)
-}
-
+// Each READ reads three data blocks. The first reads the top and the first block of level 0, which is then the one that is
+// cached; the second reads the top again and the second block of level 0.
 #[test]
-fn only_the_read_that_meets_a_data_failure_is_eio(rt: HostRuntime) -> Result<(), Fail> {
+fn only_the_read_that_meets_a_failure_is_eio(rt: HostRuntime) -> Result<(), Fail> {
     let alloc = rt.alloc();
     for call in 1..8 {
-        let said = said_with_data_failure(alloc, call)?;
-        let want = expected(alloc, [call <= 3, 3 < call && call <= 6])?;
-        assert_eq!(rt; said.as_slice(), want.as_slice(), "call {call}");
-    }
-    Ok(())
-}
-
-// The first READ reads the top and the first block of level 0, which is then the one that is cached; the second reads the
-// top again and the second block of level 0.
-#[test]
-fn only_the_read_that_meets_a_hash_failure_is_eio(rt: HostRuntime) -> Result<(), Fail> {
-    let alloc = rt.alloc();
-    for call in 1..6 {
-        let said = said_with_hash_failure(alloc, call)?;
-        let want = expected(alloc, [call <= 2, 2 < call && call <= 4])?;
-        assert_eq!(rt; said.as_slice(), want.as_slice(), "call {call}");
+        let data_refuses = [call <= 3, 3 < call && call <= 6];
+        assert!(rt;
+            said_with(alloc, call, 0)? == expected(alloc, data_refuses)?,
+            "data call {call}"
+        );
+        let hash_refuses = [call <= 2, 2 < call && call <= 4];
+        assert!(rt;
+            said_with(alloc, 0, call)? == expected(alloc, hash_refuses)?,
+            "hash call {call}"
+        );
     }
     Ok(())
 }

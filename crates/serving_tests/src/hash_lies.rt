@@ -1,4 +1,4 @@
-//! Hash stores that lie, and both stores of another volume.
+//! Hash stores that lie.
 
 use crate::scripts::*;
 use crate::volumes::*;
@@ -13,8 +13,8 @@ fn tells_of_hashes(
     script: Script,
     reads: Reads,
 ) -> Result<bool, Fail> {
-    let mut gives = tree(alloc, b"", &image(alloc, 17)?)?;
-    gives.extend_from_slice(&tree(alloc, b"", &other_image(alloc)?)?)?;
+    let mut gives = tree(alloc, &image(alloc, 17)?)?;
+    gives.extend_from_slice(&tree(alloc, &other_image(alloc)?)?)?;
     let hash = scripted(alloc, 3, &gives, script)?;
     let hub = hub_17(alloc, data_17(alloc)?, hash, cache)?;
     tells(alloc, hub, reads)
@@ -130,19 +130,6 @@ fn a_hash_store_that_lies(rt: HostRuntime) -> Result<(), Fail> {
             tells_of_hashes(alloc, cache, script, reads)?,
             "{name}, cache of {cache}"
         );
-    }
-    Ok(())
-}
-
-#[test]
-fn another_volume_is_refused(rt: HostRuntime) -> Result<(), Fail> {
-    let alloc = rt.alloc();
-    for cache in [1, 4] {
-        let bytes = other_image(alloc)?;
-        let hash = store(tree(alloc, b"", &bytes)?)?;
-        let hub = hub_17(alloc, store(bytes)?, hash, cache)?;
-        let reads = &[(3, false), (3, false), (16, false), (16, false)];
-        assert!(rt; tells(alloc, hub, reads)?);
     }
     Ok(())
 }

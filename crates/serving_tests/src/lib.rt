@@ -1,4 +1,4 @@
-//! NBD clients of volumes: rows of the protocol, sessions, streams that are left, stores that fail and lie, memory refused.
+//! NBD clients of volumes: sessions, streams that are left, stores that fail and lie, memory refused.
 //! Tests, and nothing else.
 #![tactic(auto)]
 
@@ -14,8 +14,6 @@ mod hash_lies;
 mod hub_memory;
 #[cfg(test)]
 mod reply_memory;
-#[cfg(test)]
-mod rows;
 #[cfg(test)]
 mod scripts;
 #[cfg(test)]

@@ -155,42 +155,47 @@ fn note(seen: &mut Seen, all: &[Came]) -> bool {
     all == [Came::Whole; 3].as_slice()
 }
 
-#[test]
-fn a_session_without_memory_starves(rt: HostRuntime) -> Result<(), Fail> {
-    let alloc = rt.alloc();
-    let turns = turns(alloc)?;
+/// What has little room.
+#[derive(Clone, Copy, Debug, PartialEq, Eq)]
+enum Memory {
+    Session,
+    Output,
+}
+
+/// What was seen of runs with one step more room each, up to the first that is whole.
+fn seen_of(alloc: Global, memory: Memory, turns: &[Turn]) -> Result<Seen, Fail> {
     let mut seen = Seen {
         starved: false,
         lacking: false,
     };
     for steps in 1..1000 {
         let heap = LocalHeap::new(alloc, steps * STEP)?;
-        let all = converse(alloc, &heap, alloc, &turns)?;
-        assert!(rt; is_allowed(&all), "{all:?} at {steps} steps");
+        let all = match memory {
+            Memory::Session => converse(alloc, &heap, alloc, turns)?,
+            Memory::Output => converse(alloc, alloc, &heap, turns)?,
+        };
+        if !is_allowed(&all) {
+            return Err(Fail::from("something wrong came of a feed"));
+        }
         if note(&mut seen, &all) {
-            assert!(rt; seen.starved && !seen.lacking);
-            return Ok(());
+            return Ok(seen);
         }
     }
     Err(Fail::from("memory was refused at every size"))
 }
 
 #[test]
-fn a_reply_without_memory_starves_or_is_enomem(rt: HostRuntime) -> Result<(), Fail> {
+fn without_memory_a_session_starves_and_a_reply_starves_or_is_enomem(
+    rt: HostRuntime,
+) -> Result<(), Fail> {
     let alloc = rt.alloc();
     let turns = turns(alloc)?;
-    let mut seen = Seen {
-        starved: false,
-        lacking: false,
-    };
-    for steps in 1..1000 {
-        let heap = LocalHeap::new(alloc, steps * STEP)?;
-        let all = converse(alloc, alloc, &heap, &turns)?;
-        assert!(rt; is_allowed(&all), "{all:?} at {steps} steps");
-        if note(&mut seen, &all) {
-            assert!(rt; seen.starved && seen.lacking);
-            return Ok(());
-        }
+    for (memory, lacking) in [(Memory::Session, false), (Memory::Output, true)] {
+        let wanted = Seen {
+            starved: true,
+            lacking,
+        };
+        assert_eq!(rt; seen_of(alloc, memory, &turns)?, wanted, "{memory:?}");
     }
-    Err(Fail::from("memory was refused at every size"))
+    Ok(())
 }

@@ -1,8 +1,8 @@
-//! Streams that end in the middle of a message, and streams that are left.
+//! Streams that are left, and writers that take no more. Streams that end in the middle of a message are in `tests/program`.
 
 use crate::clients::*;
 use crate::volumes::*;
-use std::alloc::{AllocError, Global};
+use std::alloc::Global;
 use std::io::{self, Write};
 use std::test::Fail;
 use verity_hub::{Hub, HubFault, ServeFault, serve_stream};
@@ -14,60 +14,12 @@ const INPUT: &[u8] = b"\x00\x00\x00\x03\
     IHAVEOPT\x00\x00\x00\x07\x00\x00\x00\x06\x00\x00\x00\x00\x00\x00\
     \x25\x60\x95\x13\x00\x00\x00\x00\x01\x02\x03\x04\x05\x06\x07\x08\x00\x00\x00\x00\x00\x00\x21\xff\x00\x00\x00\x01";
 
-/// Where each message of the input is whole, and what is then said.
-const REPLIES: [(usize, &[u8]); 3] = [
-    (
-        20,
-        b"\x00\x03\xe8\x89\x04\x55\x65\xa9\x00\x00\x00\x08\x80\x00\x00\x01\x00\x00\x00\x00",
-    ),
-    (
-        42,
-        b"\x00\x03\xe8\x89\x04\x55\x65\xa9\x00\x00\x00\x07\x00\x00\x00\x03\x00\x00\x00\x0c\x00\x00\x00\x00\x00\x00\x00\x00\x22\x00\x00\x03\
-        \x00\x03\xe8\x89\x04\x55\x65\xa9\x00\x00\x00\x07\x00\x00\x00\x01\x00\x00\x00\x00",
-    ),
-    (
-        70,
-        b"\x67\x44\x66\x98\x00\x00\x00\x00\x01\x02\x03\x04\x05\x06\x07\x08\x10",
-    ),
-];
-
-/// What is to be said to so many bytes of the input.
-fn expected(alloc: Global, len: usize) -> Result<Vec<u8>, AllocError> {
-    let mut said = Vec::from_slice(alloc, GREETING)?;
-    for (end, reply) in REPLIES {
-        if end <= len {
-            said.extend_from_slice(reply)?;
-        }
-    }
-    Ok(said)
-}
-
-#[test]
-fn an_input_cut_after_each_byte(rt: HostRuntime) -> Result<(), Fail> {
-    let alloc = rt.alloc();
-    for len in 0..=INPUT.len() {
-        let hub = hub_17(alloc, data_17(alloc)?, hash_17(alloc)?, 1)?;
-        let mut said = Vec::new(alloc);
-        serve_once(hub, &INPUT[..len], &mut said)?;
-        assert_eq!(rt;
-            said.as_slice(),
-            expected(alloc, len)?.as_slice(),
-            "cut at {len}"
-        );
-    }
-    Ok(())
-}
-
-#[test]
-fn a_peer_that_stops_within_a_request(rt: HostRuntime) -> Result<(), Fail> {
-    let alloc = rt.alloc();
-    let input = client(alloc, &[(512, 512)])?;
-    let hub = hub_17(alloc, data_17(alloc)?, hash_17(alloc)?, 1)?;
-    let mut said = Vec::new(alloc);
-    serve_once(hub, input.get(..HELLO.len() + 10).unwrap_or(&[]), &mut said)?;
-    assert_eq!(rt; said.as_slice(), WELCOME_17);
-    Ok(())
-}
+/// All that is said to it.
+const SAID: &[u8] = b"NBDMAGICIHAVEOPT\x00\x03\
+    \x00\x03\xe8\x89\x04\x55\x65\xa9\x00\x00\x00\x08\x80\x00\x00\x01\x00\x00\x00\x00\
+    \x00\x03\xe8\x89\x04\x55\x65\xa9\x00\x00\x00\x07\x00\x00\x00\x03\x00\x00\x00\x0c\x00\x00\x00\x00\x00\x00\x00\x00\x22\x00\x00\x03\
+    \x00\x03\xe8\x89\x04\x55\x65\xa9\x00\x00\x00\x07\x00\x00\x00\x01\x00\x00\x00\x00\
+    \x67\x44\x66\x98\x00\x00\x00\x00\x01\x02\x03\x04\x05\x06\x07\x08\x10";
 
 #[test]
 fn a_stream_is_left_at_its_limit(rt: HostRuntime) -> Result<(), Fail> {
@@ -154,23 +106,27 @@ fn served_into(alloc: Global, room: usize) -> Result<(Vec<u8>, Option<ServeFault
 #[test]
 fn a_writer_that_takes_no_more(rt: HostRuntime) -> Result<(), Fail> {
     let alloc = rt.alloc();
-    let whole = expected(alloc, INPUT.len())?;
-    for room in 0..whole.len() {
+    for room in 0..=SAID.len() {
         let (taken, fault, left) = served_into(alloc, room)?;
-        assert_eq!(rt; fault, Some(ServeFault::Write), "room for {room}");
+        let is_whole = room == SAID.len();
         assert_eq!(rt;
-            Some(taken.as_slice()),
-            whole.get(..room),
+            fault,
+            if is_whole {
+                None
+            } else {
+                Some(ServeFault::Write)
+            },
             "room for {room}"
         );
+        assert!(rt;
+            Some(taken.as_slice()) == SAID.get(..room),
+            "room for {room}"
+        );
+        assert!(rt; !is_whole || left == 0, "room for {room}");
         assert!(rt;
             GREETING.len() <= room || left == INPUT.len(),
             "room for {room}"
         );
     }
-    let (taken, fault, left) = served_into(alloc, whole.len())?;
-    assert_eq!(rt; fault, None);
-    assert_eq!(rt; taken.as_slice(), whole.as_slice());
-    assert_eq!(rt; left, 0);
     Ok(())
 }

@@ -1,5 +1,5 @@
 //! Volumes whose data blocks and hash blocks have 512 bytes, without a salt, and whose data blocks are filled with their
-//! numbers. Their root hashes are those of an independent program.
+//! numbers. The root hash is that of an independent program.
 
 use linked_list_allocator::LocalHeap;
 use nbd_session::ExportName;
@@ -16,11 +16,6 @@ pub const ROOT_17: [u8; 32] = [
     0x33, 0x3d, 0xb1, 0xc4, 0x84, 0x31, 0xed, 0xdc, 0x6e, 0x0d, 0xc5, 0x04, 0x80, 0x73, 0x87, 0xf8,
 ];
 
-pub const ROOT_32: [u8; 32] = [
-    0x5f, 0xbf, 0x36, 0xd6, 0x5d, 0x9e, 0x1a, 0x42, 0xf4, 0x15, 0x24, 0xe9, 0xfd, 0x2b, 0xe6, 0x9c,
-    0xc5, 0x3f, 0xb9, 0x14, 0x94, 0x0b, 0x23, 0xb6, 0xdd, 0xd5, 0x6c, 0x5d, 0xf3, 0x41, 0xb6, 0x38,
-];
-
 /// The hash blocks that hold the digests of these blocks.
 fn packed(alloc: Global, hasher: &mut Hasher, blocks: &[u8]) -> Result<Vec<u8>, AllocError> {
     let mut bytes = Vec::new(alloc);
@@ -35,12 +30,11 @@ fn packed(alloc: Global, hasher: &mut Hasher, blocks: &[u8]) -> Result<Vec<u8>, 
     Ok(bytes)
 }
 
-/// A tree of two levels, behind what stands in front.
-pub fn tree(alloc: Global, front: &[u8], image: &[u8]) -> Result<Vec<u8>, Fail> {
+/// A tree of two levels.
+pub fn tree(alloc: Global, image: &[u8]) -> Result<Vec<u8>, Fail> {
     let mut hasher = Hasher::new(Salt::new(alloc, b"")?, Algorithm::Sha256);
     let leaves = packed(alloc, &mut hasher, image)?;
-    let mut bytes = Vec::from_slice(alloc, front)?;
-    bytes.extend_from_slice(&packed(alloc, &mut hasher, &leaves)?)?;
+    let mut bytes = packed(alloc, &mut hasher, &leaves)?;
     bytes.extend_from_slice(&leaves)?;
     Ok(bytes)
 }
@@ -57,50 +51,27 @@ pub fn data_17(alloc: Global) -> Result<MemStore, Fail> {
 
 /// A store of the tree over the 17 data blocks, with nothing in front.
 pub fn hash_17(alloc: Global) -> Result<MemStore, Fail> {
-    store(tree(alloc, b"", &test_volumes::image(alloc, 17)?)?)
+    store(tree(alloc, &test_volumes::image(alloc, 17)?)?)
 }
 
-/// These bytes with a bit flipped at a place.
-pub fn flipped(mut bytes: Vec<u8>, at: usize) -> Vec<u8> {
-    test_volumes::flip(&mut bytes, at);
-    bytes
-}
-
-/// A table line.
-pub fn line<A: Allocator + Copy>(
-    alloc: A,
-    blocks: u64,
-    start: u64,
-    root: [u8; 32],
-) -> Result<Table<A>, TableFault> {
+/// The table line of the volume of 17 blocks, with nothing in front of its tree.
+fn line_17<A: Allocator + Copy>(alloc: A) -> Result<Table<A>, TableFault> {
     let Ok(salt) = Salt::new(alloc, b"") else {
         return Err(TableFault::NoMemory);
     };
-    let root = Digest::from_bytes(root);
-    Table::new(alloc, "d", "h", 512, 512, blocks, start, root, salt)
+    let root = Digest::from_bytes(ROOT_17);
+    Table::new(alloc, "d", "h", 512, 512, 17, 0, root, salt)
 }
 
-/// A hub over these stores, with room for so many cached blocks.
-pub fn make_hub<D: BlockStore + Drop, H: BlockStore + Drop, A: Allocator + Copy + Drop>(
-    alloc: A,
-    table: Table<A>,
-    data_store: D,
-    hash_store: H,
-    cache: usize,
-) -> Result<Hub<D, H, A>, Fail> {
-    let verifier = Verifier::new(alloc, table, data_store, hash_store, cache)?;
-    Ok(Hub::new(alloc, verifier, ExportName::new(b"vol")?))
-}
-
-/// A hub over stores in the roles of the volume of 17 blocks.
+/// A hub over stores in the roles of the volume of 17 blocks, with room for so many cached blocks.
 pub fn hub_17<D: BlockStore + Drop, H: BlockStore + Drop>(
     alloc: Global,
     data_store: D,
     hash_store: H,
     cache: usize,
 ) -> Result<Hub<D, H>, Fail> {
-    let table = line(alloc, 17, 0, ROOT_17)?;
-    make_hub(alloc, table, data_store, hash_store, cache)
+    let verifier = Verifier::new(alloc, line_17(alloc)?, data_store, hash_store, cache)?;
+    Ok(Hub::new(alloc, verifier, ExportName::new(b"vol")?))
 }
 
 /// A hub over these stores whose memory is a heap's, if the heap has room for its verifier.
@@ -109,7 +80,7 @@ pub fn hub_within<'a>(
     data_store: MemStore,
     hash_store: MemStore,
 ) -> Option<Hub<MemStore, MemStore, &'a LocalHeap>> {
-    let table = line(heap, 17, 0, ROOT_17).ok()?;
+    let table = line_17(heap).ok()?;
     let verifier = Verifier::new(heap, table, data_store, hash_store, 1).ok()?;
     let name = ExportName::new(b"vol").ok()?;
     Some(Hub::new(heap, verifier, name))
