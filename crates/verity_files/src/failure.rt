@@ -30,6 +30,7 @@ pub enum Word {
     HashOffset,
     Cache,
     Sessions,
+    Journal,
 }
 
 impl fmt::Display for Word {
@@ -46,6 +47,7 @@ impl fmt::Display for Word {
             Word::HashOffset => "--hash-offset",
             Word::Cache => "--cache",
             Word::Sessions => "--sessions",
+            Word::Journal => "--journal",
         })
     }
 }
@@ -65,6 +67,8 @@ impl Word {
             Word::HashOffset => "a count of bytes, in decimal digits",
             Word::Cache => "a count of hash blocks, in decimal digits",
             Word::Sessions => "a count of connections, in decimal digits, at most 4294967295",
+            Word::Journal =>
+                "a path that leads neither to DATA nor to HASH; none, for no journal, of edit alone; a device has one only where it is named",
         }
     }
 }
