@@ -42,7 +42,7 @@ class Case:
         lines = errors.split("\n")[:-1]
         if self.errors is not None and lines != self.errors:
             yield f"wrote {lines!r} to standard error, not {self.errors!r}"
-        if self.status == 0 and errors or not all(line.startswith("dalgovuun: ") for line in lines):
+        if self.status == 0 and errors and self.errors is None or not all(line.startswith("dalgovuun: ") for line in lines):
             yield f"wrote {errors!r} to standard error"
         if self.status and re.search(rb"^(bad line|no memory|corrupt|error: .*)$", output, re.M) and not lines:
             yield "told nothing on standard error"

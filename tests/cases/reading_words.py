@@ -6,13 +6,14 @@ HELP = """Makes, edits, verifies and serves dm-verity volumes
 Usage: dalgovuun [COMMAND]
 
 Commands:
-  format  Makes the hash device of a block image, and prints the table line
-  dump    Prints the superblock of a hash device
-  edit    Does a script's lines over a volume, and prints an answer to each
-  verify  Reports what is wrong in a volume
-  serve   Serves a volume over NBD, to up to 64 clients at once
-  talk    Serves a volume to one NBD client, over standard input and output
-  help    Print this message or the help of the given subcommand(s)
+  format   Makes the hash device of a block image, and prints the table line
+  dump     Prints the superblock of a hash device
+  edit     Does a script's lines over a volume, and prints an answer to each
+  recover  Makes whole a commit that a stop cut short
+  verify   Reports what is wrong in a volume
+  serve    Serves a volume over NBD, to up to 64 clients at once
+  talk     Serves a volume to one NBD client, over standard input and output
+  help     Print this message or the help of the given subcommand(s)
 
 Options:
   -h, --help     Print help

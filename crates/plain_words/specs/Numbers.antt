@@ -1,7 +1,7 @@
 -- The numbers of the faults, and the first words of their texts.
 use Rattle.std.specs.Prelude.{ℕ, ◌==◌, if◌then◌else◌, List, [], ◌∷◌, codes}
 use Rattle.plain_words.specs.declared.number.Number.{Number}
-use Rattle.plain_words.specs.declared.number.Number.TheVariants.{S1, S2, S3, S4, S5}
+use Rattle.plain_words.specs.declared.number.Number.TheVariants.{S1, S2, S3, S4, S5, S6, S7}
 use Rattle.plain_words.specs.declared.number.Number.TheVariants.{G1, G2}
 use Rattle.plain_words.specs.declared.number.Number.TheVariants.{M1, M2, M3}
 use Rattle.plain_words.specs.declared.number.Number.TheVariants.{B1, B2, B3, B4, B5, B6, B7, B8, B9, B10}
@@ -20,6 +20,8 @@ number_text S2 = codes "S2"
 number_text S3 = codes "S3"
 number_text S4 = codes "S4"
 number_text S5 = codes "S5"
+number_text S6 = codes "S6"
+number_text S7 = codes "S7"
 number_text G1 = codes "G1"
 number_text G2 = codes "G2"
 number_text M1 = codes "M1"

@@ -13,6 +13,8 @@ pub enum Number {
     S3,
     S4,
     S5,
+    S6,
+    S7,
     // a salt
     G1,
     G2,
@@ -100,6 +102,17 @@ impl Number {
                 "S5",
                 "another run of the program is at work on this file",
             ).advising("wait for its end"),
+            Number::S6 => Meaning::new(
+                "S6",
+                "a commit of this volume was cut short and stands in its journal",
+            )
+            .advising("run recover on DATA and HASH"),
+            Number::S7 => Meaning::new(
+                "S7",
+                "the journal can't be used, or is none of this volume",
+            ).advising(
+                "name another with --journal, or none; after a commit that failed, run recover",
+            ),
             Number::G1 => Meaning::new("G1", "a salt has at most 256 bytes"),
             Number::G2 => Meaning::new("G2", "memory was refused"),
             Number::M1 => Meaning::new("M1", "a block size is no power of two from 512 to 524288"),

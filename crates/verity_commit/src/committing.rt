@@ -26,12 +26,16 @@ pub fn commit_editor<K: Disks, D: BlockStore, H: BlockStore, A: Allocator + Copy
     ensures done { IfOk result (λ committed. Commits ⟦<Staged<D, A> as BlockStore>⟧ ⟦<Staged<H, A> as BlockStore>⟧
         editor.old editor.new committed) }
     ensures made { OnOk result (Holds D.BlockStore H.BlockStore editor.old.data_store.store editor.old.hash_store.store (K.seen keeper.old.disks)
-        → pair_of (K.seen keeper.new.disks) ≡ (concat (⟦<Staged<D, A> as BlockStore>⟧.content editor.new.data_store),
-          concat (⟦<Staged<H, A> as BlockStore>⟧.content editor.new.hash_store))) }
+        → pair_of (K.seen keeper.new.disks) ≡ (
+          concat (⟦<Staged<D, A> as BlockStore>⟧.content editor.new.data_store),
+          concat (⟦<Staged<H, A> as BlockStore>⟧.content editor.new.hash_store),
+        )) }
     ensures any_moment { Holds D.BlockStore H.BlockStore editor.old.data_store.store editor.old.hash_store.store (K.seen keeper.old.disks)
         → keeper.old.is_settled ≡ true → IsEdit result ⊎ LeavesOnly K.moment K.left_since keeper.old.disks keeper.new.disks
-          (IsOneOf (pair_of (K.seen keeper.old.disks)) (concat (⟦<Staged<D, A> as BlockStore>⟧.content editor.new.data_store),
-          concat (⟦<Staged<H, A> as BlockStore>⟧.content editor.new.hash_store))) }
+        (IsOneOf (pair_of (K.seen keeper.old.disks)) (
+          concat (⟦<Staged<D, A> as BlockStore>⟧.content editor.new.data_store),
+          concat (⟦<Staged<H, A> as BlockStore>⟧.content editor.new.hash_store),
+        )) }
     ensures settled { OnOk result (keeper.new.is_settled ≡ true) }
     ensures untouched { IsEdit result → keeper.new ≡ keeper.old }
     ensures stays { Stays ⟦<Staged<D, A> as BlockStore>⟧ ⟦<Staged<H, A> as BlockStore>⟧ editor.old editor.new }

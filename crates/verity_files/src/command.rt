@@ -13,6 +13,7 @@ pub enum Command {
     Verify,
     Serve,
     Talk,
+    Recover,
 }
 
 /// Who else may work on a file.
@@ -41,6 +42,7 @@ impl Command {
             Command::Verify => false,
             Command::Serve => false,
             Command::Talk => false,
+            Command::Recover => true,
         }
     }
 
@@ -55,6 +57,7 @@ impl Command {
             Command::Verify => Lock::Shared,
             Command::Serve => Lock::Shared,
             Command::Talk => Lock::Shared,
+            Command::Recover => Lock::Alone,
         }
     }
 }

@@ -32,6 +32,7 @@ pub enum Word {
     Sessions,
     Memory,
     Idle,
+    Journal,
 }
 
 impl fmt::Display for Word {
@@ -50,6 +51,7 @@ impl fmt::Display for Word {
             Word::Sessions => "--sessions",
             Word::Memory => "--memory",
             Word::Idle => "--idle",
+            Word::Journal => "--journal",
         })
     }
 }
@@ -71,6 +73,8 @@ impl Word {
             Word::Sessions => "a count of connections, in decimal digits, at most 4294967295",
             Word::Memory => "a count of MiB, in decimal digits, from 33 to 1048576",
             Word::Idle => "a count of seconds, in decimal digits",
+            Word::Journal =>
+                "a path that leads neither to DATA nor to HASH; none, for no journal, of edit alone; a device has one only where it is named",
         }
     }
 }

@@ -23,13 +23,17 @@ use verity_geometry::GeometryFault;
 use verity_store::{StoreFault, Which};
 use verity_superblock::{SuperFault, TableFault};
 
-/// A numbered fault: of a layer below, whose text it has, or S5 or N6.
+/// A numbered fault: of a layer below, whose text it has, or S5 to S7 or N6.
 #[derive(Clone, Copy, Debug, PartialEq, Eq, Error)]
 pub enum Fault {
     /// S1 to S4.
     Store(StoreFault),
     /// S5 and the store: another program works on it.
     InUse(Which),
+    /// S6: a commit is under way in the journal.
+    UnderWay,
+    /// S7: the journal can't be used, or is none of this volume.
+    Journal,
     /// G1 and G2.
     Salt(SaltFault),
     /// B1 to B10.
@@ -76,6 +80,8 @@ impl Fault {
         match self {
             Fault::Store(fault) => of_store(fault),
             Fault::InUse(_) => Number::S5,
+            Fault::UnderWay => Number::S6,
+            Fault::Journal => Number::S7,
             Fault::Salt(fault) => of_salt(fault),
             Fault::Superblock(fault) => of_superblock(fault),
             Fault::Table(fault) => of_table(fault),
@@ -225,6 +231,8 @@ impl fmt::Display for Fault {
             Fault::Check(fault) => write!(f, "{fault}"),
             Fault::Edit(fault) => write!(f, "{fault}"),
             Fault::Session(fault) => write!(f, "{fault}"),
+            Fault::UnderWay => f.write_str("S6"),
+            Fault::Journal => f.write_str("S7"),
             Fault::Socket => f.write_str("N6"),
         }
     }

@@ -21,7 +21,8 @@ pub use locks::take_lock;
 pub use opening::{Opened, fault_of, open_locked, open_or_make, open_there, unmake};
 pub use status::{DONE, NO_MEMORY, NOT_UNDERSTOOD, REFUSED};
 pub use stores::{
-    VolumeStore, check_block_size, new_store, room_of, store_of_first, store_of_most, whole_store,
+    VolumeStore, check_block_size, new_store, room_of, store_of_first, store_of_most, whole_file,
+    whole_store,
 };
 pub use values::{
     algorithm, block_size, check_paths, memory, number, salt, salt_bytes, sessions, uuid,

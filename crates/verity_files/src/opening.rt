@@ -31,6 +31,11 @@ impl Opened {
             Err(error) => Err(fault_of(error)),
         }
     }
+
+    /// The same, once more, with as many bytes as it has by now.
+    pub fn seen_again(&self) -> Result<Opened, StoreFault> {
+        looked_at(self.again()?.file)
+    }
 }
 
 /// Opens one of a volume's files for a command. S1 where it isn't there, or is neither a file nor a block device, which is not

@@ -50,6 +50,14 @@ pub fn new_store(opened: Opened, size: usize) -> Result<VolumeStore, StoreFault>
     }
 }
 
+/// All of a file or a device.
+pub fn whole_file(opened: Opened) -> VolumeFile {
+    match opened.identity {
+        Identity::File(_, _) => VolumeFile::new(opened.file),
+        Identity::Device(_) => part(opened.file, opened.len, opened.len),
+    }
+}
+
 /// How many blocks can stand in a file or a device: any number in a file.
 pub fn room_of(opened: &Opened, size: usize) -> u64 {
     match opened.identity {

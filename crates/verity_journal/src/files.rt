@@ -51,6 +51,30 @@ impl<F: RawFile, A: Allocator> FileDisks<F, A> {
         }
     }
 
+    /// These three files, of which the first two have so many bytes, and the journal has these.
+    #[tactic(auto, using(crate::proofs::Zeros::zeros_len))]
+    pub fn over(
+        data_file: F,
+        data_len: u64,
+        hash_file: F,
+        hash_len: u64,
+        journal_file: F,
+        journal: Vec<u8, A>,
+    ) -> FileDisks<F, A>
+        requires data_unknown { F.bytes data_file ≡ None }
+        requires hash_unknown { F.bytes hash_file ≡ None }
+        requires journal_unknown { F.bytes journal_file ≡ None }
+        ensures { result.past.moments ≡ [] }
+    {
+        let on_journal = FileDevice::holding(journal_file, &journal);
+        FileDisks::new(
+            FileDevice::sized(data_file, data_len),
+            FileDevice::sized(hash_file, hash_len),
+            on_journal,
+            journal,
+        )
+    }
+
     /// The device of which a call failed last; none where none did.
     pub fn last_failed(&self) -> Option<Device> {
         self.last_failed

@@ -7,8 +7,8 @@
 //! # The contract
 //!
 //! It meets all that is asked of a `BlockStore`: it tells where the store below does, and its content is `staged` of the
-//! store's (`specs/Stage.antt`). `sync` asks no device for anything. That no call writes to the store below is seen by reading
-//! `src/staged.rt`; no clause says it.
+//! store's (`specs/Stage.antt`). `sync` asks no device for anything. No call changes the content of the store below, to which a
+//! staged store is bound (`fixed`). [`commit_staged`] brings what is staged over two stores to the devices that hold them.
 //!
 //! # Errors
 //!

@@ -1,5 +1,6 @@
 //! The command `format`: makes the hash device of a block image.
 
+use crate::journal::check_gate;
 use crate::lines::{Volume, table_line};
 use std::alloc::Global;
 use std::fs::File;
@@ -95,6 +96,7 @@ fn make<R: Files<File = File> + AllocGlobal>(
 ) -> Result<Made, Failure> {
     let params = Params::new(salt(rt.alloc(), salt_bytes)?, shape.uuid, shape.algorithm);
     let (mut data_store, data) = open_data(rt, words.data_path, shape)?;
+    check_gate(rt, words.hash_path)?;
     let (mut hash_store, is_new) = open_hash(rt, words.hash_path, shape, data)?;
     let hash_size = hash_store.block_size();
     match build_at(

@@ -4,12 +4,15 @@
 //! worth; here a command reads its words, opens its stores, makes one call or a few, and prints lines.
 #![tactic(auto)]
 
+mod commits;
 mod dump;
 mod edit;
 mod format;
+mod journal;
 mod lines;
 mod opened;
 mod program;
+mod recover;
 mod scratch;
 mod script;
 mod serve;

@@ -35,12 +35,14 @@ pub fn table_line(alloc: Global, volume: &Volume<'_>, root: Digest) -> Result<St
     Ok(table.text()?)
 }
 
-/// Where a volume's devices are, at which hash block its tree begins, and how far HASH can grow.
+/// Where a volume's devices are, at which hash block its tree begins, and how far both can grow.
 #[derive(Clone, Copy)]
 pub struct Devices<'a> {
     pub data_path: &'a str,
     pub hash_path: &'a str,
     pub hash_start_block: u64,
+    /// How many data blocks DATA can have.
+    pub data_room: u64,
     /// How many hash blocks HASH can have.
     pub hash_room: u64,
 }

@@ -1,5 +1,6 @@
 //! The volume that a table line names, opened to be read.
 
+use crate::journal::check_gate;
 use nbd_session::ExportName;
 use std::fs::File;
 use std::rt::Files;
@@ -15,7 +16,8 @@ pub type FileVerifier = Verifier<VolumeStore, VolumeStore>;
 /// A hub over two files.
 pub type FileHub = Hub<VolumeStore, VolumeStore>;
 
-/// Opens the two files that a table line names for a command, the data device first, and makes their verifier.
+/// Opens the two files that a table line names for a command, the data device first, and makes their verifier. S6 where a
+/// commit is under way in the journal beside the hash device.
 pub fn open_verifier<R: Files<File = File> + AllocGlobal>(
     rt: &R,
     table: Table,
@@ -23,6 +25,7 @@ pub fn open_verifier<R: Files<File = File> + AllocGlobal>(
     command: Command,
 ) -> Result<FileVerifier, Failure> {
     let data = open_locked(rt, table.dev(), command, Which::Data)?;
+    check_gate(rt, table.hash_dev())?;
     let data_store = store_of_most(data, table.data_block_size(), table.data_blocks())?;
     let hash = open_locked(rt, table.hash_dev(), command, Which::Hash)?;
     let hash_store = store_of_most(hash, table.hash_block_size(), u64::MAX)?;

@@ -1,5 +1,6 @@
 //! The run without words: a volume in memory, and a script over it.
 
+use crate::commits::Direct;
 use crate::lines::{Devices, committed_line};
 use crate::script::{Script, read_script, run_script};
 use std::alloc::Global;
@@ -19,6 +20,7 @@ const DEVICES: Devices<'static> = Devices {
     data_path: "scratch-data",
     hash_path: "scratch-hash",
     hash_start_block: 1,
+    data_room: u64::MAX,
     hash_room: u64::MAX,
 };
 
@@ -36,7 +38,15 @@ pub fn scratch<I: Read, W: Write, E: Write>(
         path: "standard input",
         bytes: &bytes,
     };
-    run_script(alloc, &mut editor, DEVICES, script, output, errors)
+    run_script(
+        alloc,
+        &mut editor,
+        &mut Direct,
+        DEVICES,
+        script,
+        output,
+        errors,
+    )
 }
 
 fn zero_volume(alloc: Global) -> Result<Editor<MemStore, MemStore>, Failure> {

@@ -1,11 +1,12 @@
 //! A script over a volume: read whole, then done line by line.
 
+use crate::commits::Commits;
 use crate::lines::{Devices, committed_line};
 use std::alloc::{AllocError, Global};
 use std::io::{ErrorKind, Read, Write};
 use std::{io, str};
-use verity_edit::{Command, EditFault, Editor, Reply};
-use verity_files::{DONE, Failure, REFUSED};
+use verity_edit::{Command, Committed, EditFault, Editor, Reply};
+use verity_files::{DONE, Failure, Fault, REFUSED};
 use verity_geometry::Geometry;
 use verity_script::{Line, read_line};
 use verity_store::{Block, BlockStore, StoreFault, Which};
@@ -46,9 +47,10 @@ fn unread(error: io::Error) -> Failure {
 /// Does the lines of a script in order and prints one answer line each, but for empty lines: `ok`, `committed ` and the
 /// new table line, `refused ` and the fault's text, or `bad line`. It goes on after a refusal, and answers status 1 if
 /// there was one. Edits that are pending at the end are dropped with the editor. Why a line wasn't done goes to `errors`.
-pub fn run_script<D: BlockStore, H: BlockStore, W: Write, E: Write>(
+pub fn run_script<D: BlockStore, H: BlockStore, C: Commits<D, H>, W: Write, E: Write>(
     alloc: Global,
     editor: &mut Editor<D, H>,
+    commits: &mut C,
     devices: Devices<'_>,
     script: Script<'_>,
     output: &mut W,
@@ -58,7 +60,7 @@ pub fn run_script<D: BlockStore, H: BlockStore, W: Write, E: Write>(
     let mut line: usize = 0;
     for text in script.bytes.split(|byte| *byte == b'\n') {
         line = line.saturating_add(1);
-        if let Some(refusal) = run_line(alloc, editor, devices, text, output)? {
+        if let Some(refusal) = run_line(alloc, editor, commits, devices, text, output)? {
             status = REFUSED;
             explain_line(place_of(editor, script, line), refusal, errors);
         }
@@ -81,9 +83,10 @@ fn place_of<'a, D: BlockStore, H: BlockStore>(
 }
 
 /// Does a line that isn't empty, prints its answer, and tells what of it was refused.
-fn run_line<'a, D: BlockStore, H: BlockStore, W: Write>(
+fn run_line<'a, D: BlockStore, H: BlockStore, C: Commits<D, H>, W: Write>(
     alloc: Global,
     editor: &mut Editor<D, H>,
+    commits: &mut C,
     devices: Devices<'_>,
     text: &'a [u8],
     output: &mut W,
@@ -95,17 +98,17 @@ fn run_line<'a, D: BlockStore, H: BlockStore, W: Write>(
         writeln!(output, "bad line")?;
         return Ok(Some(Refusal::BadLine));
     };
-    match answer(alloc, editor, devices, line)? {
-        Reply::Done => {
+    match reply_to(alloc, editor, commits, devices, line)? {
+        Answer::Done => {
             writeln!(output, "ok")?;
             Ok(None)
         }
-        Reply::Committed(committed) => {
+        Answer::Committed(committed) => {
             let line = committed_line(alloc, devices, editor.superblock(), committed.root)?;
             writeln!(output, "committed {line}")?;
             Ok(None)
         }
-        Reply::Refused(fault) => {
+        Answer::Refused(fault) => {
             writeln!(output, "refused {fault}")?;
             Ok(Some(Refusal::Refused(line, fault)))
         }
@@ -120,22 +123,60 @@ fn line_of(text: &[u8]) -> Option<Line<'_>> {
     }
 }
 
-/// The editor's answer to a line, but for a commit that HASH has no room for: E6, and nothing is changed. Want of memory is a
-/// failure of the whole program.
-fn answer<D: BlockStore, H: BlockStore>(
+/// What is answered to a line.
+#[derive(Clone, Copy)]
+enum Answer {
+    Done,
+    Committed(Committed),
+    Refused(Fault),
+}
+
+/// The answer to a line. Want of memory is a failure of the whole program.
+fn reply_to<D: BlockStore, H: BlockStore, C: Commits<D, H>>(
     alloc: Global,
     editor: &mut Editor<D, H>,
+    commits: &mut C,
     devices: Devices<'_>,
     line: Line<'_>,
-) -> Result<Reply, Failure> {
-    if line == Line::Commit && !editor.broken() && !has_room(editor, devices) {
-        return Ok(Reply::Refused(EditFault::Store(Which::Hash)));
+) -> Result<Answer, Failure> {
+    if editor.broken() || commits.is_broken() {
+        return Ok(Answer::Refused(Fault::Edit(EditFault::Broken)));
+    }
+    if line == Line::Commit {
+        return answer_of(commit(editor, commits, devices));
     }
     let command = command_of(alloc, editor, line)?;
     match editor.answer(&command) {
-        Reply::Refused(EditFault::NoMemory) => Err(Failure::NoMemory),
-        reply => Ok(reply),
+        Reply::Done => Ok(Answer::Done),
+        Reply::Committed(committed) => Ok(Answer::Committed(committed)),
+        Reply::Refused(fault) => answer_of(Err(Fault::Edit(fault))),
     }
+}
+
+/// Want of memory is a failure, and any other fault is answered.
+fn answer_of(done: Result<Committed, Fault>) -> Result<Answer, Failure> {
+    match done {
+        Ok(committed) => Ok(Answer::Committed(committed)),
+        Err(fault) => match Failure::from(fault) {
+            Failure::Refused(fault) => Ok(Answer::Refused(fault)),
+            failure => Err(failure),
+        },
+    }
+}
+
+/// Commits, and brings what was committed to the files. E6 with the store that hasn't room for it, and then nothing is changed.
+fn commit<D: BlockStore, H: BlockStore, C: Commits<D, H>>(
+    editor: &mut Editor<D, H>,
+    commits: &mut C,
+    devices: Devices<'_>,
+) -> Result<Committed, Fault> {
+    if editor.blocks() > devices.data_room {
+        return Err(Fault::Edit(EditFault::Store(Which::Data)));
+    }
+    if !has_room(editor, devices) {
+        return Err(Fault::Edit(EditFault::Store(Which::Hash)));
+    }
+    commits.commit(editor)
 }
 
 /// Whether HASH can hold the tree of the working image.

@@ -12,7 +12,6 @@ use std::fs::File;
 use std::io;
 use std::io::Write;
 use std::rt::Files;
-use verity_edit::EditFault;
 use verity_files::{Failure, Fault};
 use verity_script::Line;
 
@@ -55,6 +54,22 @@ pub fn explain_corrupt<E: Write>(errors: &mut E) {
     );
 }
 
+/// Says that commits go without a journal.
+pub fn explain_no_journal<E: Write>(hash_path: &str, errors: &mut E) {
+    let _ = writeln!(
+        errors,
+        "dalgovuun: {hash_path}: a device, and no --journal: a stop in the middle of a commit can leave a volume that nothing opens"
+    );
+}
+
+/// Says that a commit was made whole.
+pub fn explain_recovered<E: Write>(path: &str, errors: &mut E) {
+    let _ = writeln!(
+        errors,
+        "dalgovuun: {path}: a commit that was cut short was made whole first"
+    );
+}
+
 fn explain_fault<R: Files<File = File>, E: Write>(
     rt: &R,
     parts: Parts<'_>,
@@ -69,7 +84,7 @@ fn explain_fault<R: Files<File = File>, E: Write>(
 #[derive(Clone, Copy, Debug)]
 pub enum Refusal<'a> {
     BadLine,
-    Refused(Line<'a>, EditFault),
+    Refused(Line<'a>, Fault),
 }
 
 /// Which line of which script, and the count and the size of the volume's data blocks.
@@ -93,7 +108,7 @@ pub fn explain_line<E: Write>(place: Where<'_>, refusal: Refusal<'_>, errors: &m
         }
         Refusal::Refused(asked, fault) => {
             let _ = write!(errors, "dalgovuun: {script}:{line}");
-            tell_of(errors, &asked_for(place, asked), Fault::Edit(fault))
+            tell_of(errors, &asked_for(place, asked), fault)
         }
     };
 }

@@ -8,8 +8,10 @@ mod parts;
 mod words;
 
 pub use explaining::{
-    Refusal, Where, explain, explain_corrupt, explain_line, explain_usage, explain_words,
+    Refusal, Where, explain, explain_corrupt, explain_line, explain_no_journal, explain_recovered,
+    explain_usage, explain_words,
 };
 pub use words::{
-    DumpWords, EditWords, FormatWords, Request, ServeWords, TalkWords, VerifyWords, read_words,
+    DumpWords, EditWords, FormatWords, RecoverWords, Request, ServeWords, TalkWords, VerifyWords,
+    read_words,
 };

@@ -76,6 +76,7 @@ pub fn look<'a, R: Files<File = File>>(
 fn subject_of<'a>(parts: Parts<'a>, fault: Fault) -> &'a str {
     match fault {
         Fault::InUse(which) => parts.path(which),
+        Fault::UnderWay | Fault::Journal => parts.hash,
         Fault::Salt(_) => "--salt",
         Fault::Superblock(SuperFault::Offset) => "--hash-offset",
         Fault::Superblock(_) => parts.hash,

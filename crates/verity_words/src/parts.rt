@@ -67,6 +67,11 @@ pub fn parts_of<'a>(request: Request<'a>) -> Parts<'a> {
             ..parts_of_line(Command::Serve, words.table)
         },
         Request::Talk(words) => parts_of_line(Command::Talk, words.table),
+        Request::Recover(words) => Parts {
+            data: words.data_path,
+            hash: words.hash_path,
+            ..no_parts(Command::Recover)
+        },
     }
 }
 

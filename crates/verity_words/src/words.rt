@@ -4,6 +4,7 @@ mod dump;
 mod edit;
 mod format;
 mod parts;
+mod recover;
 mod serve;
 mod talk;
 mod verify;
@@ -15,6 +16,8 @@ pub use edit::EditWords;
 use edit::{edit_command, edit_words};
 pub use format::FormatWords;
 use format::{format_command, format_words};
+pub use recover::RecoverWords;
+use recover::{recover_command, recover_words};
 pub use serve::ServeWords;
 use serve::{serve_command, serve_words};
 use std::alloc::{AllocError, Global};
@@ -34,6 +37,7 @@ pub enum Request<'a> {
     Verify(VerifyWords<'a>),
     Serve(ServeWords<'a>),
     Talk(TalkWords<'a>),
+    Recover(RecoverWords<'a>),
 }
 
 /// The program's version.
@@ -46,6 +50,7 @@ fn tool<'a>(alloc: Global) -> Result<Command<'a>, AllocError> {
         .subcommand(format_command(alloc)?)?
         .subcommand(dump_command(alloc)?)?
         .subcommand(edit_command(alloc)?)?
+        .subcommand(recover_command(alloc)?)?
         .subcommand(verify_command(alloc)?)?
         .subcommand(serve_command(alloc)?)?
         .subcommand(talk_command(alloc)?)
@@ -60,6 +65,7 @@ fn asked<'a>(matches: &ArgMatches<'a>) -> Option<Request<'a>> {
         Some(("verify", below)) => Some(Request::Verify(verify_words(below)?)),
         Some(("serve", below)) => Some(Request::Serve(serve_words(below)?)),
         Some(("talk", below)) => Some(Request::Talk(talk_words(below)?)),
+        Some(("recover", below)) => Some(Request::Recover(recover_words(below)?)),
         Some(_) => None,
     }
 }

@@ -1,6 +1,6 @@
 //! The words of `edit`.
 
-use super::parts::{hash_offset, path};
+use super::parts::{hash_offset, journal, path};
 use clap::{ArgMatches, Command};
 use std::alloc::{AllocError, Global};
 
@@ -17,6 +17,7 @@ pub struct EditWords<'a> {
     pub hash_path: &'a str,
     pub script_path: &'a str,
     pub hash_offset: &'a str,
+    pub journal: Option<&'a str>,
 }
 
 pub fn edit_command<'a>(alloc: Global) -> Result<Command<'a>, AllocError> {
@@ -26,7 +27,8 @@ pub fn edit_command<'a>(alloc: Global) -> Result<Command<'a>, AllocError> {
         .arg(path(alloc, "DATA", "The block image"))?
         .arg(path(alloc, "HASH", "The hash device"))?
         .arg(path(alloc, "SCRIPT", "The script"))?
-        .arg(hash_offset(alloc))
+        .arg(hash_offset(alloc))?
+        .arg(journal(alloc))
 }
 
 pub fn edit_words<'a>(matches: &ArgMatches<'a>) -> Option<EditWords<'a>> {
@@ -35,5 +37,6 @@ pub fn edit_words<'a>(matches: &ArgMatches<'a>) -> Option<EditWords<'a>> {
         hash_path: matches.get_str("HASH")?,
         script_path: matches.get_str("SCRIPT")?,
         hash_offset: matches.get_str("hash-offset")?,
+        journal: matches.get_str("journal"),
     })
 }

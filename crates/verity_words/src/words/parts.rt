@@ -23,6 +23,15 @@ pub fn hash_offset<'a>(alloc: Global) -> Arg<'a> {
     .default_value("0")
 }
 
+/// `--journal`, of the commands that commit.
+pub fn journal<'a>(alloc: Global) -> Arg<'a> {
+    option(
+        alloc,
+        "journal",
+        "The journal's path, or none; HASH.journal where HASH is a file",
+    )
+}
+
 /// `--table`, of the commands that trust a table line.
 pub fn table<'a>(alloc: Global) -> Arg<'a> {
     option(alloc, "table", "The table line of the volume").required(true)

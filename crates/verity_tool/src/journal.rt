@@ -1,0 +1,303 @@
+//! The journal of a volume: where it stands, and its file.
+
+use std::alloc::{AllocError, Global};
+use std::fs::File;
+use std::io::ErrorKind;
+use std::rt::Files;
+use std::{fs, io};
+use verity_edit::EditFault;
+use verity_files::{
+    Command, Failure, Fault, Identity, Opened, VolumeFile, Word, file_identity, open_or_make,
+    open_there, whole_file,
+};
+use verity_journal::{Device, DiskFault, FileDisks, Keeper, parse_journal};
+use verity_store::{RawFile, StoreFault, Which};
+
+/// Three files, kept between commits.
+pub type FileKeeper = Keeper<FileDisks<VolumeFile>>;
+
+/// The word that asks for no journal.
+const NONE: &str = "none";
+
+/// The path of a volume's journal: the one that was named; else, where HASH is a regular file, the one beside it. None where
+/// none is asked for, and of a device.
+pub fn journal_path<R: Files<File = File> + AllocGlobal>(
+    rt: &R,
+    named: Option<&str>,
+    hash: Identity,
+    hash_path: &str,
+) -> Result<Option<String>, Failure> {
+    match (named, hash) {
+        (Some(NONE), _) => Ok(None),
+        (Some(path), _) => Ok(Some(String::from_str(rt.alloc(), path)?)),
+        (None, Identity::File(_, _)) => Ok(Some(path_beside(rt, hash_path)?)),
+        (None, Identity::Device(_)) => Ok(None),
+    }
+}
+
+/// The path beside a hash device: its own, of a link that of the file that it leads to, with `.journal` behind it.
+fn path_beside<R: Files<File = File> + AllocGlobal>(
+    rt: &R,
+    hash_path: &str,
+) -> Result<String, Failure> {
+    let mut path = path_of(rt, hash_path)?;
+    path.push_str(".journal")?;
+    Ok(path)
+}
+
+/// The path of what a path leads to; the path itself where there is nothing.
+fn path_of<R: Files<File = File> + AllocGlobal>(rt: &R, path: &str) -> Result<String, Failure> {
+    match fs::canonicalize(rt, path) {
+        Ok(path) => Ok(String::from_str(rt.alloc(), path.as_str())?),
+        Err(error) => match error.kind() {
+            ErrorKind::OutOfMemory => Err(Failure::NoMemory),
+            _ => Ok(String::from_str(rt.alloc(), path)?),
+        },
+    }
+}
+
+/// The folder in which a path stands.
+fn folder_of(path: &str) -> &str {
+    match path.rsplit_once('/') {
+        Some(("", _)) => "/",
+        Some((folder, _)) => folder,
+        None => ".",
+    }
+}
+
+/// Asks for a folder's entries to be kept.
+fn sync_folder<R: Files<File = File>>(rt: &R, path: &str) -> io::Result<()> {
+    File::open(rt, folder_of(path))?.sync_all()
+}
+
+/// That no commit of a hash device is under way, as the journal beside it says: S6 where its gate is open. Of a device, which
+/// has none beside it, nothing is known.
+pub fn check_gate<R: Files<File = File> + AllocGlobal>(
+    rt: &R,
+    hash_path: &str,
+) -> Result<(), Failure> {
+    if is_device(rt, hash_path) {
+        return Ok(());
+    }
+    let path = path_beside(rt, hash_path)?;
+    check_gate_at(rt, &path)
+}
+
+/// The same, where another journal than the one beside the hash device is named, or none.
+pub fn check_other_gate<R: Files<File = File> + AllocGlobal>(
+    rt: &R,
+    hash_path: &str,
+    named: &str,
+) -> Result<(), Failure> {
+    if is_device(rt, hash_path) {
+        return Ok(());
+    }
+    let path = path_beside(rt, hash_path)?;
+    let named = path_of(rt, named)?;
+    if path == named {
+        Ok(())
+    } else {
+        check_gate_at(rt, &path)
+    }
+}
+
+/// That the gate of a journal is closed, or there is none. S6.
+fn check_gate_at<R: Files<File = File>>(rt: &R, path: &str) -> Result<(), Failure> {
+    let mut gate = [0];
+    match open_journal(rt, path, Command::Verify)? {
+        Some(mut opened) if opened.len > 0 => {
+            if RawFile::read_exact_at(&mut opened.file, 0, &mut gate).is_err() {
+                return Err(Fault::Journal.into());
+            }
+        }
+        _ => {}
+    }
+    if gate == [0] {
+        Ok(())
+    } else {
+        Err(Fault::UnderWay.into())
+    }
+}
+
+fn is_device<R: Files<File = File>>(rt: &R, path: &str) -> bool {
+    match fs::metadata(rt, path) {
+        Ok(metadata) => matches!(file_identity(&metadata), Some(Identity::Device(_))),
+        Err(_) => false,
+    }
+}
+
+/// Opens the journal at a path for a command; none where there is nothing. S7 where it is no regular file, or can't be opened.
+fn open_journal<R: Files<File = File>>(
+    rt: &R,
+    path: &str,
+    command: Command,
+) -> Result<Option<Opened>, Fault> {
+    match fs::symlink_metadata(rt, path) {
+        Ok(_) => {}
+        Err(error) => match error.kind() {
+            ErrorKind::OutOfMemory => return Err(Fault::Store(StoreFault::NoMemory)),
+            _ => return Ok(None),
+        },
+    }
+    regular(open_there(rt, path, command, Which::Hash)).map(Some)
+}
+
+/// A journal that was opened, where it is a regular file. S7.
+fn regular(opened: Result<Opened, StoreFault>) -> Result<Opened, Fault> {
+    match opened {
+        Ok(opened) => match opened.identity {
+            Identity::File(_, _) => Ok(opened),
+            Identity::Device(_) => Err(Fault::Journal),
+        },
+        Err(StoreFault::NoMemory) => Err(Fault::Store(StoreFault::NoMemory)),
+        Err(_) => Err(Fault::Journal),
+    }
+}
+
+/// What was found in the files of a volume.
+#[derive(Drop)]
+pub struct Found {
+    /// The files, of which the journal's gate is closed by now.
+    pub keeper: FileKeeper,
+    /// Whether the gate was open, and the commit behind it was made again.
+    pub is_recovered: bool,
+}
+
+/// Makes the volume that its files stand for, where there is a journal.
+///
+/// S7 where the journal can't be used, is no journal, or is none of this volume; E6 with the file that failed. `--journal` isn't
+/// understood where it leads to DATA or HASH.
+pub fn recover_files<R: Files<File = File> + AllocGlobal>(
+    rt: &R,
+    path: &str,
+    data: &Opened,
+    hash: &Opened,
+) -> Result<Option<Found>, Failure> {
+    let Some(opened) = open_journal(rt, path, Command::Recover)? else {
+        return Ok(None);
+    };
+    if opened.identity == data.identity || opened.identity == hash.identity {
+        return Err(Failure::Word(Word::Journal));
+    }
+    let bytes = bytes_of(rt.alloc(), &opened)?;
+    let is_open = parse_journal(rt.alloc(), &bytes)?.is_some();
+    if !is_open && is_foreign(&bytes) {
+        return Err(Fault::Journal.into());
+    }
+    let keeper = started(rt.alloc(), data, hash, opened, bytes)?;
+    Ok(Some(Found {
+        keeper,
+        is_recovered: is_open,
+    }))
+}
+
+/// Whether bytes behind which no plan stands are no journal's. A stop leaves a gate that isn't closed alone, or before a plan.
+fn is_foreign(bytes: &[u8]) -> bool {
+    bytes.len() > 1 && bytes[0] != 0
+}
+
+/// All bytes of a journal.
+fn bytes_of(alloc: Global, journal: &Opened) -> Result<Vec<u8>, Failure> {
+    let mut bytes = vec![in alloc; 0; journal.len as usize]?;
+    let mut file = journal.again()?.file;
+    match RawFile::read_exact_at(&mut file, 0, &mut bytes) {
+        Ok(()) => Ok(bytes),
+        Err(_) => Err(Fault::Journal.into()),
+    }
+}
+
+/// Makes a journal where there is none, and its entry in its folder lasting. S7, or E6 with the file that failed, and then none
+/// is left.
+pub fn make_journal<R: Files<File = File> + AllocGlobal>(
+    rt: &R,
+    path: &str,
+    data: &Opened,
+    hash: &Opened,
+) -> Result<FileKeeper, Fault> {
+    let opened = match open_or_make(rt, path) {
+        Ok((opened, _)) => regular(Ok(opened))?,
+        Err(fault) => return Err(journal_fault(fault)),
+    };
+    match started_anew(rt, path, data, hash, opened) {
+        Ok(keeper) => Ok(keeper),
+        Err(fault) => {
+            remove_journal(rt, path);
+            Err(fault)
+        }
+    }
+}
+
+/// The files, started with a journal that was made.
+fn started_anew<R: Files<File = File> + AllocGlobal>(
+    rt: &R,
+    path: &str,
+    data: &Opened,
+    hash: &Opened,
+    journal: Opened,
+) -> Result<FileKeeper, Fault> {
+    if sync_folder(rt, path).is_err() {
+        return Err(Fault::Journal);
+    }
+    started(rt.alloc(), data, hash, journal, Vec::new(rt.alloc()))
+}
+
+/// S3 for want of memory, S7 for all else.
+fn journal_fault(fault: StoreFault) -> Fault {
+    match fault {
+        StoreFault::NoMemory => Fault::Store(StoreFault::NoMemory),
+        _ => Fault::Journal,
+    }
+}
+
+/// Removes a journal whose gate is closed. That it comes back after a stop does no harm, so nothing is refused here.
+pub fn remove_journal<R: Files<File = File>>(rt: &R, path: &str) {
+    if fs::remove_file(rt, path).is_ok() {
+        let _ = sync_folder(rt, path);
+    }
+}
+
+/// The three files, started.
+fn started(
+    alloc: Global,
+    data: &Opened,
+    hash: &Opened,
+    journal: Opened,
+    bytes: Vec<u8>,
+) -> Result<FileKeeper, Fault> {
+    let on_data = sized(data)?;
+    let on_hash = sized(hash)?;
+    let mut keeper = Keeper::new(disks_of(on_data, on_hash, whole_file(journal), bytes));
+    match keeper.start(alloc) {
+        Ok(()) => Ok(keeper),
+        Err(fault) => Err(fault_of_disks(&keeper, fault)),
+    }
+}
+
+/// One of a volume's files, and how many bytes it has.
+fn sized(opened: &Opened) -> Result<(VolumeFile, u64), Fault> {
+    let again = opened.again()?;
+    let len = again.len;
+    Ok((whole_file(again), len))
+}
+
+/// Three files under one clock.
+fn disks_of(
+    on_data: (VolumeFile, u64),
+    on_hash: (VolumeFile, u64),
+    journal: VolumeFile,
+    bytes: Vec<u8>,
+) -> FileDisks<VolumeFile> {
+    let (data_file, data_len) = on_data;
+    let (hash_file, hash_len) = on_hash;
+    FileDisks::over(data_file, data_len, hash_file, hash_len, journal, bytes)
+}
+
+/// The fault of a journal or a store: S7, or E6 and the store.
+pub fn fault_of_disks(keeper: &FileKeeper, fault: DiskFault) -> Fault {
+    match (fault, keeper.disks().last_failed()) {
+        (DiskFault::NoMemory, _) => Fault::Store(StoreFault::NoMemory),
+        (DiskFault::Device, Some(Device::Data)) => Fault::Edit(EditFault::Store(Which::Data)),
+        (DiskFault::Device, Some(Device::Hash)) => Fault::Edit(EditFault::Store(Which::Hash)),
+        (DiskFault::Device, _) | (DiskFault::Foreign, _) => Fault::Journal,
+    }
+}

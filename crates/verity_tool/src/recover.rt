@@ -1,0 +1,37 @@
+//! The command `recover`: makes whole a commit that a stop cut short.
+
+use crate::edit::open_both;
+use crate::journal::{journal_path, recover_files, remove_journal};
+use std::fs::File;
+use std::io::Write;
+use std::rt::Files;
+use verity_files::{Command, Failure, Word, check_paths};
+use verity_words::RecoverWords;
+
+/// Makes the changes that stand behind an open gate of the volume's journal, and removes the journal. It prints whether there
+/// were any.
+pub fn recover<R: Files<File = File> + AllocGlobal, W: Write>(
+    rt: &R,
+    words: &RecoverWords<'_>,
+    output: &mut W,
+) -> Result<(), Failure> {
+    check_paths(words.data_path, words.hash_path)?;
+    let (data, hash) = open_both(rt, words.data_path, words.hash_path, Command::Recover)?;
+    let data = data?;
+    let Some(path) = journal_path(rt, words.journal, hash.identity, words.hash_path)? else {
+        return Err(Failure::Word(Word::Journal));
+    };
+    let is_recovered = match recover_files(rt, &path, &data, &hash)? {
+        Some(found) => {
+            remove_journal(rt, &path);
+            found.is_recovered
+        }
+        None => false,
+    };
+    if is_recovered {
+        writeln!(output, "recovered")?;
+    } else {
+        writeln!(output, "nothing to recover")?;
+    }
+    Ok(())
+}
