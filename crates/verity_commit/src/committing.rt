@@ -25,8 +25,8 @@ pub fn commit_editor<K: Disks, D: BlockStore, H: BlockStore, A: Allocator + Copy
 ) -> Result<Committed, CommitFault>
     ensures done { IfOk result (λ committed. Commits ⟦<Staged<D, A> as BlockStore>⟧ ⟦<Staged<H, A> as BlockStore>⟧
         editor.old editor.new committed) }
-    ensures made { OnOk result (Holds D.BlockStore H.BlockStore editor.old.data_store.store editor.old.hash_store.store (K.seen keeper.old.disks)
-        → pair_of (K.seen keeper.new.disks) ≡ (
+    ensures made { OnOk result (Holds D.BlockStore H.BlockStore editor.old.data_store.store editor.old.hash_store.store
+        (K.seen keeper.old.disks) → pair_of (K.seen keeper.new.disks) ≡ (
           concat (⟦<Staged<D, A> as BlockStore>⟧.content editor.new.data_store),
           concat (⟦<Staged<H, A> as BlockStore>⟧.content editor.new.hash_store),
         )) }

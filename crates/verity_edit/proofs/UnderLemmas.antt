@@ -113,7 +113,8 @@ pub from_ok : {X E : Type 0} (r : Result X E) (x : X) (P : X → Type 0) → r �
 from_ok r x P is h = subst (λ s. IfOk s P) is h
 
 -- what was given is in the log
-was_given : {H : Type 0} (hash : store.Ghosts H) (t : Table) (mark : ℕ) (h : H) → Grows (hash_given hash t mark h) (line_given hash t mark h)
+was_given : {H : Type 0} (hash : store.Ghosts H) (t : Table) (mark : ℕ) (h : H)
+    → Grows (hash_given hash t mark h) (line_given hash t mark h)
 was_given hash t mark h zero i y gave = absurd gave
 was_given hash t mark h (suc l) i y gave = gave.0
 

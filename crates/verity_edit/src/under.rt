@@ -156,7 +156,8 @@ pub fn commit_under<D: BlockStore, H: BlockStore, A: Allocator + Copy + Drop>(
 ) -> (Tree<A>, H, Result<CommitPlan<A>, PlanRefused>)
     requires sound { broken.old ≡ false }
     requires line { IsLineFor tree superblock.now tree.hash_start_block tree.root }
-    requires can { CanCommit D.BlockStore H.BlockStore superblock.now pending.now tree.hash_start_block tree.root data_store.old hash_store }
+    requires can { CanCommit D.BlockStore H.BlockStore superblock.now pending.now tree.hash_start_block tree.root
+        data_store.old hash_store }
     requires salted { hasher.old.salted ≡ salted superblock.now.params }
     ensures same { result.0 ≡ tree }
     ensures done { OnOk result.2 (IsCarriedOut D.BlockStore H.BlockStore superblock.now pending.now tree.hash_start_block tree.root

@@ -16,7 +16,8 @@ use Rattle.verity_superblock.specs.declared.faults.SuperFault.TheVariants as sup
 use Rattle.verity_superblock.specs.declared.faults.TableFault.TheVariants as table
 use Rattle.verity_superblock.specs.Texts.{super_text, table_text}
 use Rattle.verity_files.specs.declared.fault.Fault.{Fault}
-use Rattle.verity_files.specs.declared.fault.Fault.TheVariants.{Store, InUse, UnderWay, Journal, Salt, Superblock, Table, Build, Check, Edit, Session, Socket}
+use Rattle.verity_files.specs.declared.fault.Fault.TheVariants.{Store, InUse, UnderWay, Journal}
+use Rattle.verity_files.specs.declared.fault.Fault.TheVariants.{Salt, Superblock, Table, Build, Check, Edit, Session, Socket}
 use Rattle.verity_files.specs.declared.failure.Failure.{Failure}
 use Rattle.verity_files.specs.declared.failure.Failure.TheVariants.{Word, Refused, NoMemory, Output}
 

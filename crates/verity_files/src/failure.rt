@@ -74,7 +74,7 @@ impl Word {
             Word::Memory => "a count of MiB, in decimal digits, from 33 to 1048576",
             Word::Idle => "a count of seconds, in decimal digits",
             Word::Journal =>
-                "a path that leads neither to DATA nor to HASH; none, for no journal, of edit alone; a device has one only where it is named",
+                "a path that leads neither to DATA nor to HASH; of edit also none, for no journal; a device has one only where named",
         }
     }
 }

@@ -30,9 +30,11 @@ pub fn commit_staged<K: Disks, D: BlockStore, H: BlockStore, A: Allocator + Copy
         → Suits (plan_of on_data.now.stage on_hash.now.stage) (pair_of (K.seen keeper.old.disks))
         → LeavesOnly K.moment K.left_since keeper.old.disks keeper.new.disks
         (IsOldOrNew (plan_of on_data.now.stage on_hash.now.stage) (pair_of (K.seen keeper.old.disks))) }
-    ensures staged { made_pair (plan_of on_data.now.stage on_hash.now.stage) (concat (D.content on_data.now.store), concat (H.content on_hash.now.store))
+    ensures staged { made_pair (plan_of on_data.now.stage on_hash.now.stage)
+        (concat (D.content on_data.now.store), concat (H.content on_hash.now.store))
         ≡ (concat (⟦<Staged<D, A> as BlockStore>⟧.content on_data.now), concat (⟦<Staged<H, A> as BlockStore>⟧.content on_hash.now)) }
-    ensures suits { Suits (plan_of on_data.now.stage on_hash.now.stage) (concat (D.content on_data.now.store), concat (H.content on_hash.now.store)) }
+    ensures suits { Suits (plan_of on_data.now.stage on_hash.now.stage)
+        (concat (D.content on_data.now.store), concat (H.content on_hash.now.store)) }
     ensures failed { result ≡ Err DiskFault.Device → keeper.old.is_settled ≡ true
         → K.faults keeper.old.disks < K.faults keeper.new.disks }
     ensures memory { result ≡ Err DiskFault.NoMemory → K.seen keeper.new.disks ≡ K.seen keeper.old.disks }
