@@ -1,6 +1,6 @@
 //! Many NBD clients of one verifier over sockets, none of which is waited for.
 //!
-//! It is no part of the program yet. [`serve_clients`] is a loop over one poll. Up to 64 clients are connected; others wait in
+//! [`serve_clients`], which the program's `serve` calls, is a loop over one poll. Up to 64 clients are connected; others wait in
 //! the listener's queue. Each client that may be ready has at most 256 turns, which are those of `nbd_relay`; then the next
 //! one has its own.
 //!
