@@ -33,7 +33,6 @@ algorithm_same Sha256 Sha512 e = absurd (omega (arith, e))
 algorithm_same Sha512 Sha256 e = absurd (omega (arith, e))
 algorithm_same Sha512 Sha512 e = refl
 
-
 rows_back : (blocks : List (List ℕ)) → map (λ (r : ℕ × List ℕ). r.1) (map (λ (block : List ℕ). (0, block)) blocks) ≡ blocks
 rows_back [] = refl
 rows_back (block ∷ blocks) = ap (λ rest. block ∷ rest) (rows_back blocks)
