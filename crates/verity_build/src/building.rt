@@ -6,6 +6,7 @@ ghost use Rattle.verity_digest.specs.Hash.{hashing};
 ghost use Rattle.verity_digest.specs.Tree.{root, tree as tree_of};
 ghost use Rattle.verity_geometry.specs.Geometry.{digests_per_block, total_of};
 ghost use Rattle.verity_store.specs.Stores.{IsLater, IsOnlyRead};
+ghost use Rattle.verity_store.specs.Given.{GoesOn};
 ghost use Rattle.verity_store.specs.Blocks.{resized, ChangesAt};
 ghost use Rattle.verity_profile.specs.Profile.{IsBlockCount};
 ghost use Rattle.verity_superblock.specs.Image.{CanBegin, hash_image, hash_blocks};
@@ -190,6 +191,23 @@ fn write_device<A: Allocator, D: BlockStore, H: BlockStore>(
     }
 }
 
+/// Makes room for a tree of so many blocks behind `start` others. No block changes.
+fn make_room<H: BlockStore>(hash_store: &mut H, start: u64, blocks: u64) -> Result<(), StoreFault>
+    requires near { start ≤ 2 ^ 40 }
+    requires few { blocks ≤ 2 ^ 40 }
+    ensures reserved { OnOk result (start + blocks ≤ H.room hash_store.new) }
+    ensures failures { H.failures hash_store.new ≡ H.failures hash_store.old }
+    ensures reads { H.reads hash_store.new ≡ H.reads hash_store.old }
+    ensures content { H.content hash_store.new ≡ H.content hash_store.old }
+    ensures gave { GoesOn (H.given hash_store.old) (H.given hash_store.new) }
+    ensures tells { H.tells hash_store.new ≡ H.tells hash_store.old }
+    ensures size { H.size hash_store.new ≡ H.size hash_store.old }
+    ensures fixed { H.fixed hash_store.new ≡ H.fixed hash_store.old }
+    ensures room { H.room hash_store.old ≤ H.room hash_store.new }
+{
+    hash_store.reserve(start + blocks)
+}
+
 /// Makes the hash device of a data store in a hash store, with the superblock at byte 0: as `build_at`
 /// with the offset 0, which U4 never refuses.
 pub fn build<A: Allocator + Copy, P: Allocator, D: BlockStore, H: BlockStore>(
@@ -284,7 +302,7 @@ pub fn build_at<A: Allocator + Copy, P: Allocator, D: BlockStore, H: BlockStore>
     let superblock = superblock_of(alloc, &tree.geometry, params)?;
     let size = bytes_at_a_time(tree.geometry.data_size()).max(tree.geometry.hash_size());
     let mut buffer = zeros(alloc, size)?;
-    let Ok(()) = hash_store.reserve(start + tree.geometry.total()) else {
+    let Ok(()) = make_room(hash_store, start, tree.geometry.total()) else {
         return Err(BuildFault::NoMemory);
     };
     match write_device(

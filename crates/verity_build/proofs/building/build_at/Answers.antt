@@ -10,9 +10,6 @@ use Rattle.verity_superblock.specs.Image.{hash_blocks, superblock_block, tree_of
 use Rattle.verity_build.specs.Parameters.{salted_by, volume, front}
 use Rattle.verity_build.proofs.building.build_at.Goals as goal
 
-pub write_device-requires-clause-reserved : goal.write_device-requires-clause-reserved
-write_device-requires-clause-reserved g c = omega (arith, c.in-Ok.ensures.reserved, c.total.ensures.value)
-
 pub returns-in-Ok-write_device-clause-bytes : goal.returns-in-Ok-write_device-clause-bytes
 returns-in-Ok-write_device-clause-bytes g c = λ td th.
     let D = g.D.BlockStore in
