@@ -7,7 +7,7 @@ use Rattle.plain_words.specs.declared.number.Number.TheVariants.{M1, M2, M3}
 use Rattle.plain_words.specs.declared.number.Number.TheVariants.{B1, B2, B3, B4, B5, B6, B7, B8, B9, B10}
 use Rattle.plain_words.specs.declared.number.Number.TheVariants.{L1, L2, L3, L4, L5, L6, L7, L8, L9}
 use Rattle.plain_words.specs.declared.number.Number.TheVariants.{U1, U2, U3, U4}
-use Rattle.plain_words.specs.declared.number.Number.TheVariants.{E1, E2, E3, E4, E5, E6, E7, E8, E9, E10, E11, E12}
+use Rattle.plain_words.specs.declared.number.Number.TheVariants.{E1, E2, E3, E4, E5, E6, E7, E8, E9, E10, E11, E12, E13, E14}
 use Rattle.plain_words.specs.declared.number.Number.TheVariants.{V1, V2, V3, V4, V5}
 use Rattle.plain_words.specs.declared.number.Number.TheVariants.{P1, P2}
 use Rattle.plain_words.specs.declared.number.Number.TheVariants.{H1, H2, H3, H4}
@@ -62,6 +62,8 @@ number_text E9 = codes "E9"
 number_text E10 = codes "E10"
 number_text E11 = codes "E11"
 number_text E12 = codes "E12"
+number_text E13 = codes "E13"
+number_text E14 = codes "E14"
 number_text V1 = codes "V1"
 number_text V2 = codes "V2"
 number_text V3 = codes "V3"

@@ -61,6 +61,8 @@ pub enum Number {
     E10,
     E11,
     E12,
+    E13,
+    E14,
     // a verifier
     V1,
     V2,
@@ -200,6 +202,17 @@ impl Number {
             Number::E11 => Meaning::new("E11", "the store's block size isn't the superblock's"),
             Number::E12 => Meaning::new("E12", "no superblock can stand at this offset").advising(
                 "name a multiple of the hash block size",
+            ),
+            Number::E13 => Meaning::new(
+                "E13",
+                "the superblock isn't that of the table line",
+            ).advising("name the line that was printed for this volume last"),
+            Number::E14 => Meaning::new(
+                "E14",
+                "the hash block at this place hasn't the digest that the table line leads to",
+            )
+            .advising(
+                "name the line that was printed for this volume last; if it was, the hash device is damaged or was changed",
             ),
             Number::V1 => Meaning::new("V1", "the files don't fit the table line").advising(
                 "name the files that were formatted, by the line that was printed for them last",

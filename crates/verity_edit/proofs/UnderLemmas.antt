@@ -156,6 +156,8 @@ refused_by T hash t mark old new (fault.Superblock f) asked fails none same = ab
 refused_by T hash t mark old new fault.DataLength asked fails none same = absurd fails
 refused_by T hash t mark old new (fault.StoreSize store) asked fails none same = absurd fails
 refused_by T hash t mark old new fault.Offset asked fails none same = absurd fails
+refused_by T hash t mark old new fault.Line asked fails none same = absurd fails
+refused_by T hash t mark old new (fault.Untrusted level index) asked fails none same = absurd fails
 
 module _ {H : Type 0} (hash : store.Ghosts H) (t : Table) (h : H) (new : Checking H) (is : IsChecking hash new)
     (bound : bound_to new.table new.origin ≡ bound_to t (rows_of (facts_of hash h))) where

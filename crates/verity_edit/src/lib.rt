@@ -17,7 +17,7 @@
 //! A commit under a trusted table line (`under`) checks each old hash block from the root down before it is used. No public call
 //! makes one yet.
 //!
-//! The errors are those of [`EditFault`], E1 to E12. A refused call changes nothing, but for a commit of which a store failed
+//! The errors are those of [`EditFault`], E1 to E14. A refused call changes nothing, but for a commit of which a store failed
 //! after its first change: the editor is then broken, and all but the getters and `close` answers E7.
 //!
 //! The definitions stand in `specs/`: `Edits` (images, edits and what refuses them), `After` (commands and replies), `Touched`

@@ -44,7 +44,7 @@ pub enum Fault {
     Build(BuildFault),
     /// V1 to V5.
     Check(CheckFault),
-    /// E1 to E12.
+    /// E1 to E14.
     Edit(EditFault),
     /// P1 and P2.
     Session(SessionFault),
@@ -205,6 +205,8 @@ fn of_edit(fault: EditFault) -> Number
         EditFault::DataLength => Number::E10,
         EditFault::StoreSize(_) => Number::E11,
         EditFault::Offset => Number::E12,
+        EditFault::Line => Number::E13,
+        EditFault::Untrusted { .. } => Number::E14,
     }
 }
 

@@ -105,8 +105,10 @@ fn edited<'a>(parts: Parts<'a>, fault: EditFault) -> &'a str {
     match fault {
         EditFault::Store(which) | EditFault::StoreSize(which) => parts.path(which),
         EditFault::DataLength => parts.data,
-        EditFault::Superblock(_) | EditFault::Mismatch { .. } => parts.hash,
+        EditFault::Superblock(_) | EditFault::Mismatch { .. } | EditFault::Untrusted { .. } =>
+            parts.hash,
         EditFault::Offset => "--hash-offset",
+        EditFault::Line => "the table line",
         _ => "the volume",
     }
 }
