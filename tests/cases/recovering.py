@@ -23,8 +23,8 @@ def side(keep, new, size=512):
     return struct.pack("<QQQ", keep, len(new), len(changes)) + b"".join(changes)
 
 
-def journal(gate, data=NEW, hashes=NEW_HASHES, keep=0, behind=b""):
-    return bytes([gate]) + side(keep, data) + side(0, hashes) + behind
+def journal(gate, data=NEW, hashes=NEW_HASHES, keep=0, behind=b"", names=b"data\0hash"):
+    return bytes([gate]) + struct.pack("<Q", len(names)) + names + side(keep, data) + side(0, hashes) + behind
 
 
 def case(name, words, output, status=0, kept=b"", leaves=None, errors=None, **more):
@@ -53,7 +53,14 @@ def recovered():
     yield case("no journal's bytes", words, "refused S7\n", 1, kept=b"text")
     yield case("half a plan behind an open gate", words, "refused S7\n", 1, kept=journal(1)[:-1])
     yield case("a plan whose change passes its length", words, "refused S7\n", 1,
-               kept=b"\1" + struct.pack("<QQQQQ", 0, 512, 1, 1, 512) + bytes(512) + side(0, HASHES))
+               kept=journal(1, data=b"", hashes=b"")[:18] + struct.pack("<QQQQQ", 0, 512, 1, 1, 512) + bytes(512) + side(0, HASHES))
+    for name, names in (("of another image", b"image\0hash"), ("of another hash device", b"data\0hashes"), ("of the files turned", b"hash\0data"),
+                        ("with DATA's name alone", b"data"), ("with no names", b""), ("of names in a folder", b"./data\0./hash"),
+                        ("of devices", b"\0")):
+        yield case(f"a journal {name}", words, "refused S7\n", 1, kept=journal(1, names=names))
+    yield case("more names than there are bytes", words, "refused S7\n", 1,
+               kept=b"\1" + struct.pack("<Q", 2**63) + journal(1)[9:])
+    yield case("a closed journal of another volume", words, NOTHING, kept=journal(0, names=b"image\0hash"), leaves=gone())
     yield Case("recover: no image", words, "refused S1\n", 1, {"hash": HASHES, "hash.journal": journal(1)})
     yield WhileEdited("a recovery", words, "refused S5 data\n", 1)
 
@@ -104,7 +111,7 @@ def placed():
         os.symlink("below/there", os.path.join(folder, "hash"))
 
     yield Case("recover: through a link", ["recover", "data", "hash"], DONE, 0,
-               {"data": DATA, "hash": HASHES, "hash.journal": journal(1)},
+               {"data": DATA, "hash": HASHES, "hash.journal": journal(1, names=b"data\0there")},
                {"data": NEW, "hash": NEW_HASHES, "hash.journal": None, "below/there.journal": None}, before=[linked])
     for name, make in (("a folder", os.mkdir), ("a pipe", os.mkfifo)):
         for words in (["recover", "data", "hash"], ["edit", "data", "hash", "script"], ["verify", "--table", LINE]):

@@ -33,6 +33,7 @@ pub fn commit<A: Allocator + Copy>(
     calls: u64,
 ) -> Result<(bool, TearingDisks<A>), AllocError> {
     let plan = Plan::new(
+        b"data\0hash".to_vec(alloc)?,
         side(alloc, data_lens.0, data_lens.1)?,
         side(alloc, hash_lens.0, hash_lens.1)?,
     );

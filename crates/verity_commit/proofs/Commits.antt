@@ -23,22 +23,23 @@ weaker moment left_since old new P Q f only = record {
 }
 
 -- the stores below as the devices hold them, and the staged stores as they were looked at (xs, a; ys, b) and as they are (us, d; vs, e)
-module _ (first : Pair) (os ps xs ys us vs : List (List ℕ)) (a b d e : Stage)
+module _ (names : List ℕ) (first : Pair) (os ps xs ys us vs : List (List ℕ)) (a b d e : Stage)
     (holds : first ≡ both (concat os) (concat ps)) (data_fixed : below_of us ≡ below_of os) (hash_fixed : below_of vs ≡ below_of ps)
     (data_below : xs ≡ us) (hash_below : ys ≡ vs) (data_stage : a ≡ d) (hash_stage : b ≡ e)
-    (made : made_pair (plan_of a b) (both (concat xs) (concat ys)) ≡ both (concat (staged xs a)) (concat (staged ys b))) where
+    (made : made_pair (plan_of names a b) (both (concat xs) (concat ys)) ≡ both (concat (staged xs a)) (concat (staged ys b))) where
   pub here : first ≡ (both (concat xs) (concat ys))
   here = holds ∙ pair_same (concat os) (concat xs) (concat ps) (concat ys) (sym (ap concat (data_below ∙ below-same us os data_fixed)))
       (sym (ap concat (hash_below ∙ below-same vs ps hash_fixed)))
 
-  pub makes : made_pair (plan_of a b) first ≡ (both (concat (staged us d)) (concat (staged vs e)))
-  makes = ap (made_pair (plan_of a b)) here ∙ made
+  pub makes : made_pair (plan_of names a b) first ≡ (both (concat (staged us d)) (concat (staged vs e)))
+  makes = ap (made_pair (plan_of names a b)) here ∙ made
       ∙ pair_same (concat (staged xs a)) (concat (staged us d)) (concat (staged ys b)) (concat (staged vs e))
       (ap (λ l. concat (staged l a)) data_below ∙ ap (λ s. concat (staged us s)) data_stage)
       (ap (λ l. concat (staged l b)) hash_below ∙ ap (λ s. concat (staged vs s)) hash_stage)
 
-  pub suits_here : Suits (plan_of a b) (both (concat xs) (concat ys)) → Suits (plan_of a b) first
-  suits_here suits = subst (Suits (plan_of a b)) (sym here) suits
+  pub suits_here : Suits (plan_of names a b) (both (concat xs) (concat ys)) → Suits (plan_of names a b) first
+  suits_here suits = subst (Suits (plan_of names a b)) (sym here) suits
 
-  pub one_of : (c : Contents) → IsOldOrNew (plan_of a b) first c → IsOneOf first (both (concat (staged us d)) (concat (staged vs e))) c
+  pub one_of : (c : Contents) → IsOldOrNew (plan_of names a b) first c
+      → IsOneOf first (both (concat (staged us d)) (concat (staged vs e))) c
   one_of c old_or_new = ⊎_elim inl (λ is. inr (is ∙ makes)) old_or_new

@@ -14,13 +14,14 @@ use verity_stage::{Staged, commit_staged};
 use verity_store::BlockStore;
 
 /// Commits the pending edits of an editor over two staged stores, and brings them through the journal to the devices, which hold
-/// the stores below.
+/// the stores below. The journal has these names of them.
 ///
 /// An editor's fault leaves the devices as they were. After a fault of the devices a start comes next, and the editor is of no more
 /// use. It writes each changed block twice, syncs five times, and takes memory for the changed blocks three times.
 pub fn commit_editor<K: Disks, D: BlockStore, H: BlockStore, A: Allocator + Copy>(
     alloc: A,
     keeper: &mut Keeper<K>,
+    names: &[u8],
     editor: &mut Editor<Staged<D, A>, Staged<H, A>, A>,
 ) -> Result<Committed, CommitFault>
     ensures done { IfOk result (λ committed. Commits ⟦<Staged<D, A> as BlockStore>⟧ ⟦<Staged<H, A> as BlockStore>⟧
@@ -44,7 +45,13 @@ pub fn commit_editor<K: Disks, D: BlockStore, H: BlockStore, A: Allocator + Copy
         Ok(committed) => committed,
         Err(fault) => return Err(CommitFault::Edit(fault)),
     };
-    match commit_staged(alloc, keeper, editor.data_store(), editor.hash_store()) {
+    match commit_staged(
+        alloc,
+        keeper,
+        names,
+        editor.data_store(),
+        editor.hash_store(),
+    ) {
         Ok(()) => Ok(committed),
         Err(fault) => Err(CommitFault::Disks(fault)),
     }

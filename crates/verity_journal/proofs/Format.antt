@@ -84,11 +84,22 @@ read_side-spelled side is small rest =
     ∙ given (nat_le side.keep side.len) _ None (le-leb side.keep side.len is.kept)
     ∙ some _ (side.changes, rest) _ (read_changes-spelled side.len small.len side.changes rest is.fit)
 
+plan_split : (plan : Plan) (rest : List ℕ) →
+    spelled plan ++ rest ≡ number (length plan.names) ++
+    (plan.names ++ (spelled_side plan.on_data ++ (spelled_side plan.on_hash ++ rest)))
+plan_split plan rest =
+    append_assoc (number (length plan.names)) _ rest
+    ∙ ap (λ (l : List ℕ). number (length plan.names) ++ l) (append_assoc plan.names _ rest
+    ∙ ap (λ (l : List ℕ). plan.names ++ l) (append_assoc (spelled_side plan.on_data) (spelled_side plan.on_hash) rest))
+
 -- a plan is read as it was spelled, whatever stands behind it
 pub read_plan-spelled : (plan : Plan) → IsSide plan.on_data → IsSide plan.on_hash → IsSmall plan.on_data → IsSmall plan.on_hash →
-    (rest : List ℕ) → read_plan (spelled plan ++ rest) ≡ Some plan
-read_plan-spelled plan is_data is_hash small_data small_hash rest =
-    ap read_plan (append_assoc (spelled_side plan.on_data) (spelled_side plan.on_hash) rest)
+    length plan.names < 2 ^ 64 → (rest : List ℕ) → read_plan (spelled plan ++ rest) ≡ Some plan
+read_plan-spelled plan is_data is_hash small_data small_hash small_names rest =
+    let behind = spelled_side plan.on_data ++ (spelled_side plan.on_hash ++ rest) in
+    ap read_plan (plan_split plan rest)
+    ∙ some _ (length plan.names, plan.names ++ behind) _ (read_number-number (length plan.names) _ small_names)
+    ∙ some _ (plan.names, behind) _ (read_bytes-bytes plan.names behind)
     ∙ some _ (plan.on_data, spelled_side plan.on_hash ++ rest) _ (read_side-spelled plan.on_data is_data small_data _)
     ∙ some _ (plan.on_hash, rest) _ (read_side-spelled plan.on_hash is_hash small_hash rest)
 

@@ -1,5 +1,5 @@
 -- What a stop leaves while a gate is opened or closed, and while a plan's changes are made.
-use Rattle.std.proofs.Common.{◌≡◌, ◌≢◌, ◌⊎◌, inl, inr, ⊎_elim, refl, ℕ, ◌+◌, ◌-◌, ◌≤◌, List, [], ◌∷◌, ◌++◌, length, get_or, take}
+use Rattle.std.proofs.Common.{◌≡◌, ◌≢◌, ◌⊎◌, inl, inr, ⊎_elim, refl, ℕ, ◌+◌, ◌-◌, ◌<◌, ◌≤◌, ◌^◌, List, [], ◌∷◌, ◌++◌, length, get_or, take}
 use Rattle.std.proofs.Common.{drop, Option, None, Some, sym, ap, ◌∙◌, subst, arith}
 use Rattle.std.proofs.lemmas.Bool.{cases_eq}
 use Rattle.std.proofs.lemmas.Bool.Decides.{nat_tests}
@@ -48,10 +48,10 @@ torn_gated plan old (x ∷ new) (gate, rest, is, reads) torn =
     (x, new, refl, ap read_plan (torn.after ∙ ap (λ (l : List ℕ). drop 1 l) is) ∙ reads)
 
 pub staged : (plan : Plan) (bytes journal : List ℕ) → IsSide plan.on_data → IsSide plan.on_hash → IsSmall plan.on_data →
-    IsSmall plan.on_hash → bytes ≡ spelled plan → IsClosed journal → IsGated plan (overwritten 1 bytes journal)
-staged plan bytes journal d h sd sh same (rest, is) =
+    IsSmall plan.on_hash → length plan.names < 2 ^ 64 → bytes ≡ spelled plan → IsClosed journal → IsGated plan (overwritten 1 bytes journal)
+staged plan bytes journal d h sd sh sn same (rest, is) =
     let tail = drop (1 + length bytes) journal in
-    (0, spelled plan ++ tail, (λ i. take 1 (is i) ++ (same i ++ tail)), read_plan-spelled plan d h sd sh tail)
+    (0, spelled plan ++ tail, (λ i. take 1 (is i) ++ (same i ++ tail)), read_plan-spelled plan d h sd sh sn tail)
 
 pub gate_written : (plan : Plan) (gate : ℕ) (journal : List ℕ) → IsGated plan journal → (rest : List ℕ) ×
     (overwritten 0 (gate ∷ []) journal ≡ gate ∷ rest) × (read_plan rest ≡ Some plan)

@@ -122,9 +122,11 @@ side_fits bytes side rest e =
 -- a plan that was read fits
 pub plan_fits : (bytes : List ℕ) (plan : Plan) → read_plan bytes ≡ Some plan → IsSide plan.on_data × IsSide plan.on_hash
 plan_fits bytes plan e =
-    let on_data = was_some (read_side bytes) _ _ e in
+    let size = was_some (read_number bytes) _ _ e in
+    let names = was_some (read_bytes size.0.0 size.0.1) _ _ size.2 in
+    let on_data = was_some (read_side names.0.1) _ _ names.2 in
     let on_hash = was_some (read_side on_data.0.1) _ _ on_data.2 in
     let is = two_some _ _ on_hash.2 in (
-      subst IsSide (ap (λ (p : Plan). p.on_data) is) (side_fits bytes on_data.0.0 on_data.0.1 on_data.1),
+      subst IsSide (ap (λ (p : Plan). p.on_data) is) (side_fits names.0.1 on_data.0.0 on_data.0.1 on_data.1),
       subst IsSide (ap (λ (p : Plan). p.on_hash) is) (side_fits on_data.0.1 on_hash.0.0 on_hash.0.1 on_hash.1),
     )

@@ -21,8 +21,9 @@ spelled_changes (change ∷ changes) = spelled_change change ++ spelled_changes 
 abbrev pub spelled_side : Side → List ℕ
 spelled_side side = number side.keep ++ (number side.len ++ (number (length side.changes) ++ spelled_changes side.changes))
 
+-- a plan is how many bytes name the volume, these, and both sides
 abbrev pub spelled : Plan → List ℕ
-spelled plan = spelled_side plan.on_data ++ spelled_side plan.on_hash
+spelled plan = number (length plan.names) ++ (plan.names ++ (spelled_side plan.on_data ++ spelled_side plan.on_hash))
 
 -- a number, and what stands behind it
 abbrev pub read_number : List ℕ → Option (ℕ × List ℕ)
@@ -57,7 +58,10 @@ read_side bytes =
 
 -- the plan that bytes begin with
 abbrev pub read_plan : List ℕ → Option Plan
-read_plan bytes = and_then (read_side bytes) (λ d. and_then (read_side d.1) (λ h. Some (record { on_data = d.0; on_hash = h.0 })))
+read_plan bytes =
+    and_then (read_number bytes) (λ size. and_then (read_bytes size.0 size.1) (λ names.
+    and_then (read_side names.1) (λ d. and_then (read_side d.1) (λ h.
+    Some (record { names = names.0; on_data = d.0; on_hash = h.0 })))))
 
 -- the plan of a journal, where its gate is open, which is any byte but 0, and a whole one stands behind it
 abbrev pub plan_of : List ℕ → Option Plan

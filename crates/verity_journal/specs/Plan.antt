@@ -9,8 +9,9 @@ pub record Side : Type 0 where
   pub len : ℕ
   pub changes : List (ℕ × List ℕ)
 
--- the changes of a commit
+-- the changes of a commit, and bytes that name the volume
 pub record Plan : Type 0 where
+  pub names : List ℕ
   pub on_data : Side
   pub on_hash : Side
 

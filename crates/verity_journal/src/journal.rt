@@ -1,5 +1,5 @@
 //! A commit through the journal.
-ghost use Rattle.std.specs.Prelude.{◌≡◌, ◌≢◌, ◌≤◌, ◌<◌, ◌++◌, ◌+◌, List, ℕ, [], ◌∷◌, length, Err, OnOk, OnErr, IfOk, IfErr};
+ghost use Rattle.std.specs.Prelude.{◌≡◌, ◌≢◌, ◌≤◌, ◌<◌, ◌++◌, ◌+◌, ◌^◌, List, ℕ, [], ◌∷◌, length, Err, OnOk, OnErr, IfOk, IfErr};
 ghost use Rattle.verity_journal.specs.Disks.{put, Only, Stays, Elapses, LeavesOnly, IsDurable};
 ghost use Rattle.verity_journal.specs.Plan.{IsSide, IsSmall, made, changed};
 ghost use Rattle.verity_journal.specs.Journal.{spelled, number, spelled_side, spelled_change, spelled_changes};
@@ -50,11 +50,14 @@ fn spell_side<A: Allocator>(out: &mut Vec<u8, A>, side: &Side<A>) -> Result<(), 
     Ok(spell_changes(out, changes)?)
 }
 
-/// A plan as the journal has it, behind the gate. It takes as much memory as the changes.
+/// A plan as the journal has it, behind the gate. It takes as much memory as the names and the changes.
 pub fn spell<A: Allocator + Copy>(alloc: A, plan: &Plan<A>) -> Result<Vec<u8, A>, AllocError>
     ensures { IfOk result (λ bytes. bytes.items ≡ spelled plan.now) }
 {
     let mut bytes = Vec::new(alloc);
+    let names = plan.names();
+    spell_number(&mut bytes, names.len() as u64)?;
+    bytes.extend_from_slice(names)?;
     spell_side(&mut bytes, plan.data())?;
     spell_side(&mut bytes, plan.hash())?;
     Ok(bytes)
@@ -70,6 +73,7 @@ pub fn open_plan<K: Disks, A: Allocator>(
     requires suits { Suits plan.now (pair_of (K.seen disks.old)) }
     requires data_small { IsSmall plan.now.on_data }
     requires hash_small { IsSmall plan.now.on_hash }
+    requires names_small { length plan.now.names < 2 ^ 64 }
     requires spelled { bytes.now ≡ spelled plan.now }
     ensures ready { OnOk result (IsReady plan.now (K.seen disks.new) (K.may_leave disks.new)) }
     ensures stay { OnOk result (pair_of (K.seen disks.new) ≡ pair_of (K.seen disks.old)) }
@@ -114,6 +118,7 @@ pub fn commit_through<K: Disks, A: Allocator + Copy>(
     requires suits { Suits plan.now (pair_of (K.seen disks.old)) }
     requires data_small { IsSmall plan.now.on_data }
     requires hash_small { IsSmall plan.now.on_hash }
+    requires names_small { length plan.now.names < 2 ^ 64 }
     ensures made { OnOk result (pair_of (K.seen disks.new) ≡ made_pair plan.now (pair_of (K.seen disks.old))) }
     ensures settled { OnOk result (IsSettled (K.seen disks.new) (K.may_leave disks.new)) }
     ensures any_moment { LeavesOnly K.moment K.left_since disks.old disks.new (IsOldOrNew plan.now (pair_of (K.seen disks.old))) }

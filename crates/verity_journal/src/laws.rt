@@ -1,5 +1,5 @@
 //! Laws of the definitions alone: why it is enough to make the changes again.
-ghost use Rattle.std.specs.Prelude.{◌≡◌, ◌≤◌, ◌++◌, Bool, List, ℕ, length, Some};
+ghost use Rattle.std.specs.Prelude.{◌≡◌, ◌<◌, ◌≤◌, ◌^◌, ◌++◌, Bool, List, ℕ, length, Some};
 ghost use Rattle.verity_journal.specs.Journal.{spelled, read_plan};
 ghost use Rattle.verity_journal.specs.Plan.{Side, Plan, IsSide, IsSmall, Amid, made, changed, Fit, Unsynced, chosen};
 
@@ -12,7 +12,7 @@ pub fn again_is_harmless()
 /// A plan is read as it was spelled, whatever stands behind it.
 pub fn reads_what_is_spelled()
     ensures { (plan : Plan) → IsSide plan.on_data → IsSide plan.on_hash → IsSmall plan.on_data → IsSmall plan.on_hash
-        → (rest : List ℕ) → read_plan (spelled plan ++ rest) ≡ Some plan }
+        → length plan.names < 2 ^ 64 → (rest : List ℕ) → read_plan (spelled plan ++ rest) ≡ Some plan }
 {}
 
 /// Of writes that aren't synced a stop may leave any, in any combination: not only the first of them.

@@ -1,5 +1,5 @@
 //! What a commit is to change: for each device what is kept of it, its new length, and the changes.
-ghost use Rattle.std.specs.Prelude.{◌≡◌, ◌≤◌, ◌↔◌, ℕ, List, IsTrue};
+ghost use Rattle.std.specs.Prelude.{◌≡◌, ◌<◌, ◌≤◌, ◌^◌, ◌↔◌, ℕ, List, length, IsTrue};
 ghost use Rattle.verity_journal.specs.Plan.{IsBelow, IsSide, IsSmall};
 
 use std::alloc::{Allocator, Global};
@@ -107,9 +107,10 @@ impl<A: Allocator> Side<A> {
     }
 }
 
-/// The changes of a commit.
+/// The changes of a commit, and bytes that name the volume, of which nothing is asked here.
 #[derive(Drop)]
 pub struct Plan<A: Allocator = Global> {
+    names: Vec<u8, A>,
     data: Side<A>,
     hash: Side<A>,
 }
@@ -119,18 +120,26 @@ impl<A: Allocator> Model for Plan<A> {
 
     ghost Value = { Plan };
 
-    ghost view = { λ plan. record { on_data = plan.data; on_hash = plan.hash } };
+    ghost view = { λ plan. record { names = plan.names.items; on_data = plan.data; on_hash = plan.hash } };
 }
 
 impl<A: Allocator> Plan<A> {
-    /// These changes of both devices. It takes no memory.
-    pub fn new(on_data: Side<A>, on_hash: Side<A>) -> Plan<A>
-        ensures { result ≡ record { on_data = on_data; on_hash = on_hash } }
+    /// These changes of both devices of the volume that these bytes name. It takes no memory.
+    pub fn new(names: Vec<u8, A>, on_data: Side<A>, on_hash: Side<A>) -> Plan<A>
+        ensures { result ≡ record { names = names.items; on_data = on_data; on_hash = on_hash } }
     {
         Plan {
+            names,
             data: on_data,
             hash: on_hash,
         }
+    }
+
+    /// The bytes that name the volume.
+    pub fn names(&self) -> &[u8]
+        ensures { result.now ≡ self.now.names }
+    {
+        &self.names
     }
 
     /// The changes of the data device.
@@ -152,8 +161,9 @@ impl<A: Allocator> Plan<A> {
     pub fn suits(&self, data_len: u64, hash_len: u64) -> bool
         ensures suits { IsTrue result ↔ (IsSide self.now.on_data × IsSide self.now.on_hash
             × (self.now.on_data.keep ≤ data_len) × (self.now.on_hash.keep ≤ hash_len)) }
-        ensures small { IsSmall self.now.on_data × IsSmall self.now.on_hash }
+        ensures small { IsSmall self.now.on_data × IsSmall self.now.on_hash × (length self.now.names < 2 ^ 64) }
     {
+        let _few = self.names.len();
         let data_fits = self.data.fits();
         let hash_fits = self.hash.fits();
         data_fits && hash_fits && self.data.keep <= data_len && self.hash.keep <= hash_len

@@ -122,19 +122,26 @@ fn parse_side<A: Allocator + Copy>(
     }
 }
 
-/// The plan that bytes begin with; none where no whole one does. It takes as much memory as the plan's changes.
+/// The plan that bytes begin with; none where no whole one does. It takes as much memory as the plan's names and changes.
 pub fn parse<A: Allocator + Copy>(alloc: A, bytes: &[u8]) -> Result<Option<Plan<A>>, AllocError>
     ensures some { IfOk result (λ r. IfSome r (λ plan. read_plan bytes.now ≡ Some plan)) }
     ensures none { IfOk result (λ r. IfNone r (read_plan bytes.now ≡ None)) }
 {
     let mut reader = Reader::new(bytes);
+    let Some(size) = reader.number() else {
+        return Ok(None);
+    };
+    let Some(names) = reader.bytes(size) else {
+        return Ok(None);
+    };
+    let names = names.to_vec(alloc)?;
     let Some(on_data) = parse_side(alloc, &mut reader)? else {
         return Ok(None);
     };
     let Some(on_hash) = parse_side(alloc, &mut reader)? else {
         return Ok(None);
     };
-    Ok(Some(Plan::new(on_data, on_hash)))
+    Ok(Some(Plan::new(names, on_data, on_hash)))
 }
 
 /// The plan of a journal, where its gate is open and a whole one stands behind it. A gate is closed where its byte is 0.

@@ -55,6 +55,6 @@ side_of stage = record {
 abbrev pub below_of : List (List ℕ) → List (ℕ × List ℕ)
 below_of content = map (λ block. (0, block)) content
 
--- the stages of two devices as one plan
-abbrev pub plan_of : Stage → Stage → Plan
-plan_of on_data on_hash = record { on_data = side_of on_data; on_hash = side_of on_hash }
+-- the stages of two devices of a volume of these names as one plan
+abbrev pub plan_of : List ℕ → Stage → Stage → Plan
+plan_of names on_data on_hash = record { names = names; on_data = side_of on_data; on_hash = side_of on_hash }

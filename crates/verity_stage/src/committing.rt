@@ -10,7 +10,7 @@ use std::alloc::Allocator;
 use verity_journal::{DiskFault, Disks, Keeper, Plan};
 use verity_store::BlockStore;
 
-/// Makes of two devices, by one commit through their journal, what is staged over two stores.
+/// Makes of two devices, by one commit through their journal, what is staged over two stores. The journal has these names of them.
 ///
 /// Where the devices hold the stores below, they hold afterwards what is staged over them (`staged`); a stop at any moment leaves
 /// devices from which a start makes the one or the other. It takes memory for the blocks twice more.
@@ -20,33 +20,37 @@ use verity_store::BlockStore;
 pub fn commit_staged<K: Disks, D: BlockStore, H: BlockStore, A: Allocator + Copy>(
     alloc: A,
     keeper: &mut Keeper<K>,
+    names: &[u8],
     on_data: &Staged<D, A>,
     on_hash: &Staged<H, A>,
 ) -> Result<(), DiskFault>
     ensures made { OnOk result (pair_of (K.seen keeper.new.disks)
-        ≡ made_pair (plan_of on_data.now.stage on_hash.now.stage) (pair_of (K.seen keeper.old.disks))) }
+        ≡ made_pair (plan_of names.now on_data.now.stage on_hash.now.stage) (pair_of (K.seen keeper.old.disks))) }
     ensures settled { OnOk result (keeper.new.is_settled ≡ true) }
     ensures any_moment { keeper.old.is_settled ≡ true
-        → Suits (plan_of on_data.now.stage on_hash.now.stage) (pair_of (K.seen keeper.old.disks))
+        → Suits (plan_of names.now on_data.now.stage on_hash.now.stage) (pair_of (K.seen keeper.old.disks))
         → LeavesOnly K.moment K.left_since keeper.old.disks keeper.new.disks
-        (IsOldOrNew (plan_of on_data.now.stage on_hash.now.stage) (pair_of (K.seen keeper.old.disks))) }
-    ensures staged { made_pair (plan_of on_data.now.stage on_hash.now.stage)
+        (IsOldOrNew (plan_of names.now on_data.now.stage on_hash.now.stage) (pair_of (K.seen keeper.old.disks))) }
+    ensures staged { made_pair (plan_of names.now on_data.now.stage on_hash.now.stage)
         (concat (D.content on_data.now.store), concat (H.content on_hash.now.store))
         ≡ (concat (⟦<Staged<D, A> as BlockStore>⟧.content on_data.now), concat (⟦<Staged<H, A> as BlockStore>⟧.content on_hash.now)) }
-    ensures suits { Suits (plan_of on_data.now.stage on_hash.now.stage)
+    ensures suits { Suits (plan_of names.now on_data.now.stage on_hash.now.stage)
         (concat (D.content on_data.now.store), concat (H.content on_hash.now.store)) }
     ensures failed { result ≡ Err DiskFault.Device → keeper.old.is_settled ≡ true
         → K.faults keeper.old.disks < K.faults keeper.new.disks }
     ensures memory { result ≡ Err DiskFault.NoMemory → K.seen keeper.new.disks ≡ K.seen keeper.old.disks }
     ensures foreign { result ≡ Err DiskFault.Foreign → keeper.new.disks ≡ keeper.old.disks }
     ensures unfit { result ≡ Err DiskFault.Foreign
-        → ¬ Suits (plan_of on_data.now.stage on_hash.now.stage) (pair_of (K.seen keeper.old.disks)) }
+        → ¬ Suits (plan_of names.now on_data.now.stage on_hash.now.stage) (pair_of (K.seen keeper.old.disks)) }
 {
     on_data.facts();
     on_hash.facts();
     let (Ok(data_side), Ok(hash_side)) = (on_data.side(), on_hash.side()) else {
         return Err(DiskFault::NoMemory);
     };
-    let plan = Plan::new(data_side, hash_side);
+    let Ok(names) = names.to_vec(alloc) else {
+        return Err(DiskFault::NoMemory);
+    };
+    let plan = Plan::new(names, data_side, hash_side);
     keeper.commit(alloc, &plan)
 }

@@ -48,6 +48,7 @@ pub type StagedEditor = Editor<StagedFile, StagedFile>;
 pub struct Journalled<'a, R> {
     rt: &'a R,
     path: &'a str,
+    names: &'a str,
     data: Opened,
     hash: Opened,
     keeper: Option<FileKeeper>,
@@ -56,10 +57,11 @@ pub struct Journalled<'a, R> {
 }
 
 impl<'a, R: Files<File = File> + AllocGlobal> Journalled<'a, R> {
-    /// Over these files, and a journal at this path: where it was there, with what was found.
+    /// Over these files, and a journal at this path, which has these names of them: where it was there, with what was found.
     pub fn new(
         rt: &'a R,
         path: &'a str,
+        names: &'a str,
         data: Opened,
         hash: Opened,
         keeper: Option<FileKeeper>,
@@ -67,6 +69,7 @@ impl<'a, R: Files<File = File> + AllocGlobal> Journalled<'a, R> {
         Journalled {
             rt,
             path,
+            names,
             data,
             hash,
             keeper,
@@ -136,7 +139,7 @@ impl<'a, R: Files<File = File> + AllocGlobal> Commits<StagedFile, StagedFile>
         let Some(keeper) = &mut self.keeper else {
             return Err(Fault::Journal);
         };
-        match commit_editor(self.rt.alloc(), keeper, editor) {
+        match commit_editor(self.rt.alloc(), keeper, self.names.as_bytes(), editor) {
             Ok(committed) => {
                 self.is_staged = true;
                 Ok(committed)

@@ -2,7 +2,7 @@
 
 use crate::commits::{Commits, Direct, Journalled};
 use crate::dump::read_superblock;
-use crate::journal::{check_other_gate, journal_path, recover_files};
+use crate::journal::{check_other_gate, journal_path, recover_files, volume_names};
 use crate::lines::Devices;
 use crate::script::{Script, read_script, run_script};
 use std::alloc::Global;
@@ -78,7 +78,8 @@ fn edit_through<R: Files<File = File> + AllocGlobal, W: Write, E: Write>(
     let Ok(data) = data else {
         return edit_in_place(rt, words, offset, data, hash, output, errors);
     };
-    let keeper = match recover_files(rt, path, &data, &hash)? {
+    let names = volume_names(rt, &data, words.data_path, &hash, words.hash_path)?;
+    let keeper = match recover_files(rt, path, &data, &hash, &names)? {
         Some(found) => {
             if found.is_recovered {
                 explain_recovered(words.hash_path, errors);
@@ -89,7 +90,7 @@ fn edit_through<R: Files<File = File> + AllocGlobal, W: Write, E: Write>(
     };
     let data = data.seen_again()?;
     let hash = hash.seen_again()?;
-    let mut commits = Journalled::new(rt, path, data, hash, keeper);
+    let mut commits = Journalled::new(rt, path, &names, data, hash, keeper);
     let done = edit_staged(rt, words, &mut commits, offset, output, errors);
     commits.end();
     done

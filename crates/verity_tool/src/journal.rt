@@ -65,6 +65,39 @@ fn folder_of(path: &str) -> &str {
     }
 }
 
+/// The names of a volume's files, as its journal has them: DATA's, a zero byte, and HASH's. Of a file it is the last part of its
+/// path, of a link that of the file that it leads to; of a device nothing, since it may be found at another path after a stop.
+pub fn volume_names<R: Files<File = File> + AllocGlobal>(
+    rt: &R,
+    data: &Opened,
+    data_path: &str,
+    hash: &Opened,
+    hash_path: &str,
+) -> Result<String, Failure> {
+    let mut names = name_of(rt, data.identity, data_path)?;
+    names.push('\0')?;
+    names.push_str(&name_of(rt, hash.identity, hash_path)?)?;
+    Ok(names)
+}
+
+/// The name of a file in its folder; of a device nothing.
+fn name_of<R: Files<File = File> + AllocGlobal>(
+    rt: &R,
+    identity: Identity,
+    path: &str,
+) -> Result<String, Failure> {
+    match identity {
+        Identity::File(_, _) => {
+            let path = path_of(rt, path)?;
+            match path.rsplit_once('/') {
+                Some((_, name)) => Ok(String::from_str(rt.alloc(), name)?),
+                None => Ok(path),
+            }
+        }
+        Identity::Device(_) => Ok(String::new(rt.alloc())),
+    }
+}
+
 /// Asks for a folder's entries to be kept.
 fn sync_folder<R: Files<File = File>>(rt: &R, path: &str) -> io::Result<()> {
     File::open(rt, folder_of(path))?.sync_all()
@@ -165,13 +198,14 @@ pub struct Found {
 
 /// Makes the volume that its files stand for, where there is a journal.
 ///
-/// S7 where the journal can't be used, is no journal, or is none of this volume; E6 with the file that failed. `--journal` isn't
-/// understood where it leads to DATA or HASH.
+/// S7 where the journal can't be used, is no journal, or has an open gate and other names than these, or keeps more of a file than
+/// there is; E6 with the file that failed. `--journal` isn't understood where it leads to DATA or HASH.
 pub fn recover_files<R: Files<File = File> + AllocGlobal>(
     rt: &R,
     path: &str,
     data: &Opened,
     hash: &Opened,
+    names: &str,
 ) -> Result<Option<Found>, Failure> {
     let Some(opened) = open_journal(rt, path, Command::Recover)? else {
         return Ok(None);
@@ -180,10 +214,12 @@ pub fn recover_files<R: Files<File = File> + AllocGlobal>(
         return Err(Failure::Word(Word::Journal));
     }
     let bytes = bytes_of(rt.alloc(), &opened)?;
-    let is_open = parse_journal(rt.alloc(), &bytes)?.is_some();
-    if !is_open && is_foreign(&bytes) {
-        return Err(Fault::Journal.into());
-    }
+    let is_open = match parse_journal(rt.alloc(), &bytes)? {
+        Some(plan) if plan.names() != names.as_bytes() => return Err(Fault::Journal.into()),
+        Some(_) => true,
+        None if is_foreign(&bytes) => return Err(Fault::Journal.into()),
+        None => false,
+    };
     let keeper = started(rt.alloc(), data, hash, opened, bytes)?;
     Ok(Some(Found {
         keeper,

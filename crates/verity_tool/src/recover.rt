@@ -1,7 +1,7 @@
 //! The command `recover`: makes whole a commit that a stop cut short.
 
 use crate::edit::open_both;
-use crate::journal::{journal_path, recover_files, remove_journal};
+use crate::journal::{journal_path, recover_files, remove_journal, volume_names};
 use std::fs::File;
 use std::io::Write;
 use std::rt::Files;
@@ -21,7 +21,8 @@ pub fn recover<R: Files<File = File> + AllocGlobal, W: Write>(
     let Some(path) = journal_path(rt, words.journal, hash.identity, words.hash_path)? else {
         return Err(Failure::Word(Word::Journal));
     };
-    let is_recovered = match recover_files(rt, &path, &data, &hash)? {
+    let names = volume_names(rt, &data, words.data_path, &hash, words.hash_path)?;
+    let is_recovered = match recover_files(rt, &path, &data, &hash, &names)? {
         Some(found) => {
             remove_journal(rt, &path);
             found.is_recovered

@@ -39,7 +39,7 @@ returns-clause-any_moment g c =
     c.write_synced.ensures.crash c.in_ok-write_synced.ensures.durable in
     let same : pair_of (g.K.Disks.seen mid) ≡ base = ap pair_of seen in
     let at_rest = staged plan c.args.bytes.now (g.K.Disks.seen old Journal) c.requires.suits.on_data c.requires.suits.on_hash
-    c.requires.data_small c.requires.hash_small c.requires.spelled c.requires.settled.closed in
+    c.requires.data_small c.requires.hash_small c.requires.names_small c.requires.spelled c.requires.settled.closed in
     let gated : IsGated plan (g.K.Disks.seen mid Journal) =
     (at_rest.0, at_rest.1, ap (λ (f : Contents). f Journal) seen ∙ at_rest.2, at_rest.3) in
     let gate : (f : Contents) → Reached Journal (Torn 0 1) (g.K.Disks.may_leave mid) f → P f =
@@ -64,7 +64,7 @@ returns-in_err-write_synced-2-clause-any_moment g c =
     c.write_synced.ensures.crash c.in_ok-write_synced.ensures.durable in
     let same : pair_of (g.K.Disks.seen mid) ≡ base = ap pair_of seen in
     let at_rest = staged plan c.args.bytes.now (g.K.Disks.seen old Journal) c.requires.suits.on_data c.requires.suits.on_hash
-    c.requires.data_small c.requires.hash_small c.requires.spelled c.requires.settled.closed in
+    c.requires.data_small c.requires.hash_small c.requires.names_small c.requires.spelled c.requires.settled.closed in
     let gated : IsGated plan (g.K.Disks.seen mid Journal) =
     (at_rest.0, at_rest.1, ap (λ (f : Contents). f Journal) seen ∙ at_rest.2, at_rest.3) in
     let gate : (f : Contents) → Reached Journal (Torn 0 1) (g.K.Disks.may_leave mid) f → P f =
@@ -89,7 +89,7 @@ returns-clause-ready g c =
     c.write_synced.ensures.crash c.in_ok-write_synced.ensures.durable in
     let same : pair_of (g.K.Disks.seen mid) ≡ base = ap pair_of seen in
     let at_rest = staged plan c.args.bytes.now (g.K.Disks.seen old Journal) c.requires.suits.on_data c.requires.suits.on_hash
-    c.requires.data_small c.requires.hash_small c.requires.spelled c.requires.settled.closed in
+    c.requires.data_small c.requires.hash_small c.requires.names_small c.requires.spelled c.requires.settled.closed in
     let gated : IsGated plan (g.K.Disks.seen mid Journal) =
     (at_rest.0, at_rest.1, ap (λ (f : Contents). f Journal) seen ∙ at_rest.2, at_rest.3) in
     let written = gate_written plan 1 (g.K.Disks.seen mid Journal) gated in
