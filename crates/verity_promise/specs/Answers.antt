@@ -17,15 +17,15 @@ use Rattle.verity_promise.specs.declared.answers.AnswerFault.TheVariants.{Check,
 abbrev pub offer_of : Table → (called : List ℕ) → Offer
 offer_of t called = record { name = called; size = t.data_blocks * t.data_block_size; block = t.data_block_size }
 
-module _ {D H : Type 0} (data_facts : store.Ghosts D) (hash_facts : store.Ghosts H) (t : Table) (d : D) (h : H) where
+module _ {D H : Type 0} (on_data : store.Ghosts D) (on_hash : store.Ghosts H) (t : Table) (d : D) (h : H) where
   -- a verifier of the table line was made over these very stores, and counts what they give, and their failures, from then on
   pub record IsMadeOver (v : Verifying D H) : Type 0 where
     pub table : v.table ≡ t
     pub data_store : v.data_store ≡ d
     pub hash_store : v.hash_store ≡ h
-    pub data_mark : v.data_mark ≡ data_facts.failures d
-    pub hash_mark : v.hash_mark ≡ hash_facts.failures h
-    pub since : v.since ≡ record { of_data = length (data_facts.given d); of_hash = length (hash_facts.given h) }
+    pub data_mark : v.data_mark ≡ on_data.failures d
+    pub hash_mark : v.hash_mark ≡ on_hash.failures h
+    pub since : v.since ≡ record { of_data = length (on_data.given d); of_hash = length (on_hash.given h) }
 
   -- Replies were added to the first of the events. For every image that fits the table line, after each of them the output of
   -- each session is the talk of its own input, by verdicts that are right for the image: its own bytes, unless a store, in a
@@ -35,11 +35,11 @@ module _ {D H : Type 0} (data_facts : store.Ghosts D) (hash_facts : store.Ghosts
     pub made : Verifying D H
     pub left : Verifying D H
     pub over : IsMadeOver made
-    pub reads : IsOnlyReading data_facts hash_facts made left
+    pub reads : IsOnlyReading on_data on_hash made left
     pub added : List (HubReply A)
     pub replies : new ≡ old ++ added
     pub right : (image : List (List ℕ)) → Fits t image
-        → EachAfter (IsRightFor data_facts hash_facts left image) (offer_of t called) [] events added
+        → EachAfter (IsRightFor on_data on_hash left image) (offer_of t called) [] events added
 
   -- No other fault is named. Where no verifier was made, nothing was done; where memory was refused for a reply, the events with
   -- a reply were done and no other.

@@ -15,13 +15,13 @@ use Rattle.verity_promise.specs.declared.edited.Edited.{Edited}
 use Rattle.verity_promise.specs.Answers.{IsMadeOver}
 use Rattle.verity_promise.specs.Delivery.{Serves}
 
-module _ {D H : Type 0} (data_facts : store.Ghosts D) (hash_facts : store.Ghosts H) where
+module _ {D H : Type 0} (on_data : store.Ghosts D) (on_hash : store.Ghosts H) where
   -- the table line has the sizes and the count of the stores, and these values
   pub record IsLine (d : D) (h : H) (start : ℕ) (digest salt : List ℕ) (t : TableLine) : Type 0 where
-    pub data_block_size : t.data_block_size ≡ data_facts.size d
-    pub hash_block_size : t.hash_block_size ≡ hash_facts.size h
-    pub data_blocks : t.data_blocks ≡ length (data_facts.content d)
-    pub sized : AllSized (data_facts.size d) (data_facts.content d)
+    pub data_block_size : t.data_block_size ≡ on_data.size d
+    pub hash_block_size : t.hash_block_size ≡ on_hash.size h
+    pub data_blocks : t.data_blocks ≡ length (on_data.content d)
+    pub sized : AllSized (on_data.size d) (on_data.content d)
     pub hash_start_block : t.hash_start_block ≡ start
     pub algorithm : t.algorithm ≡ algorithm_of digest
     pub root_is : t.root ≡ digest
@@ -34,11 +34,11 @@ module _ {D H : Type 0} (data_facts : store.Ghosts D) (hash_facts : store.Ghosts
     pub root : left.root ≡ e.root
     pub done_is : left.done ≡ done
     pub table : IfSome left.table (λ t. (e.broken ≡ false) × IsLine e.data_store e.hash_store start e.root e.volume.params.salt t)
-    pub fits : e.broken ≡ false → FitsStores data_facts hash_facts e
-    pub stands : e.broken ≡ false → data_facts.tells e.data_store ≡ true → hash_facts.tells e.hash_store ≡ true →
-        Stands data_facts hash_facts e
+    pub fits : e.broken ≡ false → FitsStores on_data on_hash e
+    pub stands : e.broken ≡ false → on_data.tells e.data_store ≡ true → on_hash.tells e.hash_store ≡ true →
+        Stands on_data on_hash e
 
-module _ {D H : Type 0} (data_facts : store.Ghosts D) (hash_facts : store.Ghosts H) (called : List ℕ) (ends : Ends) (limit : ℕ)
+module _ {D H : Type 0} (on_data : store.Ghosts D) (on_hash : store.Ghosts H) (called : List ℕ) (ends : Ends) (limit : ℕ)
     (result : Result (Unit {0}) ServeFault) where
   -- A stream was served under the table line of these stores: right for every image that fits the line, and exact where the
   -- stores hold one.
@@ -48,9 +48,9 @@ module _ {D H : Type 0} (data_facts : store.Ghosts D) (hash_facts : store.Ghosts
     pub table : left.table ≡ Some t
     pub old : Verifying D H
     pub new : Verifying D H
-    pub over : IsMadeOver data_facts hash_facts t left.data_store left.hash_store old
-    pub reads : IsOnlyReading data_facts hash_facts old new
+    pub over : IsMadeOver on_data on_hash t left.data_store left.hash_store old
+    pub reads : IsOnlyReading on_data on_hash old new
     pub right : (image : List (List ℕ)) → Fits t image →
-        Serves data_facts hash_facts called ends limit result t (SaysRight data_facts hash_facts new image)
-    pub exact : (image : List (List ℕ)) → HoldsFor data_facts hash_facts old image
-        → Serves data_facts hash_facts called ends limit result t (SaysExact data_facts hash_facts old new image)
+        Serves on_data on_hash called ends limit result t (SaysRight on_data on_hash new image)
+    pub exact : (image : List (List ℕ)) → HoldsFor on_data on_hash old image
+        → Serves on_data on_hash called ends limit result t (SaysExact on_data on_hash old new image)

@@ -27,7 +27,7 @@ ExplainsUnmade left (unserved.Check fault) = fault ≡ NoMemory
 abbrev pub ends_of : (reader reader' writer writer' : Option (List ℕ)) → Ends
 ends_of reader reader' writer writer' = record { reader = reader; reader' = reader'; writer = writer; writer' = writer' }
 
-module _ {D H : Type 0} (data_facts : store.Ghosts D) (hash_facts : store.Ghosts H) (called : List ℕ) (ends : Ends) (limit : ℕ)
+module _ {D H : Type 0} (on_data : store.Ghosts D) (on_hash : store.Ghosts H) (called : List ℕ) (ends : Ends) (limit : ℕ)
     (result : Result (Unit {0}) ServeFault) where
   -- a stream was served the volume of a table line, where S holds of an input and what is said to it
   abbrev pub Serves : Table → (S : Offer → (input said : List ℕ) → Type 0) → Type 0
@@ -38,24 +38,24 @@ module _ {D H : Type 0} (data_facts : store.Ghosts D) (hash_facts : store.Ghosts
   pub record Delivers {C : Type 0} (A : Type 0) (d : D) (h : H) (offset : ℕ) (commands : List (Command C))
       (old_replies new_replies : List Reply) : Type 0 where
     pub left : Edited D H A
-    pub edited : IsEdited data_facts hash_facts d h offset commands old_replies new_replies left
+    pub edited : IsEdited on_data on_hash d h offset commands old_replies new_replies left
     pub done : left.done ≡ Ok tt
     pub t : Table
     pub table : left.table ≡ Some t
     pub made : Verifying D H
     pub after : Verifying D H
-    pub over : IsMadeOver data_facts hash_facts t left.data_store left.hash_store made
-    pub reads : IsOnlyReading data_facts hash_facts made after
-    pub right : (image : List (List ℕ)) → Fits t image → Serves t (SaysRight data_facts hash_facts after image)
-    pub exact : (data_told : data_facts.tells d ≡ true) (hash_told : hash_facts.tells h ≡ true)
-        → Serves t (SaysExact data_facts hash_facts made after (edited.scratch data_told hash_told).state.edits.committed)
+    pub over : IsMadeOver on_data on_hash t left.data_store left.hash_store made
+    pub reads : IsOnlyReading on_data on_hash made after
+    pub right : (image : List (List ℕ)) → Fits t image → Serves t (SaysRight on_data on_hash after image)
+    pub exact : (data_told : on_data.tells d ≡ true) (hash_told : on_hash.tells h ≡ true)
+        → Serves t (SaysExact on_data on_hash made after (edited.scratch data_told hash_told).state.edits.committed)
 
-module _ {D H C : Type 0} (data_facts : store.Ghosts D) (hash_facts : store.Ghosts H) (d : D) (h : H) (offset : ℕ)
+module _ {D H C : Type 0} (on_data : store.Ghosts D) (on_hash : store.Ghosts H) (d : D) (h : H) (offset : ℕ)
     (commands : List (Command C)) (old_replies new_replies : List Reply) where
   -- Why no client was served.
   abbrev pub ExplainsUnserved : {A : Type 0} → Unserved D H A → Type 0
-  ExplainsUnserved (unserved.Opened r) = IsRefused data_facts hash_facts d h offset r × (new_replies ≡ old_replies)
+  ExplainsUnserved (unserved.Opened r) = IsRefused on_data on_hash d h offset r × (new_replies ≡ old_replies)
   ExplainsUnserved (unserved.Edited left) =
-      IsEdited data_facts hash_facts d h offset commands old_replies new_replies left × ((left.done ≢ Ok tt) ⊎ (left.table ≡ None))
+      IsEdited on_data on_hash d h offset commands old_replies new_replies left × ((left.done ≢ Ok tt) ⊎ (left.table ≡ None))
   ExplainsUnserved {A = A} (unserved.Check fault) =
-      (fault ≡ NoMemory) × ((left : Edited D H A) × IsEdited data_facts hash_facts d h offset commands old_replies new_replies left)
+      (fault ≡ NoMemory) × ((left : Edited D H A) × IsEdited on_data on_hash d h offset commands old_replies new_replies left)

@@ -18,55 +18,54 @@ use Rattle.verity_check.specs.Holds.{Holds}
 use Rattle.verity_check.specs.Verifier.{AreStoresOf}
 use Rattle.verity_promise.specs.declared.edited.Edited.{Edited}
 
-module _ {D H : Type 0} (data_facts : store.Ghosts D) (hash_facts : store.Ghosts H) (d : D) (h : H) (offset : ℕ) where
+module _ {D H : Type 0} (on_data : store.Ghosts D) (on_hash : store.Ghosts H) (d : D) (h : H) (offset : ℕ) where
   -- the blocks in front of the superblock's
   abbrev pub front : List (List ℕ)
-  front = take (offset / hash_facts.size h) (hash_facts.content h)
+  front = take (offset / on_hash.size h) (on_hash.content h)
 
   -- the volume as it was opened
   abbrev pub begun : State
-  begun = record { edits = unedited (data_facts.content d); broken = false }
+  begun = record { edits = unedited (on_data.content d); broken = false }
 
   -- From there on the commands that were done led to this state with the replies that were added; and what is left is made from
   -- scratch of its committed image. A state is broken where a commit was cut short.
   pub record IsFromScratch {A C : Type 0} (p : Params) (done : List (Command C)) (added : List Reply) (left : Edited D H A) : Type 0 where
     pub state : State
     pub after : After (volume_hashing p) p.data_block_size done added begun state
-    pub unfailed : data_facts.failures left.data_store ≡ data_facts.failures d → hash_facts.failures left.hash_store ≡ hash_facts.failures h
+    pub unfailed : on_data.failures left.data_store ≡ on_data.failures d → on_hash.failures left.hash_store ≡ on_hash.failures h
         → (state.broken ≡ false) × All IsUnfailed added
-    pub image : state.broken ≡ false → data_facts.content left.data_store ≡ state.edits.committed
+    pub image : state.broken ≡ false → on_data.content left.data_store ≡ state.edits.committed
     pub device : state.broken ≡ false → list_any is_commit added ≡ true
-        → concat (hash_facts.content left.hash_store) ≡ hash_image p state.edits.committed front
+        → concat (on_hash.content left.hash_store) ≡ hash_image p state.edits.committed front
     pub root : state.broken ≡ false → left.root ≡ root (volume_hashing p) state.edits.committed
     pub table : IfSome left.table (λ t. (state.broken ≡ false)
-        × Holds t (data_facts.tells left.data_store) (data_facts.content left.data_store)
-        (hash_facts.tells left.hash_store) (hash_facts.content left.hash_store) state.edits.committed)
+        × Holds t (on_data.tells left.data_store) (on_data.content left.data_store)
+        (on_hash.tells left.hash_store) (on_hash.content left.hash_store) state.edits.committed)
 
   -- no volume was opened, for this fault, and both stores were only read
   pub record IsRefused (r : OpenRefused D H) : Type 0 where
-    pub fault : ExplainsOpen (presented data_facts hash_facts d h offset) (data_facts.tells d ≡ true) (hash_facts.tells h ≡ true)
-        (data_facts.failures d < data_facts.failures r.data_store) (hash_facts.failures h < hash_facts.failures r.hash_store) r.fault
-    pub data_store : IsOnlyRead data_facts d r.data_store
-    pub hash_store : IsOnlyRead hash_facts h r.hash_store
+    pub fault : ExplainsOpen (presented on_data on_hash d h offset) (on_data.tells d ≡ true) (on_hash.tells h ≡ true)
+        (on_data.failures d < on_data.failures r.data_store) (on_hash.failures h < on_hash.failures r.hash_store) r.fault
+    pub data_store : IsOnlyRead on_data d r.data_store
+    pub hash_store : IsOnlyRead on_hash h r.hash_store
 
   -- A volume at the offset was opened, edited and closed, and replies were added to the first of the commands. Over any stores no
   -- data block is read behind the opening, and the blocks in front stay; `scratch` is over stores that tell.
   pub record IsEdited {A C : Type 0} (commands : List (Command C)) (old new : List Reply) (left : Edited D H A) : Type 0 where
     pub volume : Volume
-    pub is_volume : hash_facts.tells h ≡ true → IsVolume (first_block_in (presented data_facts hash_facts d h offset)) volume
+    pub is_volume : on_hash.tells h ≡ true → IsVolume (first_block_in (presented on_data on_hash d h offset)) volume
     pub added : List Reply
     pub replies : new ≡ old ++ added
     pub few : length added ≤ length commands
     pub all : OnOk left.done (length added ≡ length commands)
     pub data_opened : D
     pub hash_opened : H
-    pub data_read : IsOnlyRead data_facts d data_opened
-    pub hash_read : IsOnlyRead hash_facts h hash_opened
-    pub data_stays : StaysStore data_facts data_opened left.data_store
-    pub hash_stays : StaysStore hash_facts hash_opened left.hash_store
-    pub unread : data_facts.reads left.data_store ≡ data_facts.reads data_opened
-    pub stays_front : (q : ℕ) → q < offset / hash_facts.size h
-        → slice_index_or (hash_facts.content left.hash_store) q [] ≡ slice_index_or (hash_facts.content h) q []
-    pub fits : IfSome left.table (λ t. AreStoresOf data_facts hash_facts t left.data_store left.hash_store)
-    pub scratch : data_facts.tells d ≡ true → hash_facts.tells h ≡ true
-        → IsFromScratch volume.params (take (length added) commands) added left
+    pub data_read : IsOnlyRead on_data d data_opened
+    pub hash_read : IsOnlyRead on_hash h hash_opened
+    pub data_stays : StaysStore on_data data_opened left.data_store
+    pub hash_stays : StaysStore on_hash hash_opened left.hash_store
+    pub unread : on_data.reads left.data_store ≡ on_data.reads data_opened
+    pub stays_front : (q : ℕ) → q < offset / on_hash.size h
+        → slice_index_or (on_hash.content left.hash_store) q [] ≡ slice_index_or (on_hash.content h) q []
+    pub fits : IfSome left.table (λ t. AreStoresOf on_data on_hash t left.data_store left.hash_store)
+    pub scratch : on_data.tells d ≡ true → on_hash.tells h ≡ true → IsFromScratch volume.params (take (length added) commands) added left
