@@ -4,7 +4,7 @@ use Rattle.nbd_session.specs.declared.offer.Offer.{Offer}
 use Rattle.nbd_session.specs.declared.phase.Phase.TheVariants as phase
 use Rattle.nbd_session.specs.declared.status.Status.{Status}
 use Rattle.nbd_session.specs.Talk.{hear, Verdict}
-use Rattle.nbd_session.specs.Export.{Facts, Keeps}
+use Rattle.nbd_session.specs.Export.{Facts}
 use Rattle.nbd_session.proofs.Hearing.{Judged-weaker}
 use Rattle.nbd_hub.specs.declared.events.Event.{Event}
 use Rattle.nbd_hub.specs.declared.events.Event.TheVariants as event
@@ -14,7 +14,6 @@ use Rattle.nbd_hub.specs.declared.fault.HubFault.{HubFault}
 use Rattle.nbd_hub.specs.History.{Step, Feeding, Refusal, step_of, steps, own, opened}
 use Rattle.nbd_hub.specs.Sessions.{HubState}
 use Rattle.nbd_hub.specs.After.{Given, IsTold, IsAfter, Replies, EachAfter, FedAfter}
-use Rattle.nbd_hub.proofs.Steps.{Given-later}
 use Rattle.nbd_hub.proofs.Outcomes.{after_refused}
 
 pub told_weaker : (P Q : ℕ → ℕ → Verdict → Type 0) (offer : Offer) (h : List Step) (k : ℕ) →
@@ -25,23 +24,22 @@ told_weaker P Q offer h k f t = record {
   exact = t.exact;
 }
 
--- what follows from the verdicts' fact follows of each
-pub each_weaker : {A B : Type 0} (P Q : ℕ → ℕ → Verdict → Type 0) (offer : Offer) (h : List Step) (events : List (Event A))
-    (replies : List (HubReply B))
-    → ((o l : ℕ) (v : Verdict) → P o l v → Q o l v) → EachAfter P offer h events replies → EachAfter Q offer h events replies
-each_weaker P Q offer h events [] f e = tt
-each_weaker P Q offer h [] (r ∷ replies) f e = absurd e
-each_weaker P Q offer h (x ∷ events) (r ∷ replies) f e = (
-  e.0,
-  (λ k l. told_weaker P Q offer (h ++ step_of x r ∷ []) k f (e.1 k l)),
-  each_weaker P Q offer (h ++ step_of x r ∷ []) events
-      replies f e.2,
-)
-
-pub each_later : {A B : Type 0} (a b : Facts) (offer : Offer) (h : List Step) (events : List (Event A))
-    (replies : List (HubReply B)) → Keeps a b
-    → EachAfter (Given a) offer h events replies → EachAfter (Given b) offer h events replies
-each_later a b offer h events replies k e = each_weaker (Given a) (Given b) offer h events replies (Given-later a b k) e
+-- what follows at each moment from the verdicts' fact and from what lasts
+pub each_weaker : {X A B : Type 0} (later : X → X → Type 0) (P Q : X → ℕ → ℕ → Verdict → Type 0) (Good : X → Type 0)
+    (lasts : (x y : X) → later x y → Good x → Good y)
+    (f : (x : X) → Good x → (o l : ℕ) (v : Verdict) → P x o l v → Q x o l v)
+    (now last : X) (offer : Offer) (h : List Step) (events : List (Event A)) (replies : List (HubReply B)) → Good now
+    → EachAfter later P now last offer h events replies → EachAfter later Q now last offer h events replies
+each_weaker later P Q Good lasts f now last offer h events [] good e = e
+each_weaker later P Q Good lasts f now last offer h [] (r ∷ replies) good e = absurd e
+each_weaker later P Q Good lasts f now last offer h (x ∷ events) (r ∷ replies) good (next, since, reply, told, rest) =
+    let there = lasts now next since good in (
+      next,
+      since,
+      reply,
+      (λ k l. told_weaker (P next) (Q next) offer (h ++ step_of x r ∷ []) k (f next there) (told k l)),
+      each_weaker later P Q Good lasts f next last offer (h ++ step_of x r ∷ []) events replies there rest,
+    )
 
 pub steps_at : {A B : Type 0} (events : List (Event A)) (replies : List (HubReply B)) (e : Event A) (r : HubReply B) →
     length replies < length events → e ≡ get_or events (length replies) e
@@ -55,40 +53,52 @@ steps_at (x ∷ events) (q ∷ replies) e r l is = ap (λ y. step_of x q ∷ y) 
 abbrev pub AllTold : (ℕ → ℕ → Verdict → Type 0) → Offer → List Step → Type 0
 AllTold P offer h = (k : ℕ) → k < opened h → IsTold P offer h k
 
-pub each_at : {A B : Type 0} (P : ℕ → ℕ → Verdict → Type 0) (offer : Offer) (h : List Step) (events : List (Event A))
-    (replies : List (HubReply B)) (e : Event A) (r : HubReply B)
-    → length replies < length events → e ≡ get_or events (length replies) e → EachAfter P offer h events replies
-    → Replies offer (h ++ steps events replies) e r → AllTold P offer ((h ++ steps events replies) ++ step_of e r ∷ [])
-    → EachAfter P offer h events (replies ++ r ∷ [])
-each_at P offer h [] [] e r l is x y t = absurd (omega arith)
-each_at P offer h [] (q ∷ replies) e r l is x y t = absurd (omega arith)
-each_at {A} {B} P offer h (z ∷ events) [] e r l is x y t =
-    let Q : Event A → List Step → Type 0 = λ w g. Replies offer g w r × AllTold P offer (g ++ step_of w r ∷ []) in
+-- one more event at the last moment
+pub each_at : {X A B : Type 0} (later : X → X → Type 0) (same : (x : X) → later x x)
+    (on : (x y z : X) → later x y → later y z → later x z) (P : X → ℕ → ℕ → Verdict → Type 0) (now mid last : X) (offer : Offer)
+    (h : List Step) (events : List (Event A)) (replies : List (HubReply B)) (e : Event A) (r : HubReply B)
+    → length replies < length events → e ≡ get_or events (length replies) e → later mid last
+    → EachAfter later P now mid offer h events replies
+    → Replies offer (h ++ steps events replies) e r → AllTold (P last) offer ((h ++ steps events replies) ++ step_of e r ∷ [])
+    → EachAfter later P now last offer h events (replies ++ r ∷ [])
+each_at later same on P now mid last offer h [] [] e r l is m x y t = absurd (omega arith)
+each_at later same on P now mid last offer h [] (q ∷ replies) e r l is m x y t = absurd (omega arith)
+each_at {X} {A} {B} later same on P now mid last offer h (z ∷ events) [] e r l is m x y t =
+    let Q : Event A → List Step → Type 0 = λ w g. Replies offer g w r × AllTold (P last) offer (g ++ step_of w r ∷ []) in
     let R : Event A → Type 0 = λ w. Q w (h ++ []) in
     let d = subst (Q z) (append-nil h) (subst R is (y, t)) in
-    (d.0, d.1, tt)
-each_at {A} {B} P offer h (z ∷ events) (q ∷ replies) e r l is x y t =
-    let Q : List Step → Type 0 = λ g. Replies offer g e r × AllTold P offer (g ++ step_of e r ∷ []) in
-    let d = subst Q (sym (append_assoc h (step_of z q ∷ []) (steps events replies))) (y, t) in
-    (x.0, x.1, each_at P offer (h ++ step_of z q ∷ []) events replies e r (omega arith) is x.2 d.0 d.1)
+    (last, on now mid last x m, d.0, d.1, same last)
+each_at {X} {A} {B} later same on P now mid last offer h (z ∷ events) (q ∷ replies) e r l is m (next, since, reply, told, rest) y t =
+    let Q : List Step → Type 0 = λ g. Replies offer g e r × AllTold (P last) offer (g ++ step_of e r ∷ []) in
+    let d = subst Q (sym (append_assoc h (step_of z q ∷ []) (steps events replies))) (y, t) in (
+      next,
+      since,
+      reply,
+      told,
+      each_at later same on P next mid last offer (h ++ step_of z q ∷ []) events replies e r (omega arith) is m rest d.0 d.1,
+    )
 
 -- one more event has its reply
-pub ran_on : {A B : Type 0} (a b : Facts) (offer : Offer) (hub hub' : HubState) (h : List Step) (events : List (Event A))
-    (replies : List (HubReply B)) (e : Event A) (r : HubReply B) → Keeps a b
-    → hub.offer ≡ offer → hub'.offer ≡ hub.offer → length replies < length events → e ≡ get_or events (length replies) e
-    → EachAfter (Given a) offer h events replies × IsAfter a hub (h ++ steps events replies)
-    → ((g : List Step) → IsAfter a hub g → Replies hub.offer g e r)
-    → ((g : List Step) → IsAfter a hub g → IsAfter b hub' (g ++ step_of e r ∷ []))
-    → EachAfter (Given b) offer h events (replies ++ r ∷ []) × IsAfter b hub' (h ++ steps events (replies ++ r ∷ []))
-ran_on a b offer hub hub' h events replies e r keeps o o' l is x p q =
+pub ran_on : {X A B : Type 0} (later : X → X → Type 0) (same : (x : X) → later x x)
+    (on : (x y z : X) → later x y → later y z → later x z) (facts : X → Facts) (now a b : X) (offer : Offer)
+    (hub hub' : HubState) (h : List Step) (events : List (Event A)) (replies : List (HubReply B)) (e : Event A) (r : HubReply B)
+    → later a b → hub.offer ≡ offer → hub'.offer ≡ hub.offer → length replies < length events
+    → e ≡ get_or events (length replies) e
+    → EachAfter later (λ x. Given (facts x)) now a offer h events replies × IsAfter (facts a) hub (h ++ steps events replies)
+    → ((g : List Step) → IsAfter (facts a) hub g → Replies hub.offer g e r)
+    → ((g : List Step) → IsAfter (facts a) hub g → IsAfter (facts b) hub' (g ++ step_of e r ∷ []))
+    → EachAfter later (λ x. Given (facts x)) now b offer h events (replies ++ r ∷ [])
+    × IsAfter (facts b) hub' (h ++ steps events (replies ++ r ∷ []))
+ran_on later same on facts now a b offer hub hub' h events replies e r since o o' l is x p q =
     let g = h ++ steps events replies in
-    let now = q g x.1 in
+    let there = q g x.1 in
     let R : Offer → Type 0 = λ z. Replies z g e r in
-    let T : Offer → Type 0 = λ z. AllTold (Given b) z (g ++ step_of e r ∷ []) in
-    let I : List Step → Type 0 = λ z. IsAfter b hub' z in (
-      each_at (Given b) offer h events replies e r l is (each_later a b offer h events replies keeps x.0) (subst R o (p g x.1))
-          (subst T (o' ∙ o) now.told),
-      subst I (append_assoc h (steps events replies) (step_of e r ∷ []) ∙ ap (λ z. h ++ z) (sym (steps_at events replies e r l is))) now,
+    let T : Offer → Type 0 = λ z. AllTold (Given (facts b)) z (g ++ step_of e r ∷ []) in
+    let I : List Step → Type 0 = λ z. IsAfter (facts b) hub' z in (
+      each_at later same on (λ y. Given (facts y)) now a b offer h events replies e r l is since x.0 (subst R o (p g x.1))
+          (subst T (o' ∙ o) there.told),
+      subst I (append_assoc h (steps events replies) (step_of e r ∷ []) ∙ ap (λ z. h ++ z) (sym (steps_at events replies e r l is)))
+          there,
     )
 
 -- one event, by its outcome

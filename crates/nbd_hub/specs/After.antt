@@ -48,14 +48,15 @@ Replies offer history (event.End id) reply.Closed = IsOpen history id
 Replies offer history (event.End id) (reply.Refused fault.Unknown) = IsOpen history id → ⊥
 Replies offer history e r = ⊥
 
--- After each of the events that have a reply: the reply is right, and each session's output is the talk of its own input.
-abbrev pub EachAfter : {A B : Type 0} → (ℕ → ℕ → Verdict → Type 0) → Offer → List Step → List (Event A) → List (HubReply B) → Type 0
-EachAfter P offer history events [] = Unit {0}
-EachAfter P offer history [] (r ∷ replies) = ⊥
-EachAfter P offer history (e ∷ events) (r ∷ replies) =
-    Replies offer history e r
-    × ((k : ℕ) → k < opened (history ++ step_of e r ∷ []) → IsTold P offer (history ++ step_of e r ∷ []) k)
-    × EachAfter P offer (history ++ step_of e r ∷ []) events replies
+-- After each of the events that have a reply, at a moment that is later than the one before and not after the last: the reply is
+-- right, and each session's output is the talk of its own input, by verdicts of which P holds at that moment.
+abbrev pub EachAfter : {X A B : Type 0} → (X → X → Type 0) → (X → ℕ → ℕ → Verdict → Type 0) → (now last : X)
+    → Offer → List Step → List (Event A) → List (HubReply B) → Type 0
+EachAfter later P now last offer history events [] = later now last
+EachAfter later P now last offer history [] (r ∷ replies) = ⊥
+EachAfter {X = X} later P now last offer history (e ∷ events) (r ∷ replies) = (next : X) × later now next × Replies offer history e r
+    × ((k : ℕ) → k < opened (history ++ step_of e r ∷ []) → IsTold (P next) offer (history ++ step_of e r ∷ []) k)
+    × EachAfter later P next last offer (history ++ step_of e r ∷ []) events replies
 
 -- what is kept of session k: nothing unless it is open, and then it is at its own input
 abbrev pub Stands : List Step → ℕ → Option State → Type 0

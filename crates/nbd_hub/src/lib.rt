@@ -10,7 +10,8 @@
 //! up to the one that starved it), its own output, and which sessions are open. `specs/After.antt` says what it is for
 //! sessions to be after a history (`IsAfter`): each session's output is the talk of its own input, by verdicts of its own
 //! that the export gave. [`Sessions::new`] is after no step; for every history that they were after, each call leaves them
-//! after the longer one. `EachAfter` says the same of each event of a run, at the moment when it was done.
+//! after the longer one. `EachAfter` says the same of each event of a run, by what was given
+//! when it was done, and not later.
 //!
 //! `specs/Stream.antt` says what [`serve`] has read and written at each of its exits (`Served`), where the reader and the
 //! writer tell their bytes.

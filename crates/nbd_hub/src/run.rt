@@ -53,7 +53,7 @@ impl<E: Export, A: Allocator + Copy> Sessions<E, A> {
         // Whatever was done since it was made: each event that has a reply was done, and no other.
         ensures ran { (added : List (HubReply A)) × (replies.new.items ≡ replies.old.items ++ added) × (length added ≤ length events.now)
             × ((history : List Step) → IsAfter (E.facts self.old.1) self.old.0 history
-            → EachAfter (Given (E.facts self.new.1)) self.old.0.offer history events.now added
+            → EachAfter E.later (λ e. Given (E.facts e)) self.old.1 self.new.1 self.old.0.offer history events.now added
             × IsAfter (E.facts self.new.1) self.new.0 (history ++ steps events.now added)) }
     {
         for event in events {

@@ -117,6 +117,12 @@ module _ {D H : Type 0} (data_facts : store.Ghosts D) (hash_facts : store.Ghosts
   given_right v ok image fits offset len (Refused error) (inl e) = inl e.0
   given_right v ok image fits offset len (Refused error) (inr e) = inr e
 
+  -- a verifier that is sound for an image stays so
+  pub good_after : (image : List (List ℕ)) (v w : Verifying D H) → IsOnlyReading data_facts hash_facts v w →
+      IsVerifier data_facts hash_facts v × Fits v.table image → IsVerifier data_facts hash_facts w × Fits w.table image
+  good_after image v w reads (ok, fits) =
+      (verifier_after data_facts hash_facts v w reads ok, subst (λ (t : Table). Fits t image) (sym reads.table) fits)
+
   module _ (v w : Verifying D H) (was : IsVerifier data_facts hash_facts v) (reads : IsOnlyReading data_facts hash_facts v w) where
     ok : IsVerifier data_facts hash_facts w
     ok = verifier_after data_facts hash_facts v w reads was

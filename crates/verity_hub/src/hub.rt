@@ -134,16 +134,17 @@ impl<D: BlockStore, H: BlockStore, A: Allocator + Copy + Drop> Hub<D, H, A> {
         ensures verifier { IsOnlyReading D.BlockStore H.BlockStore self.old.1 self.new.1 }
         ensures all { OnOk result (length replies.new.items ≡ length replies.old.items + length events.now) }
 
-        // Whatever was done since it was made, and for every image that fits the table line.
+        // Whatever was done since it was made, and for every image that fits the table line: at the moment of each event.
         ensures ran { (added : List (HubReply A)) × (replies.new.items ≡ replies.old.items ++ added) × (length added ≤ length events.now)
             × ((history : List Step) → IsAfter (facts_of D.BlockStore H.BlockStore self.old.1) self.old.0 history
-            → EachAfter (Given (facts_of D.BlockStore H.BlockStore self.new.1)) self.old.0.offer history events.now added
+            → EachAfter (IsOnlyReading D.BlockStore H.BlockStore) (λ v. Given (facts_of D.BlockStore H.BlockStore v))
+            self.old.1 self.new.1 self.old.0.offer history events.now added
             × ((image : List (List ℕ)) → Fits self.old.1.table image
-            → EachAfter (IsRightFor D.BlockStore H.BlockStore self.new.1 image) self.old.0.offer history events.now added)
+            → EachAfter (IsOnlyReading D.BlockStore H.BlockStore) (λ v. IsRightFor D.BlockStore H.BlockStore v image)
+            self.old.1 self.new.1 self.old.0.offer history events.now added)
             × IsAfter (facts_of D.BlockStore H.BlockStore self.new.1) self.new.0 (history ++ steps events.now added)) }
     {
-        let result = self.sessions.run(events, replies);
         self.sessions.export().check();
-        result
+        self.sessions.run(events, replies)
     }
 }

@@ -42,7 +42,8 @@ module _ {D H : Type 0} (data_facts : store.Ghosts D) (hash_facts : store.Ghosts
       (reads : IsOnlyReading data_facts hash_facts hub.1 hub'.1)
       (replies : new ≡ old ++ added)
       (ran : IsAfter (facts_of data_facts hash_facts hub.1) hub.0 [] → (image : List (List ℕ)) → Fits hub.1.table image
-      → EachAfter (IsRightFor data_facts hash_facts hub'.1 image) hub.0.offer [] events added) where
+      → EachAfter (IsOnlyReading data_facts hash_facts) (λ x. IsRightFor data_facts hash_facts x image) hub.1 hub'.1 hub.0.offer []
+      events added) where
     pub answered : AreRightAnswers data_facts hash_facts t d h called events old new
     answered = record {
       made = v;
@@ -52,9 +53,12 @@ module _ {D H : Type 0} (data_facts : store.Ghosts D) (hash_facts : store.Ghosts
       added = added;
       replies = replies;
       right = λ image fits.
-          subst (λ o. EachAfter (IsRightFor data_facts hash_facts hub'.1 image) o [] events added) (offer ∙ same_offer v over called)
+          let then = IsOnlyReading data_facts hash_facts in
+          let right = λ x. IsRightFor data_facts hash_facts x image in
+          subst (λ x. EachAfter then right x hub'.1 (offer_of t called) [] events added) same
+          (subst (λ o. EachAfter then right hub.1 hub'.1 o [] events added) (offer ∙ same_offer v over called)
           (ran (subst (λ x. IsAfter (facts_of data_facts hash_facts x) hub.0 []) (sym same) begins) image
-          (subst (λ (x : Table). Fits x image) (sym (ap (λ (x : Verifying D H). x.table) same ∙ over.table)) fits));
+          (subst (λ (x : Table). Fits x image) (sym (ap (λ (x : Verifying D H). x.table) same ∙ over.table)) fits)));
     }
 
 abbrev pub fault_in : AnswerFault → CheckFault

@@ -7,7 +7,7 @@ use Rattle.verity_chain.specs.Table.{Table}
 use Rattle.verity_chain.specs.Right.{Fits}
 use Rattle.verity_check.specs.Verifier.{Verifying, IsOnlyReading, IsVerifier}
 use Rattle.verity_hub.specs.Volume.{facts_of, IsRightFor}
-use Rattle.verity_hub.proofs.VolumeLaws.{given_right}
+use Rattle.verity_hub.proofs.VolumeLaws.{given_right, good_after}
 use Rattle.verity_hub.proofs.hub.Hub.run.Goals as goal
 
 pub returns-clause-ran : goal.returns-clause-ran
@@ -16,24 +16,26 @@ returns-clause-ran g c =
     let H = g.H.BlockStore in
     let events = c.args.events.now in
     let v : HubState × Verifying g.row.D.Denot g.row.H.Denot = c.args.self.now in
-    let w : HubState × Verifying g.row.D.Denot g.row.H.Denot = c.run-result.new.self in
-    let r = c.run-result.ensures.ran in
+    let w : HubState × Verifying g.row.D.Denot g.row.H.Denot = c.run.new.self in
+    let r = c.run.ensures.ran in
+    let then : Verifying g.row.D.Denot g.row.H.Denot → Verifying g.row.D.Denot g.row.H.Denot → Type 0 = IsOnlyReading D H in
     let ran : (history : List Step) → IsAfter (facts_of D H v.1) v.0 history
-    → EachAfter (Given (facts_of D H w.1)) v.0.offer history events r.0 × IsAfter (facts_of D H w.1) w.0 (history ++ steps events r.0) =
+    → EachAfter then (λ x. Given (facts_of D H x)) v.1 w.1 v.0.offer history events r.0
+    × IsAfter (facts_of D H w.1) w.0 (history ++ steps events r.0) =
     subst (λ (x : HubState × Verifying g.row.D.Denot g.row.H.Denot). (history : List Step) → IsAfter (facts_of D H x.1) x.0 history
-    → EachAfter (Given (facts_of D H w.1)) x.0.offer history events r.0 ×
+    → EachAfter then (λ y. Given (facts_of D H y)) x.1 w.1 x.0.offer history events r.0 ×
     IsAfter (facts_of D H w.1) w.0 (history ++ steps events r.0)) c.self.view_is r.3 in
-    let keeps : IsOnlyReading D H v.1 w.1 = subst (λ (x : HubState × Verifying g.row.D.Denot g.row.H.Denot). IsOnlyReading D H x.1
-    w.1) c.self.view_is c.run-result.ensures.later in
-    let ok : IsVerifier D H w.1 = subst (λ x. IsVerifier D H x) c.export.ensures c.check.ensures in (
+    let ok : IsVerifier D H v.1 = subst (λ (x : HubState × Verifying g.row.D.Denot g.row.H.Denot). IsVerifier D H x.1) c.self.view_is
+    (subst (λ x. IsVerifier D H x) c.export.ensures c.check.ensures) in (
       r.0,
       r.1,
       r.2,
       λ history after.
           let e = ran history after in (
             e.0,
-            (λ image fits. each_weaker (Given (facts_of D H w.1)) (IsRightFor D H w.1 image) v.0.offer history events r.0
-                (given_right D H w.1 ok image (subst (λ (t : Table). Fits t image) (sym keeps.table) fits)) e.0),
+            (λ image fits. each_weaker then (λ x. Given (facts_of D H x)) (λ x. IsRightFor D H x image)
+                (λ x. IsVerifier D H x × Fits x.table image) (good_after D H image)
+                (λ x good. given_right D H x good.0 image good.1) v.1 w.1 v.0.offer history events r.0 (ok, fits) e.0),
             e.1,
           ),
     )
