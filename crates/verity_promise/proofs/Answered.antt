@@ -53,10 +53,10 @@ module _ {D H : Type 0} (data_facts : store.Ghosts D) (hash_facts : store.Ghosts
       added = added;
       replies = replies;
       right = λ image fits.
-          let then = IsOnlyReading data_facts hash_facts in
-          let right = λ x. IsRightFor data_facts hash_facts x image in
-          subst (λ x. EachAfter then right x hub'.1 (offer_of t called) [] events added) same
-          (subst (λ o. EachAfter then right hub.1 hub'.1 o [] events added) (offer ∙ same_offer v over called)
+          subst (λ (x : Verifying D H). EachAfter (IsOnlyReading data_facts hash_facts) (λ y. IsRightFor data_facts hash_facts y image)
+          x hub'.1 (offer_of t called) [] events added) same
+          (subst (λ (o : Offer). EachAfter (IsOnlyReading data_facts hash_facts) (λ y. IsRightFor data_facts hash_facts y image)
+          hub.1 hub'.1 o [] events added) (offer ∙ same_offer v over called)
           (ran (subst (λ x. IsAfter (facts_of data_facts hash_facts x) hub.0 []) (sym same) begins) image
           (subst (λ (x : Table). Fits x image) (sym (ap (λ (x : Verifying D H). x.table) same ∙ over.table)) fits)));
     }
