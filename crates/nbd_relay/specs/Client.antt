@@ -16,6 +16,8 @@ use Rattle.nbd_hub.specs.After.{IsAfter, FedAfter}
 use Rattle.nbd_hub.specs.Stream.{HasEnded, Ends, Moved, turn_bytes}
 use Rattle.nbd_relay.specs.declared.client.Turn.{Turn}
 use Rattle.nbd_relay.specs.declared.client.Turn.TheVariants as turn
+use Rattle.nbd_relay.specs.declared.client.Part.{Part}
+use Rattle.nbd_relay.specs.declared.client.Part.TheVariants as part
 
 pub record ClientState : Type 0 where
   -- the number of its session
@@ -90,6 +92,13 @@ Moves old new =
     (length new.unsent < length old.unsent) ⊎ (length new.waiting < length old.waiting) ⊎ (length old.waiting < length new.waiting)
 
 -- the parts of a turn
+
+-- what the next turn of such a client does
+abbrev pub IsPart : ClientState → Part → Type 0
+IsPart client part.Send = 0 < length client.unsent
+IsPart client part.End = (client.unsent ≡ []) × (client.over ≡ true)
+IsPart client part.Feed = (client.unsent ≡ []) × (client.over ≡ false) × (0 < length client.waiting)
+IsPart client part.Read = (client.unsent ≡ []) × (client.over ≡ false) × (client.waiting ≡ [])
 
 -- A piece of what waited was fed where nothing was unsent, or the session is starved.
 pub record Feeds (old_facts new_facts : Facts) (old_hub new_hub : HubState) (old new : ClientState) (result : Turn) : Type 0 where

@@ -13,7 +13,7 @@ ghost use Rattle.nbd_session.specs.Protocol.{longest_reply};
 ghost use Rattle.nbd_hub.specs.History.{Step, Opening, own};
 ghost use Rattle.nbd_hub.specs.Sessions.{lookup, OpensOne, max_open, max_opened};
 ghost use Rattle.nbd_hub.specs.After.{IsAfter};
-ghost use Rattle.nbd_relay.specs.Client.{AsksFor, IsServed, TurnsOn, Sends, Reads, Feeds, ends, input_bytes, IsUnready, Moves};
+ghost use Rattle.nbd_relay.specs.Client.{AsksFor, IsServed, TurnsOn, IsPart, Sends, Reads, Feeds, ends, input_bytes, IsUnready, Moves};
 
 use crate::stream::Stream;
 use nbd_hub::{HubFault, ServeFault, Sessions};
@@ -44,6 +44,19 @@ pub enum Turn {
     Done,
     /// The client is to be left.
     Failed(ServeFault),
+}
+
+/// What a turn does.
+#[derive(Clone, Copy, Debug, PartialEq, Eq)]
+pub(crate) enum Part {
+    /// It sends what is unsent.
+    Send,
+    /// Nothing: all was said, and is sent.
+    End,
+    /// It feeds what waits.
+    Feed,
+    /// It reads.
+    Read,
 }
 
 /// A client: its stream, the number of its session, what was read and not fed, what was said and not sent.
@@ -147,10 +160,24 @@ impl<S: Stream + Drop, A: Allocator> Client<S, A> {
         ensures drained { result ≡ true → self.now.0.unsent ≡ [] }
         ensures feeds { self.now.0.unsent ≡ [] → self.now.0.over ≡ false → 0 < length self.now.0.waiting → result ≡ true }
     {
+        matches!(self.part(), Part::Feed)
+    }
+
+    /// What its next turn does: it feeds where nothing is unsent, and reads where nothing waits either.
+    fn part(&self) -> Part
+        ensures does { IsPart self.now.0 result }
+        ensures waiting { length self.now.0.waiting ≤ input_bytes }
+    {
         if self.sent < self.pending.len() {
-            return false;
+            return Part::Send;
         }
-        !self.over && self.begin < self.end
+        if self.over {
+            return Part::End;
+        }
+        if !self.input[self.begin..self.end].is_empty() {
+            return Part::Feed;
+        }
+        Part::Read
     }
 
     /// How many bytes of the export its next feeding asks for, as [`Sessions::asks`] tells: those of an allowed READ that it
@@ -319,15 +346,11 @@ impl<S: Stream + Drop, A: Allocator> Client<S, A> {
         ensures reads { (0 < length self.old.0.unsent) ⊎ (0 < length self.old.0.waiting) ⊎ (self.old.0.over ≡ true)
             → Keeps (S.remaining self.old.1) (S.remaining self.new.1) }
     {
-        if self.sent < self.pending.len() {
-            return self.send();
+        match self.part() {
+            Part::Send => self.send(),
+            Part::End => Turn::Done,
+            Part::Feed => self.feed(hub),
+            Part::Read => self.receive(),
         }
-        if self.over {
-            return Turn::Done;
-        }
-        if self.begin < self.end {
-            return self.feed(hub);
-        }
-        self.receive()
     }
 }
