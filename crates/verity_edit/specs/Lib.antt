@@ -28,3 +28,4 @@ pub mod Editing
 pub mod Opening
 pub mod Running
 pub mod Exchange
+pub mod Line
