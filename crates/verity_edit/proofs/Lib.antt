@@ -26,3 +26,4 @@ mod CommitLemmas
 mod OpeningLemmas
 mod AnswerLemmas
 mod RunLemmas
+mod LineLemmas
