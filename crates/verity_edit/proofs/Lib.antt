@@ -27,3 +27,6 @@ mod OpeningLemmas
 mod AnswerLemmas
 mod RunLemmas
 mod LineLemmas
+mod LineCommits
+mod LineAnswers
+mod LineLaws

@@ -29,3 +29,4 @@ pub mod Opening
 pub mod Running
 pub mod Exchange
 pub mod Line
+pub mod Lines

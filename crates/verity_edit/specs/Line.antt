@@ -1,5 +1,5 @@
 -- An editor under a trusted table line. The facts of a store of the type S are S.BlockStore.
-use Rattle.std.specs.Prelude.{◌≡◌, ◌⊎◌, ℕ, suc, ◌+◌, ◌-◌, ◌<◌, ◌≤◌, Bool, true, false, List, [], ◌∷◌, length, slice_index_or, Some}
+use Rattle.std.specs.Prelude.{◌≡◌, ◌⊎◌, ℕ, suc, ◌+◌, ◌-◌, ◌^◌, ◌<◌, ◌≤◌, Bool, true, false, List, [], ◌∷◌, length, slice_index_or, Some}
 use Rattle.verity_digest.specs.Hash.{Salted}
 use Rattle.verity_digest.specs.Tree.{root}
 use Rattle.verity_store.specs.declared.store.BlockStore as store
@@ -60,6 +60,7 @@ pub record IsLineEditor {D H : Type 0} (data_facts : store.Ghosts D) (hash_facts
     (e : LineEditing D H) : Type 0 where
   pub salted : hashed_with ≡ salted e.volume.params
   pub behind : 1 ≤ e.table.hash_start_block
+  pub near : e.table.hash_start_block ≤ 2 ^ 40
   pub line : IsLineOf e.table e.volume
   pub fits : e.broken ≡ false → FitsStores data_facts hash_facts (editing_of e)
 

@@ -35,6 +35,7 @@ mod committing;
 mod editor;
 mod fault;
 mod last;
+pub mod laws;
 mod leaves;
 mod level;
 mod levels;
