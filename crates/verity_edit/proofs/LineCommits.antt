@@ -1,7 +1,7 @@
 -- What a commit under a table line leaves.
 use Rattle.std.proofs.Common.{◌≡◌, ℕ, ◌+◌, ◌<◌, ◌≤◌, Bool, true, false, List, [], length, drop, get_or, Option, None, Some, cond}
 use Rattle.std.proofs.Common.{ltb, ◌⊎◌, ⊎_elim, inl, inr, refl, sym, ap, ◌∙◌, subst, arith}
-use Rattle.std.specs.Prelude.{IfSome, unwrap_or, All}
+use Rattle.std.specs.Prelude.{IfSome, unwrap_or, All, Result, Ok, Err, OnOk, IfErr}
 use Rattle.std.proofs.lemmas.Bool.{cases_Bool, true≢false, ltb-true}
 use Rattle.std.proofs.lemmas.List.{length-replicate}
 use Rattle.std.proofs.lemmas.List.Elements.{All-from_get_or, All-get_or}
@@ -20,10 +20,20 @@ use Rattle.verity_edit.specs.Standing.{BeginsWith}
 use Rattle.verity_edit.specs.Planning.{volume_shape, volume_hashing, IsPlan, IsRight}
 use Rattle.verity_edit.specs.Committing.{IsCarriedOut}
 use Rattle.verity_edit.specs.Editing.{FitsStores, Stands, fresh}
-use Rattle.verity_edit.specs.Under.{IsRightUnder}
-use Rattle.verity_edit.specs.Line.{LineEditing, CommitsUnder, HoldsImage, IsLineOf, editing_of}
+use Rattle.verity_edit.specs.declared.fault.EditFault.TheVariants as fault
+use Rattle.verity_edit.specs.declared.under.PlanRefused.{PlanRefused}
+use Rattle.verity_edit.specs.declared.under.PlanRefused.TheVariants.{Untrusted, Fault}
+use Rattle.verity_edit.specs.Under.{ExplainsUncommitted, IsRightUnder, LeavesWhole, fault_under}
+use Rattle.verity_edit.specs.Line.{LineEditing, CommitsUnder, HoldsImage, IsLineOf, IsRefusalUnder, editing_of}
 use Rattle.verity_edit.proofs.Drafts.{at_working, length-working}
 use Rattle.verity_edit.proofs.DeviceLemmas.{device_begins, device_bytes}
+
+-- what is true where something is answered
+pub at_ok : {X E : Type 0} (r : Result X E) (x : X) (P : Type 0) → r ≡ Ok x → OnOk r P → P
+at_ok r x P is h = subst (λ s. OnOk s P) is h
+
+pub at_err : {X E : Type 0} (r : Result X E) (e : E) (P : E → Type 0) → r ≡ Err e → IfErr r P → P e
+at_err r e P is h = subst (λ s. IfErr s P) is h
 
 or_sized : (o : Option (List ℕ)) (other : List ℕ) (size : ℕ) → IfSome o (λ block. length block ≡ size) → length other ≡ size
     → length (unwrap_or o other) ≡ size
@@ -212,3 +222,35 @@ module _ {D H A : Type 0} (data_facts : store.Ghosts D) (hash_facts : store.Ghos
         within = (let len = done.hash_len in omega arith);
         root_size = planned.root_size;
       })))
+
+-- why a commit is refused, in the words of its parts
+pub refused_under : {D H : Type 0} (data_facts : store.Ghosts D) (hash_facts : store.Ghosts H) (old new : LineEditing D H)
+    (why : PlanRefused) → old.broken ≡ false
+    → ExplainsUncommitted data_facts hash_facts old.table (length (hash_facts.given old.hash_store)) old.data_store new.data_store
+    old.hash_store new.hash_store why
+    → LeavesWhole new.broken why → IsRefusalUnder data_facts hash_facts old new (fault_under why)
+refused_under data_facts hash_facts old new (Untrusted level index) sound why whole = (
+  sound,
+  whole,
+  record {
+    is_level = why.0;
+    is_index = why.1;
+    wrong = why.2;
+    data_unfailed = why.3;
+    hash_unfailed = why.4;
+  },
+)
+refused_under data_facts hash_facts old new (Fault fault.NoMemory) sound why whole = (sound, whole, why.0, why.1)
+refused_under data_facts hash_facts old new (Fault (fault.Store w)) sound why whole = (sound, why)
+refused_under data_facts hash_facts old new (Fault fault.OutOfRange) sound why whole = absurd why
+refused_under data_facts hash_facts old new (Fault fault.WrongLength) sound why whole = absurd why
+refused_under data_facts hash_facts old new (Fault fault.TooSmall) sound why whole = absurd why
+refused_under data_facts hash_facts old new (Fault fault.TooLarge) sound why whole = absurd why
+refused_under data_facts hash_facts old new (Fault fault.Broken) sound why whole = absurd why
+refused_under data_facts hash_facts old new (Fault (fault.Mismatch l i)) sound why whole = absurd why
+refused_under data_facts hash_facts old new (Fault (fault.Superblock f)) sound why whole = absurd why
+refused_under data_facts hash_facts old new (Fault fault.DataLength) sound why whole = absurd why
+refused_under data_facts hash_facts old new (Fault (fault.StoreSize w)) sound why whole = absurd why
+refused_under data_facts hash_facts old new (Fault fault.Offset) sound why whole = absurd why
+refused_under data_facts hash_facts old new (Fault fault.Line) sound why whole = absurd why
+refused_under data_facts hash_facts old new (Fault (fault.Untrusted l i)) sound why whole = absurd why

@@ -15,7 +15,7 @@ use crate::editor::OpenRefused;
 use crate::line_opening::find_line;
 use crate::pending::Pending;
 use crate::running::reply_of;
-use crate::under::{commit_under, fault_of_commit};
+use crate::under::{PlanUnder, commit_under, fault_of_commit};
 use std::alloc::{Allocator, Global};
 use std::marker::Model;
 use std::mem;
@@ -248,17 +248,18 @@ impl<D: BlockStore, H: BlockStore, A: Allocator + Copy + Drop> LineEditor<D, H, 
         );
         match made {
             Ok(made) => {
+                let PlanUnder { plan, tree: next } = made;
                 let committed = Committed {
-                    root: made.plan.root,
-                    hashed: made.plan.hashed,
+                    root: plan.root,
+                    hashed: plan.hashed,
                 };
                 pending.settle();
                 let editor = LineEditor {
                     alloc,
                     data_store,
                     hash_store,
-                    tree: made.tree,
-                    superblock: made.plan.superblock,
+                    tree: next,
+                    superblock: plan.superblock,
                     hasher,
                     pending,
                     broken: false,
