@@ -1,0 +1,26 @@
+use Rattle.std.proofs.Common.{◌≡◌, ◌+◌, ◌≤◌, length}
+use Rattle.verity_store.specs.Stores.{IsOnlyRead}
+use Rattle.verity_chain.specs.Stores.{hash_given, IsHashStoreOf}
+use Rattle.verity_chain.specs.Notes.{AreChecked, WereGiven}
+use Rattle.verity_update.specs.Walk.{TakesTo}
+use Rattle.verity_update.proofs.walk.take_blocks.Given as goal
+
+abbrev pub invariant-loop-n : goal.invariant-loop-n
+invariant-loop-n g l = let H = g.H.BlockStore in let N = g.N.BlockStore in record {
+  same : l.tree ≡ l.initial.tree;
+  store : IsHashStoreOf H l.initial.tree l.hash_store;
+  read : IsOnlyRead H l.initial.hash_store l.hash_store;
+  read_new : IsOnlyRead N l.initial.new_store l.new_store;
+  whole : length l.bytes ≡ N.size l.initial.new_store;
+  sized : length l.block ≡ l.initial.tree.hash_block_size;
+  checked : AreChecked l.initial.tree l.notes.items;
+  given : WereGiven H l.since.steps l.hash_store l.notes.items;
+  taken : TakesTo N l.initial.tree (hash_given H l.initial.tree l.since.steps l.hash_store) l.initial.new_store l.new_store l.n
+      (g.E.Edited.working l.initial.edited) (g.E.Edited.working l.edited);
+  unfailed : H.failures l.hash_store ≡ H.failures l.initial.hash_store;
+  new_unfailed : N.failures l.new_store ≡ N.failures l.initial.new_store;
+  reads : N.reads l.new_store ≡ N.reads l.initial.new_store + l.n;
+  content : g.E.Edited.content l.edited ≡ g.E.Edited.content l.initial.edited;
+  data_reads : g.E.Edited.data_reads l.edited ≡ g.E.Edited.data_reads l.initial.edited;
+  most : l.changed ≤ l.n;
+}

@@ -1,0 +1,89 @@
+//! What an update edits.
+ghost use Rattle.std.specs.Prelude.{◌≡◌, ℕ, ◌-◌, ◌++◌, List, length, take, replicate, slice_set, OnOk};
+ghost use Rattle.verity_profile.specs.Profile.{zero_block};
+
+use std::alloc::Allocator;
+use verity_edit::{EditFault, Editor};
+use verity_store::BlockStore;
+
+/// What an update edits: an editor, whichever way it was opened.
+pub trait Edited {
+    /// The working image, where this is the committed one.
+    ghost working: { Self → List (List ℕ) → List (List ℕ) };
+
+    /// How many blocks the working image has.
+    ghost count: { Self → ℕ };
+
+    /// The bytes of a data block.
+    ghost size: { Self → ℕ };
+
+    /// The blocks in the data store.
+    ghost content: { Self → List (List ℕ) };
+
+    /// How many reads were asked of the data store.
+    ghost data_reads: { Self → ℕ };
+
+    /// The working count of data blocks.
+    fn blocks(&self) -> u64
+        ensures value { result ≡ count self.now }
+        ensures length { (image : List (List ℕ)) → length (working self.now image) ≡ count self.now };
+
+    /// Writes a data block of the working image.
+    fn write(&mut self, n: u64, block: &[u8]) -> Result<(), EditFault>
+        ensures done { OnOk result ((image : List (List ℕ)) → working self.new image ≡ slice_set (working self.old image) n block.now) }
+        ensures content { content self.new ≡ content self.old }
+        ensures data_reads { data_reads self.new ≡ data_reads self.old };
+
+    /// Adds zero blocks to the working image, up to this count.
+    fn grow(&mut self, wanted: u64) -> Result<(), EditFault>
+        ensures done { OnOk result ((image : List (List ℕ)) → working self.new image
+            ≡ working self.old image ++ replicate (wanted - length (working self.old image)) (zero_block (size self.old))) }
+        ensures content { content self.new ≡ content self.old }
+        ensures data_reads { data_reads self.new ≡ data_reads self.old };
+
+    /// Drops the blocks of the working image from this count on.
+    fn shrink(&mut self, wanted: u64) -> Result<(), EditFault>
+        ensures done { OnOk result ((image : List (List ℕ)) → working self.new image ≡ take wanted (working self.old image)) }
+        ensures content { content self.new ≡ content self.old }
+        ensures data_reads { data_reads self.new ≡ data_reads self.old };
+
+    /// Drops the edits since the last commit.
+    fn discard(&mut self) -> Result<(), EditFault>
+        ensures done { OnOk result ((image : List (List ℕ)) → length image ≡ count self.new → working self.new image ≡ image) }
+        ensures content { content self.new ≡ content self.old }
+        ensures data_reads { data_reads self.new ≡ data_reads self.old };
+}
+
+impl<D: BlockStore, H: BlockStore, A: Allocator + Copy> Edited for Editor<D, H, A> {
+    ghost use Rattle.verity_edit.specs.Draft.{edits_of};
+
+    ghost working = { λ e image. (edits_of image e.draft).working };
+
+    ghost count = { λ e. e.draft.working };
+
+    ghost size = { λ e. e.draft.size };
+
+    ghost content = { λ e. D.content e.data_store };
+
+    ghost data_reads = { λ e. D.reads e.data_store };
+
+    fn blocks(&self) -> u64 {
+        Editor::blocks(self)
+    }
+
+    fn write(&mut self, n: u64, block: &[u8]) -> Result<(), EditFault> {
+        Editor::write(self, n, block)
+    }
+
+    fn grow(&mut self, wanted: u64) -> Result<(), EditFault> {
+        Editor::grow(self, wanted)
+    }
+
+    fn shrink(&mut self, wanted: u64) -> Result<(), EditFault> {
+        Editor::shrink(self, wanted)
+    }
+
+    fn discard(&mut self) -> Result<(), EditFault> {
+        Editor::discard(self)
+    }
+}
