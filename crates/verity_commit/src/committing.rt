@@ -59,13 +59,14 @@ pub fn commit_editor<K: Disks, D: BlockStore, H: BlockStore, A: Allocator + Copy
 }
 
 /// Commits the pending edits of an editor under a table line over two staged stores, and brings them through the journal to the
-/// devices, which hold the stores below. The editor comes back.
+/// devices, which hold the stores below. The journal has these names of them. The editor comes back.
 ///
 /// An editor's fault, E14 among them, leaves the devices as they were. After a fault of the devices a start comes next, and the
 /// editor is of no more use. What it writes, syncs and takes is as `commit_editor` says.
 pub fn commit_line_editor<K: Disks, D: BlockStore, H: BlockStore, A: Allocator + Copy + Drop>(
     alloc: A,
     keeper: &mut Keeper<K>,
+    names: &[u8],
     editor: LineEditor<Staged<D, A>, Staged<H, A>, A>,
 ) -> (LineEditor<Staged<D, A>, Staged<H, A>, A>, Result<Committed, CommitFault>)
     ensures done { IfOk result.1 (λ committed. CommitsUnder ⟦<Staged<D, A> as BlockStore>⟧ ⟦<Staged<H, A> as BlockStore>⟧
@@ -91,7 +92,13 @@ pub fn commit_line_editor<K: Disks, D: BlockStore, H: BlockStore, A: Allocator +
         Ok(committed) => committed,
         Err(fault) => return (editor, Err(CommitFault::Edit(fault))),
     };
-    match commit_staged(alloc, keeper, editor.data_store(), editor.hash_store()) {
+    match commit_staged(
+        alloc,
+        keeper,
+        names,
+        editor.data_store(),
+        editor.hash_store(),
+    ) {
         Ok(()) => (editor, Ok(committed)),
         Err(fault) => (editor, Err(CommitFault::Disks(fault))),
     }
