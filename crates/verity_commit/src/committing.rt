@@ -68,7 +68,10 @@ pub fn commit_line_editor<K: Disks, D: BlockStore, H: BlockStore, A: Allocator +
     keeper: &mut Keeper<K>,
     names: &[u8],
     editor: LineEditor<Staged<D, A>, Staged<H, A>, A>,
-) -> (LineEditor<Staged<D, A>, Staged<H, A>, A>, Result<Committed, CommitFault>)
+) -> (
+    LineEditor<Staged<D, A>, Staged<H, A>, A>,
+    Result<Committed, CommitFault>,
+)
     ensures done { IfOk result.1 (λ committed. CommitsUnder ⟦<Staged<D, A> as BlockStore>⟧ ⟦<Staged<H, A> as BlockStore>⟧
         editor result.0 committed) }
     ensures refused { IfErr result.1 (ExplainsEdit ⟦<Staged<D, A> as BlockStore>⟧ ⟦<Staged<H, A> as BlockStore>⟧ editor result.0) }

@@ -11,7 +11,8 @@ returns-in-Ok-commit_staged-clause-made g c holds =
     let D = g.D.BlockStore in let H = g.H.BlockStore in let old = c.args.editor in let new = c.commit-editor.result.0 in
     let told = c.commit_staged.ensures in
     c.in-Ok-commit_staged.ensures.made
-    ∙ makes c.args.names.now (pair_of (g.K.Disks.seen c.args.keeper.now.disks)) (D.content old.data_store.store) (H.content old.hash_store.store)
+    ∙ makes c.args.names.now (pair_of (g.K.Disks.seen c.args.keeper.now.disks)) (D.content old.data_store.store)
+    (H.content old.hash_store.store)
     (D.content c.data_store.result.now.store) (H.content c.hash_store.result.now.store) (D.content new.data_store.store)
     (H.content new.hash_store.store) c.data_store.result.now.stage c.hash_store.result.now.stage new.data_store.stage new.hash_store.stage
     holds c.commit-editor.ensures.stays.data_store.fixed c.commit-editor.ensures.stays.hash_store.fixed
