@@ -2,12 +2,11 @@
 use Rattle.std.proofs.Common.{◌≡◌, ℕ, ◌+◌, ◌<◌, ◌≤◌, Bool, true, false, List, [], length, drop, get_or, Option, None, Some, cond}
 use Rattle.std.proofs.Common.{ltb, ◌⊎◌, ⊎_elim, inl, inr, refl, sym, ap, ◌∙◌, subst, arith}
 use Rattle.std.specs.Prelude.{IfSome, unwrap_or, All, Result, Ok, Err, OnOk, IfErr}
-use Rattle.std.proofs.lemmas.Bool.{cases_Bool, true≢false, ltb-true}
+use Rattle.std.proofs.lemmas.Bool.{ltb-true}
 use Rattle.std.proofs.lemmas.List.{length-replicate}
 use Rattle.std.proofs.lemmas.List.Elements.{All-from_get_or, All-get_or}
-use Rattle.verity_digest.specs.Hash.{hashing, size_of}
-use Rattle.verity_digest.specs.Tree.{Hashing, root, tree}
-use Rattle.verity_geometry.specs.Geometry.{total_of}
+use Rattle.verity_digest.specs.Hash.{hashing}
+use Rattle.verity_digest.specs.Tree.{root, tree}
 use Rattle.verity_profile.specs.Profile.{zero_block}
 use Rattle.verity_store.specs.declared.store.BlockStore as store
 use Rattle.verity_superblock.specs.Superblock.{Volume}
@@ -15,11 +14,11 @@ use Rattle.verity_chain.specs.Table.{Table, hashing_of}
 use Rattle.verity_chain.specs.Right.{Fits}
 use Rattle.verity_edit.specs.declared.command.Committed.{Committed}
 use Rattle.verity_edit.specs.declared.planning.CommitPlan.{CommitPlan}
-use Rattle.verity_edit.specs.Draft.{Draft, IsDraft, written_at, block_at, edits_of}
+use Rattle.verity_edit.specs.Draft.{Draft, IsDraft, written_at, edits_of}
 use Rattle.verity_edit.specs.Standing.{BeginsWith}
-use Rattle.verity_edit.specs.Planning.{volume_shape, volume_hashing, IsPlan, IsRight}
+use Rattle.verity_edit.specs.Planning.{volume_hashing, IsPlan, IsRight}
 use Rattle.verity_edit.specs.Committing.{IsCarriedOut}
-use Rattle.verity_edit.specs.Editing.{FitsStores, Stands, fresh}
+use Rattle.verity_edit.specs.Editing.{FitsStores, fresh}
 use Rattle.verity_edit.specs.declared.fault.EditFault.TheVariants as fault
 use Rattle.verity_edit.specs.declared.under.PlanRefused.{PlanRefused}
 use Rattle.verity_edit.specs.declared.under.PlanRefused.TheVariants.{Untrusted, Fault}

@@ -1,6 +1,5 @@
 -- Why a volume isn't opened under a table line.
-use Rattle.std.proofs.Common.{◌≡◌, ◌≤◌, ℕ, List}
-use Rattle.verity_store.specs.declared.fault.Which.{Which}
+use Rattle.std.proofs.Common.{◌≤◌, ℕ, List}
 use Rattle.verity_superblock.specs.Superblock.{Volume}
 use Rattle.verity_chain.specs.Table.{Table}
 use Rattle.verity_edit.specs.declared.fault.EditFault.{EditFault}

@@ -1,15 +1,14 @@
 -- An editor under a trusted table line. The facts of a store of the type S are S.BlockStore.
-use Rattle.std.specs.Prelude.{◌≡◌, ◌⊎◌, ℕ, suc, ◌+◌, ◌-◌, ◌^◌, ◌<◌, ◌≤◌, Bool, true, false, List, [], ◌∷◌, length, slice_index_or, Some}
+use Rattle.std.specs.Prelude.{◌≡◌, ◌⊎◌, ℕ, suc, ◌+◌, ◌-◌, ◌^◌, ◌<◌, ◌≤◌, Bool, true, false, List, [], length, slice_index_or, Some}
 use Rattle.verity_digest.specs.Hash.{Salted}
 use Rattle.verity_digest.specs.Tree.{root}
 use Rattle.verity_store.specs.declared.store.BlockStore as store
 use Rattle.verity_store.specs.declared.fault.Which.TheVariants as which
 use Rattle.verity_store.specs.Stores.{IsOnlyRead}
-use Rattle.verity_store.specs.Given.{GaveSince}
 use Rattle.verity_superblock.specs.Superblock.{Volume, salted}
 use Rattle.verity_superblock.specs.Reading.{refusal}
 use Rattle.verity_chain.specs.Table.{Table, hashing_of, height, row_len, hash_place}
-use Rattle.verity_chain.specs.Chain.{given_by, WrongAt}
+use Rattle.verity_chain.specs.Chain.{WrongAt}
 use Rattle.verity_chain.specs.Right.{Fits, Clash}
 use Rattle.verity_build.specs.Faults.{HasFailed}
 use Rattle.verity_edit.specs.declared.command.Command.{Command}
@@ -18,12 +17,13 @@ use Rattle.verity_edit.specs.declared.command.Committed.{Committed}
 use Rattle.verity_edit.specs.declared.command.Reply.{Reply}
 use Rattle.verity_edit.specs.declared.command.Reply.TheVariants.{Done, Refused, Committed as CommittedReply}
 use Rattle.verity_edit.specs.declared.fault.EditFault.{EditFault}
-use Rattle.verity_edit.specs.declared.fault.EditFault.TheVariants.{NoMemory, Store, Broken, Superblock, DataLength, StoreSize, Line, Untrusted}
+use Rattle.verity_edit.specs.declared.fault.EditFault.TheVariants.{NoMemory, Store, Broken, Superblock, DataLength, StoreSize}
+use Rattle.verity_edit.specs.declared.fault.EditFault.TheVariants.{Line, Untrusted}
 use Rattle.verity_edit.specs.Edits.{unedited}
 use Rattle.verity_edit.specs.Draft.{Draft, edits_of}
 use Rattle.verity_edit.specs.Touched.{bound}
 use Rattle.verity_edit.specs.Editing.{Editing, Commits, FitsStores, IsUnchanged, Stands, Stays, edits_in, fresh, width_in}
-use Rattle.verity_edit.specs.Opening.{IsVolume, FitsVolume, RefusesStores}
+use Rattle.verity_edit.specs.Opening.{IsVolume, RefusesStores}
 use Rattle.verity_edit.specs.Running.{IsEdit, IsFailed, IsMade, IsRuled, IsStarved}
 use Rattle.verity_edit.specs.Under.{IsLineFor, line_given}
 

@@ -1,11 +1,11 @@
-use Rattle.std.proofs.Common.{◌≡◌, ⊎_elim, inl, inr, refl, sym, ap, ◌∙◌, subst}
+use Rattle.std.proofs.Common.{◌≡◌, ⊎_elim, inl, inr, sym, ap, ◌∙◌, subst}
 use Rattle.std.proofs.lemmas.Result.{IfErr-weaker, on_ok_weaker}
 use Rattle.verity_edit.specs.declared.command.Command.{Command}
 use Rattle.verity_edit.specs.declared.command.Command.TheVariants.{Write, Grow, Shrink}
 use Rattle.verity_edit.specs.declared.command.Reply.{Reply}
 use Rattle.verity_edit.specs.Running.{reply_to}
 use Rattle.verity_edit.specs.Line.{IsAnsweredUnder}
-use Rattle.verity_edit.proofs.LineAnswers.{edited_under, discarded_under, committed_under, uncommitted_under}
+use Rattle.verity_edit.proofs.LineAnswers.{edited_under, discarded_under}
 use Rattle.verity_edit.proofs.line.LineEditor.answer.Goals as goal
 
 pub returns-in-Write : goal.returns-in-Write
@@ -16,7 +16,8 @@ returns-in-Write g c =
     let old = c.args.self in
     let new = c.write-done.new.self in
     subst (λ (r : Reply). IsAnsweredUnder g.D.BlockStore g.H.BlockStore c.args.command.now old new r) (sym c.reply_of.ensures)
-    (subst (λ (command : Command g.row.C.Denot). IsAnsweredUnder g.D.BlockStore g.H.BlockStore command old new (reply_to c.write-done.result))
+    (subst (λ (command : Command g.row.C.Denot). IsAnsweredUnder g.D.BlockStore g.H.BlockStore command old new
+    (reply_to c.write-done.result))
     (sym is)
     (edited_under g.D.BlockStore g.H.BlockStore one old new c.write-done.result
     (on_ok_weaker c.write-done.result (λ done image _. done image) c.write-done.ensures.done) c.write-done.ensures.passed
@@ -29,12 +30,13 @@ returns-in-Grow g c =
     let old = c.args.self in
     let new = c.grow-done.new.self in
     subst (λ (r : Reply). IsAnsweredUnder g.D.BlockStore g.H.BlockStore c.args.command.now old new r) (sym c.reply_of-in-Grow.ensures)
-    (subst (λ (command : Command g.row.C.Denot). IsAnsweredUnder g.D.BlockStore g.H.BlockStore command old new (reply_to c.grow-done.result))
+    (subst (λ (command : Command g.row.C.Denot). IsAnsweredUnder g.D.BlockStore g.H.BlockStore command old new
+    (reply_to c.grow-done.result))
     (sym c.in-Grow.is)
     (edited_under g.D.BlockStore g.H.BlockStore one old new c.grow-done.result
     (on_ok_weaker c.grow-done.result (λ done image _. done image) c.grow-done.ensures.done) c.grow-done.ensures.passed
-    (IfErr-weaker c.grow-done.result _ _ (λ fault why. inl why) c.grow-done.ensures.refused) c.grow-done.ensures.unchanged c.grow-done.ensures.only
-    c.grow-done.ensures.size tt))
+    (IfErr-weaker c.grow-done.result _ _ (λ fault why. inl why) c.grow-done.ensures.refused) c.grow-done.ensures.unchanged
+    c.grow-done.ensures.only c.grow-done.ensures.size tt))
 
 pub returns-in-Shrink : goal.returns-in-Shrink
 returns-in-Shrink g c =

@@ -1,4 +1,4 @@
-use Rattle.std.proofs.Common.{◌≡◌, ℕ, ◌+◌, true, false, List, length, sym, ap, ◌∙◌, refl, subst}
+use Rattle.std.proofs.Common.{◌≡◌, ℕ, ◌+◌, true, false, length, sym, ap, subst}
 use Rattle.verity_superblock.specs.Superblock.{Volume}
 use Rattle.verity_chain.specs.Table.{Table}
 use Rattle.verity_edit.specs.declared.command.Committed.{Committed}
@@ -8,7 +8,7 @@ use Rattle.verity_edit.specs.Draft.{Draft}
 use Rattle.verity_edit.specs.Planning.{IsPlan, IsRight}
 use Rattle.verity_edit.specs.Committing.{IsCarriedOut}
 use Rattle.verity_edit.specs.Editing.{Stays}
-use Rattle.verity_edit.specs.Under.{ExplainsUncommitted, IsRightUnder, LeavesWhole, fault_under}
+use Rattle.verity_edit.specs.Under.{ExplainsUncommitted, IsRightUnder, LeavesWhole}
 use Rattle.verity_edit.specs.Line.{LineEditing, CommitsUnder, IsRefusalUnder, editing_of}
 use Rattle.verity_edit.proofs.Frames.{stays_of}
 use Rattle.verity_edit.proofs.UnderLemmas.{from_ok}

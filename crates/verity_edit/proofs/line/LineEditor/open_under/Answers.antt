@@ -1,8 +1,8 @@
-use Rattle.std.proofs.Common.{◌≡◌, ℕ, length, arith, refl, sym, ap, ◌∙◌, subst}
+use Rattle.std.proofs.Common.{◌≡◌, length, arith, refl, sym, ap, ◌∙◌}
 use Rattle.verity_digest.specs.Hash.{size_of}
 use Rattle.verity_geometry.specs.Geometry.{total_of}
 use Rattle.verity_superblock.specs.Superblock.{Volume}
-use Rattle.verity_chain.specs.Table.{Table, shape_of, tree_len}
+use Rattle.verity_chain.specs.Table.{Table, tree_len}
 use Rattle.verity_edit.specs.Draft.{edits_of}
 use Rattle.verity_edit.specs.Planning.{volume_shape}
 use Rattle.verity_edit.specs.Editing.{fresh}
