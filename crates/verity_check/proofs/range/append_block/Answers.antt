@@ -1,4 +1,4 @@
-use Rattle.std.proofs.Common.{arith, ap, ◌∙◌, ◌++◌}
+use Rattle.std.proofs.Common.{arith}
 use Rattle.verity_check.proofs.RangeLemmas.{refused_here}
 use Rattle.verity_check.proofs.range.append_block.Goals as goal
 
@@ -6,12 +6,5 @@ pub returns-then-is_err-clause-memory : goal.returns-then-is_err-clause-memory
 returns-then-is_err-clause-memory g c = λ _.
     omega (arith, refused_here c.reserve.result _ c.reserve.ensures.full c.if-is_err.ensures.value, c.requires.data_whole)
 
-pub returns-clause-ok : goal.returns-clause-ok
-returns-clause-ok g c = (
-  c.read_checked.new.data_block,
-  c.in-Ok.ensures.items ∙ ap (λ o. o ++ c.read_checked.new.data_block) c.reserve.ensures.items,
-  c.in_ok-read_checked.ensures.ok,
-)
-
 pub returns-clause-data_reads : goal.returns-clause-data_reads
-returns-clause-data_reads g c = c.in_ok-read_checked.ensures.data_reads
+returns-clause-data_reads g c = c.read_checked.ensures.data_reads
