@@ -165,7 +165,7 @@ fn answer_of(done: Result<Committed, Fault>) -> Result<Answer, Failure> {
 }
 
 /// Commits, and brings what was committed to the files. E6 with the store that hasn't room for it, and then nothing is changed.
-fn commit<D: BlockStore, H: BlockStore, C: Commits<D, H>>(
+pub fn commit<D: BlockStore, H: BlockStore, C: Commits<D, H>>(
     editor: &mut Editor<D, H>,
     commits: &mut C,
     devices: Devices<'_>,
