@@ -5,6 +5,7 @@ use Rattle.verity_store.specs.declared.store.BlockStore as store
 use Rattle.verity_journal.specs.Disks.{Contents}
 use Rattle.verity_journal.specs.Journal.{Pair, pair_of, volume}
 use Rattle.verity_edit.specs.declared.command.Committed.{Committed}
+use Rattle.verity_edit.specs.Line.{LineEditing, IsRefusalUnder}
 use Rattle.verity_commit.specs.declared.fault.CommitFault.{CommitFault}
 use Rattle.verity_commit.specs.declared.fault.CommitFault.TheVariants as fault
 
@@ -13,6 +14,11 @@ abbrev pub IsEdit : Result Committed CommitFault → Type 0
 IsEdit (Ok committed) = ⊥
 IsEdit (Err (fault.Edit e)) = ⊤
 IsEdit (Err (fault.Disks e)) = ⊥
+
+-- what an editor under a table line refused, and why
+abbrev pub ExplainsEdit : {D H : Type 0} → store.Ghosts D → store.Ghosts H → (old new : LineEditing D H) → CommitFault → Type 0
+ExplainsEdit data_facts hash_facts old new (fault.Edit e) = IsRefusalUnder data_facts hash_facts old new e
+ExplainsEdit data_facts hash_facts old new (fault.Disks e) = ⊤
 
 -- the devices hold these two stores
 abbrev pub Holds : {D H : Type 0} → store.Ghosts D → store.Ghosts H → D → H → Contents → Type 0

@@ -1,14 +1,15 @@
 //! A commit of an editor through a journal.
-ghost use Rattle.std.specs.Prelude.{◌≡◌, ◌⊎◌, true, IfOk, OnOk};
+ghost use Rattle.std.specs.Prelude.{◌≡◌, ◌⊎◌, true, IfErr, IfOk, OnOk};
 ghost use Rattle.std.specs.List.{concat};
 ghost use Rattle.verity_journal.specs.Disks.{LeavesOnly};
 ghost use Rattle.verity_journal.specs.Journal.{pair_of, volume};
 ghost use Rattle.verity_edit.specs.Editing.{Commits, Stays};
-ghost use Rattle.verity_commit.specs.Committing.{IsEdit, Holds, IsOneOf};
+ghost use Rattle.verity_edit.specs.Line.{CommitsUnder, editing_of};
+ghost use Rattle.verity_commit.specs.Committing.{IsEdit, ExplainsEdit, Holds, IsOneOf};
 
 use crate::CommitFault;
 use std::alloc::Allocator;
-use verity_edit::{Committed, Editor};
+use verity_edit::{Committed, Editor, LineEditor};
 use verity_journal::{Disks, Keeper};
 use verity_stage::{Staged, commit_staged};
 use verity_store::BlockStore;
@@ -47,5 +48,47 @@ pub fn commit_editor<K: Disks, D: BlockStore, H: BlockStore, A: Allocator + Copy
     match commit_staged(alloc, keeper, editor.data_store(), editor.hash_store()) {
         Ok(()) => Ok(committed),
         Err(fault) => Err(CommitFault::Disks(fault)),
+    }
+}
+
+/// Commits the pending edits of an editor under a table line over two staged stores, and brings them through the journal to the
+/// devices, which hold the stores below. The editor comes back.
+///
+/// An editor's fault, E14 among them, leaves the devices as they were. After a fault of the devices a start comes next, and the
+/// editor is of no more use. What it writes, syncs and takes is as `commit_editor` says.
+pub fn commit_line_editor<K: Disks, D: BlockStore, H: BlockStore, A: Allocator + Copy + Drop>(
+    alloc: A,
+    keeper: &mut Keeper<K>,
+    editor: LineEditor<Staged<D, A>, Staged<H, A>, A>,
+) -> (
+    LineEditor<Staged<D, A>, Staged<H, A>, A>,
+    Result<Committed, CommitFault>,
+)
+    ensures done { IfOk result.1 (λ committed. CommitsUnder ⟦<Staged<D, A> as BlockStore>⟧ ⟦<Staged<H, A> as BlockStore>⟧
+        editor result.0 committed) }
+    ensures refused { IfErr result.1 (ExplainsEdit ⟦<Staged<D, A> as BlockStore>⟧ ⟦<Staged<H, A> as BlockStore>⟧ editor result.0) }
+    ensures made { OnOk result.1 (Holds D.BlockStore H.BlockStore editor.data_store.store editor.hash_store.store
+        (K.seen keeper.old.disks) → pair_of (K.seen keeper.new.disks) ≡ (
+          concat (⟦<Staged<D, A> as BlockStore>⟧.content result.0.data_store),
+          concat (⟦<Staged<H, A> as BlockStore>⟧.content result.0.hash_store),
+        )) }
+    ensures any_moment { Holds D.BlockStore H.BlockStore editor.data_store.store editor.hash_store.store (K.seen keeper.old.disks)
+        → keeper.old.is_settled ≡ true → IsEdit result.1 ⊎ LeavesOnly K.moment K.left_since keeper.old.disks keeper.new.disks
+        (IsOneOf (pair_of (K.seen keeper.old.disks)) (
+          concat (⟦<Staged<D, A> as BlockStore>⟧.content result.0.data_store),
+          concat (⟦<Staged<H, A> as BlockStore>⟧.content result.0.hash_store),
+        )) }
+    ensures settled { OnOk result.1 (keeper.new.is_settled ≡ true) }
+    ensures untouched { IsEdit result.1 → keeper.new ≡ keeper.old }
+    ensures stays { Stays ⟦<Staged<D, A> as BlockStore>⟧ ⟦<Staged<H, A> as BlockStore>⟧ (editing_of editor) (editing_of result.0) }
+{
+    let (editor, committed) = editor.commit();
+    let committed = match committed {
+        Ok(committed) => committed,
+        Err(fault) => return (editor, Err(CommitFault::Edit(fault))),
+    };
+    match commit_staged(alloc, keeper, editor.data_store(), editor.hash_store()) {
+        Ok(()) => (editor, Ok(committed)),
+        Err(fault) => (editor, Err(CommitFault::Disks(fault))),
     }
 }

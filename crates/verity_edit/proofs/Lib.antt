@@ -26,3 +26,7 @@ mod CommitLemmas
 mod OpeningLemmas
 mod AnswerLemmas
 mod RunLemmas
+mod LineLemmas
+mod LineCommits
+mod LineAnswers
+mod LineLaws

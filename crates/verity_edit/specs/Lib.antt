@@ -28,3 +28,5 @@ pub mod Editing
 pub mod Opening
 pub mod Running
 pub mod Exchange
+pub mod Line
+pub mod Lines

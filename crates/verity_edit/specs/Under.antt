@@ -1,5 +1,5 @@
 -- A commit under a trusted table line. The facts of a store of the type S are S.BlockStore.
-use Rattle.std.specs.Prelude.{◌≡◌, ℕ, suc, ◌<◌, ◌⊎◌, List, Option, Some, None}
+use Rattle.std.specs.Prelude.{◌≡◌, ℕ, suc, ◌<◌, ◌⊎◌, Bool, false, List, Option, Some, None}
 use Rattle.verity_digest.specs.Tree.{root}
 use Rattle.verity_geometry.specs.Geometry.{levels_of}
 use Rattle.verity_store.specs.declared.store.BlockStore as store
@@ -63,6 +63,17 @@ refusal_of (Some (refused.Mismatch level index)) f = Untrusted level index
 refusal_of (Some refused.Store) f = Fault (fault.Store which.Hash)
 refusal_of (Some refused.NoMemory) f = Fault fault.NoMemory
 refusal_of None f = Fault f
+
+-- after these refusals nothing was changed, and the flag `broken` isn't raised
+abbrev pub LeavesWhole : Bool → PlanRefused → Type 0
+LeavesWhole broken (Untrusted level index) = broken ≡ false
+LeavesWhole broken (Fault fault.NoMemory) = broken ≡ false
+LeavesWhole broken (Fault _) = Unit {0}
+
+-- the answer of a commit
+abbrev pub fault_under : PlanRefused → EditFault
+fault_under (Untrusted level index) = fault.Untrusted level index
+fault_under (Fault f) = f
 
 -- why nothing was committed: as for a plan; or a store failed
 abbrev pub ExplainsUncommitted : {D H : Type 0} → store.Ghosts D → store.Ghosts H → Table → ℕ → (d d' : D) (h h' : H) → PlanRefused → Type 0

@@ -14,19 +14,21 @@
 //!
 //! Over any stores each reply of `answer` says what it means (`IsAnswered`), and `run` is the chain of such records.
 //!
-//! A commit under a trusted table line (`under`) checks each old hash block from the root down before it is used. No public call
-//! makes one yet.
+//! A [`LineEditor`] is opened under a trusted table line, and trusts nothing else that its stores hold: it reads the superblock's
+//! block alone, and a commit (`under`) checks each old hash block from the line's root down before it is used and before the first
+//! change. Over any stores the root that it answers is that of the edited image, for every image that fits the line, or the hash
+//! store gave a block that differs from the image's own and has its digest; [`laws`] has what that says of a chain of lines.
 //!
 //! The errors are those of [`EditFault`], E1 to E14. A refused call changes nothing, but for a commit of which a store failed
 //! after its first change: the editor is then broken, and all but the getters and `close` answers E7.
 //!
 //! The definitions stand in `specs/`: `Edits` (images, edits and what refuses them), `After` (commands and replies), `Touched`
 //! (the touched hash blocks and their bound), `Editing` (what a contract sees of an editor, and what a commit leaves),
-//! `Opening` (when a volume is opened), `Faults` (what a failure of a store is answered by), `Running` (commands and lists of
-//! them); the others are of the way to them: `Draft` (pending edits), `Plan`, `Planning`, `Level`, `Making` (hash blocks made
-//! again), `Seen` (what a store shows of what it holds), `Under` (a commit under a table line), `Levels`, `Written`, `Carried`,
-//! `Committing` (what is changed). What calls leave of a store is said once, by the
-//! records of `verity_store` `Stores`.
+//! `Opening` (when a volume is opened), `Line` and `Lines` (the same under a table line, and chains of lines), `Faults` (what a
+//! failure of a store is answered by), `Running` (commands and lists of them); the others are of the way to them: `Draft` (pending
+//! edits), `Plan`, `Planning`, `Level`, `Making` (hash blocks made again), `Seen` (what a store shows of what it holds), `Under` (a
+//! commit under a table line), `Levels`, `Written`, `Carried`, `Committing` (what is changed). What calls leave of a store is said
+//! once, by the records of `verity_store` `Stores`.
 #![tactic(auto)]
 
 mod change;
@@ -35,9 +37,12 @@ mod committing;
 mod editor;
 mod fault;
 mod last;
+pub mod laws;
 mod leaves;
 mod level;
 mod levels;
+mod line;
+mod line_opening;
 mod made;
 mod opening;
 mod pending;
@@ -51,3 +56,4 @@ mod writes;
 pub use command::{Command, Committed, Reply};
 pub use editor::{Editor, OpenRefused};
 pub use fault::EditFault;
+pub use line::LineEditor;

@@ -13,13 +13,14 @@ ghost use Rattle.verity_edit.specs.Planning.{IsPlan, IsRight};
 
 use crate::EditFault;
 use crate::committing::{carry_out, reserve_both};
+use crate::line_opening::tree_of;
 use crate::pending::Pending;
 use crate::planning::{CommitPlan, plan_commit, zeros};
 use std::alloc::Allocator;
 use verity_chain::{Checked, ReadRefused, Tree};
-use verity_digest::{Digest, Hasher};
+use verity_digest::{Digest, Hasher, Salt};
 use verity_store::{BlockStore, Which};
-use verity_superblock::Superblock;
+use verity_superblock::{Superblock, Table};
 
 /// Why there is no plan.
 #[derive(Clone, Copy, Debug)]
@@ -35,7 +36,8 @@ pub enum PlanRefused {
     Fault(EditFault),
 }
 
-ghost use Rattle.verity_edit.specs.Under.{IsLineFor, IsRightUnder, ExplainsUnplanned, ExplainsUncommitted, refusal_of};
+ghost use Rattle.verity_edit.specs.Under.{IsLineFor, IsRightUnder, ExplainsUnplanned, ExplainsUncommitted};
+ghost use Rattle.verity_edit.specs.Under.{LeavesWhole, refusal_of, fault_under};
 
 /// Why there is no plan, where a read was refused for this reason, or none was.
 fn refused_for(refusal: Option<ReadRefused>, fault: EditFault) -> PlanRefused
@@ -141,9 +143,49 @@ pub fn plan_under<H: BlockStore, A: Allocator + Copy + Drop>(
     (tree, hash_store, planned)
 }
 
-/// Commits the pending edits to both stores under a table line: plans, makes room, raises the flag `broken`, and changes the
-/// stores. On success the flag is still raised, and whoever called lowers it. The tree, which is the old one, and the hash store
-/// come back.
+/// A commit under a table line.
+#[derive(Drop)]
+pub struct PlanUnder<A: Allocator> {
+    /// What was planned.
+    pub plan: CommitPlan<A>,
+    /// The tree of the new line.
+    pub tree: Tree<A>,
+}
+
+/// The tree of the line with another count and root. It takes memory for the paths and for two salts. E5.
+fn next_tree<A: Allocator + Copy>(
+    alloc: A,
+    tree: &Tree<A>,
+    data_blocks: u64,
+    root: Digest,
+) -> Result<Tree<A>, EditFault>
+    requires root_size { length root ≡ size_of tree.now.algorithm }
+    ensures value { IfOk result (λ next. next ≡ record tree.now { data_blocks = data_blocks; root = root }) }
+    ensures fault { IfErr result (λ fault. fault ≡ EditFault.NoMemory) }
+{
+    let old = tree.table();
+    let Ok(salt) = Salt::new(alloc, old.salt().bytes()) else {
+        return Err(EditFault::NoMemory);
+    };
+    let Ok(table) = Table::new(
+        alloc,
+        old.dev(),
+        old.hash_dev(),
+        old.data_block_size(),
+        old.hash_block_size(),
+        data_blocks,
+        old.hash_start_block(),
+        root,
+        salt,
+    ) else {
+        return Err(EditFault::NoMemory);
+    };
+    tree_of(alloc, table)
+}
+
+/// Commits the pending edits to both stores under a table line: plans, makes the tree of the new line and room, raises the flag
+/// `broken`, and changes the stores. On success the flag is still raised, and whoever called lowers it. The tree, which is the
+/// old one, and the hash store come back.
 pub fn commit_under<D: BlockStore, H: BlockStore, A: Allocator + Copy + Drop>(
     alloc: A,
     tree: Tree<A>,
@@ -153,7 +195,7 @@ pub fn commit_under<D: BlockStore, H: BlockStore, A: Allocator + Copy + Drop>(
     pending: &Pending<A>,
     superblock: &Superblock<A>,
     broken: &mut bool,
-) -> (Tree<A>, H, Result<CommitPlan<A>, PlanRefused>)
+) -> (Tree<A>, H, Result<PlanUnder<A>, PlanRefused>)
     requires sound { broken.old ≡ false }
     requires line { IsLineFor tree superblock.now tree.hash_start_block tree.root }
     requires can { CanCommit D.BlockStore H.BlockStore superblock.now pending.now tree.hash_start_block tree.root
@@ -162,14 +204,18 @@ pub fn commit_under<D: BlockStore, H: BlockStore, A: Allocator + Copy + Drop>(
     ensures same { result.0 ≡ tree }
     ensures done { OnOk result.2 (IsCarriedOut D.BlockStore H.BlockStore superblock.now pending.now tree.hash_start_block tree.root
         data_store.old data_store.new hash_store result.1) }
-    ensures plan { IfOk result.2 (λ plan. IsPlan superblock.now pending.now tree.hash_start_block tree.root plan) }
-    ensures right { IfOk result.2 (λ plan. IsRightUnder H.BlockStore tree (length (H.given hash_store)) result.1
-        superblock.now pending.now tree.hash_start_block plan) }
+    ensures plan { IfOk result.2 (λ made. IsPlan superblock.now pending.now tree.hash_start_block tree.root made.plan) }
+    ensures next { IfOk result.2 (λ made. made.tree ≡ record tree { data_blocks = pending.now.working; root = made.plan.root }) }
+    ensures right { IfOk result.2 (λ made. IsRightUnder H.BlockStore tree (length (H.given hash_store)) result.1
+        superblock.now pending.now tree.hash_start_block made.plan) }
+    ensures told { IfOk result.2 (λ made. H.tells hash_store ≡ true
+        → IsRight superblock.now pending.now tree.hash_start_block tree.root (H.content hash_store) made.plan) }
     ensures refused { IfErr result.2 (ExplainsUncommitted D.BlockStore H.BlockStore tree (length (H.given hash_store)) data_store.old
         data_store.new hash_store result.1) }
+    ensures whole { IfErr result.2 (LeavesWhole broken.new) }
     ensures unfailed { OnOk result.2 ((D.failures data_store.new ≡ D.failures data_store.old)
         × (H.failures result.1 ≡ H.failures hash_store)) }
-    ensures counts { IfOk result.2 (λ plan. hasher.new.hashed ≡ hasher.old.hashed + plan.hashed) }
+    ensures counts { IfOk result.2 (λ made. hasher.new.hashed ≡ hasher.old.hashed + made.plan.hashed) }
     ensures salted { hasher.new.salted ≡ hasher.old.salted }
     ensures unchanged { OnErr result.2 (broken.new ≡ false
         → (D.content data_store.new ≡ D.content data_store.old) × (H.content result.1 ≡ H.content hash_store)) }
@@ -193,6 +239,13 @@ pub fn commit_under<D: BlockStore, H: BlockStore, A: Allocator + Copy + Drop>(
         Ok(plan) => plan,
         Err(why) => return (tree, hash_store, Err(why)),
     };
+    let Ok(next) = next_tree(alloc, &tree, pending.blocks(), plan.root) else {
+        return (
+            tree,
+            hash_store,
+            Err(PlanRefused::Fault(EditFault::NoMemory)),
+        );
+    };
     let mut hash_store = hash_store;
     let hash_blocks = first + plan.change.new.total();
     if reserve_both(data_store, &mut hash_store, pending.blocks(), hash_blocks).is_err() {
@@ -211,11 +264,21 @@ pub fn commit_under<D: BlockStore, H: BlockStore, A: Allocator + Copy + Drop>(
         &mut block,
         broken,
     ) {
-        Ok(()) => (tree, hash_store, Ok(plan)),
+        Ok(()) => (tree, hash_store, Ok(PlanUnder { plan, tree: next })),
         Err(which) => (
             tree,
             hash_store,
             Err(PlanRefused::Fault(EditFault::Store(which))),
         ),
+    }
+}
+
+/// The answer where nothing was committed.
+pub fn fault_of_commit(why: PlanRefused) -> EditFault
+    ensures { result ≡ fault_under why }
+{
+    match why {
+        PlanRefused::Untrusted { level, index } => EditFault::Untrusted { level, index },
+        PlanRefused::Fault(fault) => fault,
     }
 }

@@ -1,15 +1,15 @@
 //! The command `edit`: does a script's lines over a volume.
 
 use crate::commits::Commits;
+use crate::edits::Edits;
 use crate::lines::Devices;
-use crate::over::{Words, Work, do_over};
+use crate::over::{Words, Work, do_over, offset_of};
 use crate::script::{Script, read_script, run_script};
 use std::fs::File;
 use std::io::Write;
 use std::rt::Files;
-use verity_edit::Editor;
-use verity_files::{Command, Failure, Opened, Word, check_paths, fault_of, number};
-use verity_store::BlockStore;
+use verity_files::{Command, Failure, Opened, check_paths, fault_of};
+use verity_update::Edited;
 use verity_words::EditWords;
 
 /// Does the lines of SCRIPT over the volume in DATA and HASH, and prints their answers; why one wasn't done goes to `errors`.
@@ -28,7 +28,8 @@ pub fn edit<R: Files<File = File> + AllocGlobal, W: Write, E: Write>(
         command: Command::Edit,
         data_path: words.data_path,
         hash_path: words.hash_path,
-        offset: number(Word::HashOffset, words.hash_offset)?,
+        offset: offset_of(words.table, words.hash_offset)?,
+        table: words.table,
         journal: words.journal,
     };
     let mut lines = Lines {
@@ -59,15 +60,14 @@ impl<'a> Work for Lines<'a> {
 
     fn run<
         R: Files<File = File> + AllocGlobal,
-        D: BlockStore,
-        H: BlockStore,
-        C: Commits<D, H>,
+        V: Edits + Edited,
+        C: Commits<V>,
         W: Write,
         E: Write,
     >(
         &mut self,
         rt: &R,
-        editor: &mut Editor<D, H>,
+        editor: V,
         commits: &mut C,
         _hash: Opened,
         devices: Devices<'_>,

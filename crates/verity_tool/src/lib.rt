@@ -7,6 +7,7 @@
 mod commits;
 mod dump;
 mod edit;
+mod edits;
 mod format;
 mod journal;
 mod lines;

@@ -2,20 +2,22 @@
 
 use crate::commits::{Commits, Direct, Journalled};
 use crate::dump::read_superblock;
+use crate::edits::Edits;
 use crate::journal::{check_other_gate, journal_path, recover_files};
 use crate::lines::Devices;
 use std::alloc::Global;
 use std::fs::File;
 use std::io::Write;
 use std::rt::Files;
-use verity_edit::{EditFault, Editor};
+use verity_edit::{EditFault, Editor, LineEditor};
 use verity_files::{
-    Command, Failure, Fault, Opened, VolumeStore, check_apart, open_there, room_of, store_of_most,
-    take_lock,
+    Command, Failure, Fault, Opened, VolumeStore, Word, check_apart, number, open_there, room_of,
+    store_of_most, take_lock,
 };
 use verity_stage::Staged;
-use verity_store::{BlockStore, StoreFault, Which};
-use verity_superblock::SuperFault;
+use verity_store::{StoreFault, Which};
+use verity_superblock::{SuperFault, Table};
+use verity_update::Edited;
 use verity_words::{explain_no_journal, explain_recovered};
 
 /// The words that say which volume, and how it is committed to.
@@ -25,6 +27,7 @@ pub struct Words<'a> {
     pub data_path: &'a str,
     pub hash_path: &'a str,
     pub offset: u64,
+    pub table: Option<&'a str>,
     pub journal: Option<&'a str>,
 }
 
@@ -44,15 +47,14 @@ pub trait Work {
     /// Does it. `hash` is HASH, to be read once more.
     fn run<
         R: Files<File = File> + AllocGlobal,
-        D: BlockStore,
-        H: BlockStore,
-        C: Commits<D, H>,
+        V: Edits + Edited,
+        C: Commits<V>,
         W: Write,
         E: Write,
     >(
         &mut self,
         rt: &R,
-        editor: &mut Editor<D, H>,
+        editor: V,
         commits: &mut C,
         hash: Opened,
         devices: Devices<'_>,
@@ -69,18 +71,22 @@ pub fn do_over<R: Files<File = File> + AllocGlobal, T: Work, W: Write, E: Write>
     output: &mut W,
     errors: &mut E,
 ) -> Result<u8, Failure> {
+    let line = match words.table {
+        Some(text) => Some(Table::parse(rt.alloc(), text)?),
+        None => None,
+    };
     let (data, hash) = open_both(rt, words.data_path, words.hash_path, words.command)?;
     work.begin(rt, data.as_ref().ok(), &hash)?;
     if let Some(named) = words.journal {
         check_other_gate(rt, words.hash_path, named)?;
     }
     match journal_path(rt, words.journal, hash.identity, words.hash_path)? {
-        Some(path) => do_through(rt, words, work, &path, data, hash, output, errors),
+        Some(path) => do_through(rt, words, line, work, &path, data, hash, output, errors),
         None => {
             if words.journal.is_none() {
                 explain_no_journal(words.hash_path, errors);
             }
-            do_in_place(rt, words, work, data, hash, output, errors)
+            do_in_place(rt, words, line, work, data, hash, output, errors)
         }
     }
 }
@@ -89,6 +95,7 @@ pub fn do_over<R: Files<File = File> + AllocGlobal, T: Work, W: Write, E: Write>
 fn do_in_place<R: Files<File = File> + AllocGlobal, T: Work, W: Write, E: Write>(
     rt: &R,
     words: &Words<'_>,
+    line: Option<Table>,
     work: &mut T,
     data: Result<Opened, StoreFault>,
     hash: Opened,
@@ -96,13 +103,18 @@ fn do_in_place<R: Files<File = File> + AllocGlobal, T: Work, W: Write, E: Write>
     errors: &mut E,
 ) -> Result<u8, Failure> {
     let again = hash.again()?;
-    let (data_store, hash_store, sizes) = open_stores(rt.alloc(), data, hash, words.offset)?;
+    let sizes = sizes_of(rt.alloc(), &line, &hash, words.offset)?;
+    let (data_store, hash_store, sizes) = open_stores(data, hash, sizes)?;
     work.see(sizes.data_block_size)?;
+    let devices = devices_of(words, sizes);
+    if let Some(table) = line {
+        return match LineEditor::open_under(rt.alloc(), data_store, hash_store, table) {
+            Ok(editor) => work.run(rt, editor, &mut Direct, again, devices, output, errors),
+            Err(refused) => Err(refused.fault.into()),
+        };
+    }
     match Editor::open_at(rt.alloc(), data_store, hash_store, words.offset) {
-        Ok(mut editor) => {
-            let devices = devices_of(words, sizes);
-            work.run(rt, &mut editor, &mut Direct, again, devices, output, errors)
-        }
+        Ok(editor) => work.run(rt, editor, &mut Direct, again, devices, output, errors),
         Err(refused) => Err(refused.fault.into()),
     }
 }
@@ -111,6 +123,7 @@ fn do_in_place<R: Files<File = File> + AllocGlobal, T: Work, W: Write, E: Write>
 fn do_through<R: Files<File = File> + AllocGlobal, T: Work, W: Write, E: Write>(
     rt: &R,
     words: &Words<'_>,
+    line: Option<Table>,
     work: &mut T,
     path: &str,
     data: Result<Opened, StoreFault>,
@@ -119,7 +132,7 @@ fn do_through<R: Files<File = File> + AllocGlobal, T: Work, W: Write, E: Write>(
     errors: &mut E,
 ) -> Result<u8, Failure> {
     let Ok(data) = data else {
-        return do_in_place(rt, words, work, data, hash, output, errors);
+        return do_in_place(rt, words, line, work, data, hash, output, errors);
     };
     let keeper = match recover_files(rt, path, &data, &hash)? {
         Some(found) => {
@@ -133,7 +146,7 @@ fn do_through<R: Files<File = File> + AllocGlobal, T: Work, W: Write, E: Write>(
     let data = data.seen_again()?;
     let hash = hash.seen_again()?;
     let mut commits = Journalled::new(rt, path, data, hash, keeper);
-    let done = do_staged(rt, words, work, &mut commits, output, errors);
+    let done = do_staged(rt, words, line, work, &mut commits, output, errors);
     commits.end();
     done
 }
@@ -142,6 +155,7 @@ fn do_through<R: Files<File = File> + AllocGlobal, T: Work, W: Write, E: Write>(
 fn do_staged<R: Files<File = File> + AllocGlobal, T: Work, W: Write, E: Write>(
     rt: &R,
     words: &Words<'_>,
+    line: Option<Table>,
     work: &mut T,
     commits: &mut Journalled<'_, R>,
     output: &mut W,
@@ -150,15 +164,20 @@ fn do_staged<R: Files<File = File> + AllocGlobal, T: Work, W: Write, E: Write>(
     let alloc = rt.alloc();
     let (data, hash) = commits.files()?;
     let again = hash.again()?;
-    let (data_store, hash_store, sizes) = open_stores(alloc, Ok(data), hash, words.offset)?;
+    let sizes = sizes_of(alloc, &line, &hash, words.offset)?;
+    let (data_store, hash_store, sizes) = open_stores(Ok(data), hash, sizes)?;
     work.see(sizes.data_block_size)?;
     let staged_data = Staged::new(alloc, data_store)?;
     let staged_hash = Staged::new(alloc, hash_store)?;
+    let devices = devices_of(words, sizes);
+    if let Some(table) = line {
+        return match LineEditor::open_under(alloc, staged_data, staged_hash, table) {
+            Ok(editor) => work.run(rt, editor, commits, again, devices, output, errors),
+            Err(refused) => Err(refused.fault.into()),
+        };
+    }
     match Editor::open_at(alloc, staged_data, staged_hash, words.offset) {
-        Ok(mut editor) => {
-            let devices = devices_of(words, sizes);
-            work.run(rt, &mut editor, commits, again, devices, output, errors)
-        }
+        Ok(editor) => work.run(rt, editor, commits, again, devices, output, errors),
         Err(refused) => Err(refused.fault.into()),
     }
 }
@@ -174,19 +193,48 @@ fn devices_of<'a>(words: &Words<'a>, sizes: Sizes) -> Devices<'a> {
     }
 }
 
-/// The stores of the volume whose superblock stands at an offset of HASH, and what they were opened with.
+/// The stores of a volume of these sizes, and what they were opened with.
 fn open_stores(
-    alloc: Global,
     data: Result<Opened, StoreFault>,
     hash: Opened,
-    offset: u64,
+    sizes: Sizes,
 ) -> Result<(VolumeStore, VolumeStore, Sizes), Failure> {
-    let mut sizes = read_sizes(alloc, &hash, offset)?;
+    let mut sizes = sizes;
     let data = data?;
     sizes.data_room = room_of(&data, sizes.data_block_size);
     let data_store = store_of_most(data, sizes.data_block_size, sizes.data_blocks)?;
     let hash_store = store_of_most(hash, sizes.hash_block_size, u64::MAX)?;
     Ok((data_store, hash_store, sizes))
+}
+
+/// What a table line says of the files; or else the superblock at an offset of HASH.
+fn sizes_of(
+    alloc: Global,
+    line: &Option<Table>,
+    hash: &Opened,
+    offset: u64,
+) -> Result<Sizes, Failure> {
+    match line {
+        Some(table) => Ok(Sizes {
+            data_block_size: table.data_block_size(),
+            hash_block_size: table.hash_block_size(),
+            data_blocks: table.data_blocks(),
+            hash_start_block: table.hash_start_block(),
+            data_room: 0,
+            hash_room: room_of(hash, table.hash_block_size()),
+        }),
+        None => read_sizes(alloc, hash, offset),
+    }
+}
+
+/// Where the superblock stands: at the offset that is named, at byte 0 where none is, and not to be named beside a table line, which
+/// says where its tree begins.
+pub fn offset_of(table: Option<&str>, offset: Option<&str>) -> Result<u64, Failure> {
+    match (table, offset) {
+        (_, None) => Ok(0),
+        (Some(_), Some(_)) => Err(Failure::Word(Word::HashOffset)),
+        (None, Some(text)) => number(Word::HashOffset, text),
+    }
 }
 
 /// Opens both files and takes their locks. That there is no DATA is told only once HASH was found to hold a superblock.

@@ -1,21 +1,22 @@
 //! The command `update`: makes a volume that of another image.
 
 use crate::commits::Commits;
+use crate::edits::Edits;
 use crate::lines::{Devices, Volume, committed_line, table_of};
-use crate::over::{Words, Work, do_over};
+use crate::over::{Words, Work, do_over, offset_of};
 use crate::script::commit;
 use std::alloc::Global;
 use std::fs::File;
 use std::io::Write;
 use std::rt::Files;
 use verity_chain::{Tree, geometry_of};
-use verity_edit::{EditFault, Editor};
+use verity_edit::EditFault;
 use verity_files::{
-    Command, DONE, Failure, Fault, Opened, VolumeStore, Word, check_paths, number, open_there,
+    Command, DONE, Failure, Fault, Opened, VolumeStore, Word, check_paths, open_there,
     store_of_most, take_lock, whole_store,
 };
-use verity_store::{BlockStore, StoreFault, Which};
-use verity_update::UpdateFault;
+use verity_store::{StoreFault, Which};
+use verity_update::{Edited, UpdateFault};
 use verity_words::UpdateWords;
 
 /// Makes the volume in DATA and HASH that of the image NEW, with one commit of what differs, and prints how many blocks that was and
@@ -34,11 +35,13 @@ pub fn update<R: Files<File = File> + AllocGlobal, W: Write, E: Write>(
         command: Command::Update,
         data_path: words.data_path,
         hash_path: words.hash_path,
-        offset: number(Word::HashOffset, words.hash_offset)?,
+        offset: offset_of(words.table, words.hash_offset)?,
+        table: words.table,
         journal: words.journal,
     };
     let mut taking = Taking {
         path: words.new_path,
+        is_trusted: words.table.is_some(),
         opened: None,
         store: None,
     };
@@ -49,6 +52,8 @@ pub fn update<R: Files<File = File> + AllocGlobal, W: Write, E: Write>(
 #[derive(Drop)]
 struct Taking<'a> {
     path: &'a str,
+    /// Whether the volume is opened under a table line.
+    is_trusted: bool,
     opened: Option<Opened>,
     store: Option<VolumeStore>,
 }
@@ -84,15 +89,14 @@ impl<'a> Work for Taking<'a> {
 
     fn run<
         R: Files<File = File> + AllocGlobal,
-        D: BlockStore,
-        H: BlockStore,
-        C: Commits<D, H>,
+        V: Edits + Edited,
+        C: Commits<V>,
         W: Write,
         E: Write,
     >(
         &mut self,
         rt: &R,
-        editor: &mut Editor<D, H>,
+        editor: V,
         commits: &mut C,
         hash: Opened,
         devices: Devices<'_>,
@@ -103,8 +107,13 @@ impl<'a> Work for Taking<'a> {
             return Err(StoreFault::Device.into());
         };
         let alloc = rt.alloc();
-        let changed = take(alloc, editor, new_store, hash, devices)?;
-        let committed = commit(editor, commits, devices)?;
+        let mut editor = editor;
+        let changed = match take(alloc, &mut editor, new_store, hash, devices)? {
+            Ok(changed) => changed,
+            Err(fault) => return Err(failure_of(fault, self.is_trusted)),
+        };
+        let (editor, done) = commit(editor, commits, devices);
+        let committed = done?;
         let line = committed_line(alloc, devices, editor.superblock(), committed.root)?;
         writeln!(output, "changed {changed}")?;
         writeln!(output, "committed {line}")?;
@@ -126,13 +135,13 @@ fn lock_new(opened: &Opened) -> Result<(), Fault> {
 }
 
 /// Writes to an editor that was opened what differs in NEW, and answers how many blocks that was.
-fn take<D: BlockStore, H: BlockStore>(
+fn take<V: Edits + Edited>(
     alloc: Global,
-    editor: &mut Editor<D, H>,
+    editor: &mut V,
     new_store: &mut VolumeStore,
     hash: Opened,
     devices: Devices<'_>,
-) -> Result<u64, Failure> {
+) -> Result<Result<u64, UpdateFault>, Failure> {
     let superblock = editor.superblock();
     let mut hash_store = store_of_most(hash, superblock.hash_block_size(), u64::MAX)?;
     let volume = Volume {
@@ -147,17 +156,20 @@ fn take<D: BlockStore, H: BlockStore>(
     let table = table_of(alloc, &volume, editor.root())?;
     let geometry = geometry_of(&table);
     let mut tree = Tree::new(alloc, table, geometry)?;
-    match verity_update::update(alloc, &mut tree, &mut hash_store, new_store, editor) {
-        Ok(changed) => Ok(changed),
-        Err(fault) => Err(failure_of(fault)),
-    }
+    Ok(verity_update::update(
+        alloc,
+        &mut tree,
+        &mut hash_store,
+        new_store,
+        editor,
+    ))
 }
 
-/// S1 where NEW can't be read; E8 where the tree isn't any more what it was when the volume was opened.
-fn failure_of(fault: UpdateFault) -> Failure {
+/// S1 where NEW can't be read; E8 where no line was trusted, and the tree isn't any more what it was when the volume was opened.
+fn failure_of(fault: UpdateFault, is_trusted: bool) -> Failure {
     match fault {
         UpdateFault::New => StoreFault::Device.into(),
-        UpdateFault::Edit(EditFault::Untrusted { level, index }) => {
+        UpdateFault::Edit(EditFault::Untrusted { level, index }) if !is_trusted => {
             EditFault::Mismatch { level, index }.into()
         }
         UpdateFault::Edit(fault) => fault.into(),

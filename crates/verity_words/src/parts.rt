@@ -60,13 +60,13 @@ pub fn parts_of<'a>(request: Request<'a>) -> Parts<'a> {
             data: words.data_path,
             hash: words.hash_path,
             read: words.script_path,
-            ..no_parts(Command::Edit)
+            ..parts_of_line(Command::Edit, words.table.unwrap_or(""))
         },
         Request::Update(words) => Parts {
             data: words.data_path,
             hash: words.hash_path,
             read: words.new_path,
-            ..no_parts(Command::Update)
+            ..parts_of_line(Command::Update, words.table.unwrap_or(""))
         },
         Request::Verify(words) => parts_of_line(Command::Verify, words.table),
         Request::Serve(words) => Parts {

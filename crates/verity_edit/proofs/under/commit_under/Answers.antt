@@ -1,4 +1,4 @@
-use Rattle.std.proofs.Common.{◌≡◌, ℕ, true, List, length, arith, subst, sym, ap, ◌∙◌}
+use Rattle.std.proofs.Common.{◌≡◌, ℕ, true, List, [], length, get_or, arith, subst, sym, ap, ◌∙◌}
 use Rattle.verity_geometry.specs.Geometry.{total_of}
 use Rattle.verity_store.proofs.GivenLemmas.{goes_on_then}
 use Rattle.verity_chain.proofs.ChainLemmas.{ok_here}
@@ -111,3 +111,28 @@ returns-in-Ok-carry_out-clause-right g c =
     let here = subst (λ (f : ℕ). IsRightUnder H t mark c.plan_under-tree.result.1 v d f plan) first right in
     right_later H t mark c.plan_under-tree.result.1 c.carry_out.new.hash_store v d t.hash_start_block plan
     (goes_on_then _ _ _ c.reserve_both.ensures.hash_store.later.gave c.carry_out.ensures.hash_store.gave) here
+
+pub returns-then-is_err-clause-front : goal.returns-then-is_err-clause-front
+returns-then-is_err-clause-front g c =
+    let read = c.plan_under-tree.ensures.read_only in
+    let kept = c.reserve_both.ensures.hash_store in
+    let within = c.requires.can.within in
+    let same = kept.content ∙ read.content in
+    let all = ap length same in
+    record { len = omega arith; each = λ q below. ap (λ blocks. get_or blocks q []) same }
+
+pub returns-in-Ok-carry_out-clause-told : goal.returns-in-Ok-carry_out-clause-told
+returns-in-Ok-carry_out-clause-told g c =
+    let H = g.H.BlockStore in
+    let v : Volume = c.args.superblock.now in
+    let d : Draft = c.args.pending.now in
+    let plan = c.in-Ok-planned.plan in
+    let t = c.args.tree in
+    let first : c.hash_start_block-first.result ≡ t.hash_start_block =
+    c.hash_start_block-first.ensures.value ∙ ap (λ u. u.hash_start_block) c.table.ensures.value in
+    let right = from_ok c.plan_under-tree.result.2 plan (λ p. H.tells c.args.hash_store ≡ true
+    → IsRight v d c.hash_start_block-first.result c.root-root.result (H.content c.args.hash_store) p) c.in-Ok-planned.is
+    c.plan_under-tree.ensures.told in
+    subst (λ (r : List ℕ). H.tells c.args.hash_store ≡ true → IsRight v d t.hash_start_block r (H.content c.args.hash_store) plan)
+    c.root-root.ensures
+    (subst (λ (f : ℕ). H.tells c.args.hash_store ≡ true → IsRight v d f c.root-root.result (H.content c.args.hash_store) plan) first right)

@@ -1,0 +1,139 @@
+use Rattle.std.proofs.Common.{◌≡◌, ℕ, ◌+◌, true, false, length, sym, ap, subst}
+use Rattle.verity_superblock.specs.Superblock.{Volume}
+use Rattle.verity_chain.specs.Table.{Table}
+use Rattle.verity_edit.specs.declared.command.Committed.{Committed}
+use Rattle.verity_edit.specs.declared.fault.EditFault.{EditFault}
+use Rattle.verity_edit.specs.declared.under.PlanUnder.{PlanUnder}
+use Rattle.verity_edit.specs.Draft.{Draft}
+use Rattle.verity_edit.specs.Planning.{IsPlan, IsRight}
+use Rattle.verity_edit.specs.Committing.{IsCarriedOut}
+use Rattle.verity_edit.specs.Editing.{Stays}
+use Rattle.verity_edit.specs.Under.{ExplainsUncommitted, IsRightUnder, LeavesWhole}
+use Rattle.verity_edit.specs.Line.{LineEditing, CommitsUnder, IsRefusalUnder, editing_of}
+use Rattle.verity_edit.proofs.Frames.{stays_of}
+use Rattle.verity_edit.proofs.UnderLemmas.{from_ok}
+use Rattle.verity_edit.proofs.LineCommits.{commits_under, refused_under, at_ok, at_err}
+use Rattle.verity_edit.proofs.line.LineEditor.commit.Goals as goal
+
+pub returns-in-Ok-clause-committed : goal.returns-in-Ok-clause-committed
+returns-in-Ok-clause-committed g c =
+    let D = g.D.BlockStore in
+    let H = g.H.BlockStore in
+    let s = c.self.inside in
+    let t : Table = s.tree in
+    let v : Volume = s.superblock in
+    let d : Draft = s.pending in
+    let sound : s.broken ≡ false = c.if-self.false in
+    let invariant = c.self.invariant in
+    let r = c.commit_under-tree.result.2 in
+    let told = c.commit_under-tree.ensures in
+    let new_data = c.commit_under-tree.new.data_store in
+    let new_hash = c.commit_under-tree.result.1 in
+    let hashed : ℕ = c.commit_under-tree.new.hasher.hashed in
+    let made : PlanUnder g.row.A.Denot = c.in-Ok.made in
+    let is = c.in-Ok.is in
+    let old : LineEditing g.row.D.Denot g.row.H.Denot = record {
+      data_store = s.data_store;
+      hash_store = s.hash_store;
+      table = t;
+      volume = v;
+      draft = d;
+      hashed = s.hasher.hashed;
+      broken = s.broken;
+    } in
+    let new : LineEditing g.row.D.Denot g.row.H.Denot = record {
+      data_store = new_data;
+      hash_store = new_hash;
+      table = made.tree;
+      volume = made.plan.superblock;
+      draft = c.settle.new.self;
+      hashed = hashed;
+      broken = false;
+    } in
+    let committed : Committed = record { root = made.plan.root; hashed = made.plan.hashed } in
+    let done = at_ok r made (IsCarriedOut D H v d t.hash_start_block t.root s.data_store new_data s.hash_store new_hash) is told.done in
+    let planned = from_ok r made (λ m. IsPlan v d t.hash_start_block t.root m.plan) is told.plan in
+    let next = from_ok r made (λ m. m.tree ≡ record t { data_blocks = d.working; root = m.plan.root }) is told.next in
+    let right = from_ok r made (λ m. IsRightUnder H t (length (H.given s.hash_store)) new_hash v d t.hash_start_block m.plan) is
+    told.right in
+    let tells = from_ok r made (λ m. H.tells s.hash_store ≡ true
+    → IsRight v d t.hash_start_block t.root (H.content s.hash_store) m.plan) is told.told in
+    let unfailed = at_ok r made ((D.failures new_data ≡ D.failures s.data_store) × (H.failures new_hash ≡ H.failures s.hash_store)) is
+    told.unfailed in
+    let counts = from_ok r made (λ m. hashed ≡ s.hasher.hashed + m.plan.hashed) is told.counts in
+    let P : LineEditing g.row.D.Denot g.row.H.Denot → Type 0 = λ e. CommitsUnder D H e new committed in
+    subst P c.self.view_is
+    (commits_under D H old made.plan new_data new_hash hashed c.facts.ensures invariant.line invariant.behind (invariant.fits sound)
+    done planned tells told.data_store.later.tells told.hash_store.tells sound right unfailed.0 unfailed.1 counts made.tree
+    c.settle.new.self next c.settle.ensures)
+
+pub returns-in-Ok-clause-stays : goal.returns-in-Ok-clause-stays
+returns-in-Ok-clause-stays g c =
+    let D = g.D.BlockStore in
+    let H = g.H.BlockStore in
+    let s = c.self.inside in
+    let t : Table = s.tree in
+    let v : Volume = s.superblock in
+    let d : Draft = s.pending in
+    let r = c.commit_under-tree.result.2 in
+    let told = c.commit_under-tree.ensures in
+    let made : PlanUnder g.row.A.Denot = c.in-Ok.made in
+    let is = c.in-Ok.is in
+    let planned = from_ok r made (λ m. IsPlan v d t.hash_start_block t.root m.plan) is told.plan in
+    let next = from_ok r made (λ m. m.tree ≡ record t { data_blocks = d.working; root = m.plan.root }) is told.next in
+    let new : LineEditing g.row.D.Denot g.row.H.Denot = record {
+      data_store = c.commit_under-tree.new.data_store;
+      hash_store = c.commit_under-tree.result.1;
+      table = made.tree;
+      volume = made.plan.superblock;
+      draft = c.settle.new.self;
+      hashed = c.commit_under-tree.new.hasher.hashed;
+      broken = false;
+    } in
+    let P : LineEditing g.row.D.Denot g.row.H.Denot → Type 0 = λ e. Stays D H (editing_of e) (editing_of new) in
+    subst P c.self.view_is (record {
+      params = ap (λ w. w.params) planned.superblock;
+      first = ap (λ u. u.hash_start_block) next;
+      size = ap (λ x. x.size) c.settle.ensures;
+      data_reads = told.data_store.reads;
+      data_store = stays_of D _ _ told.data_store.later;
+      hash_store = told.hash_store;
+      front = λ q below. told.front.each q below;
+    })
+
+pub returns-in-Err-clause-refused : goal.returns-in-Err-clause-refused
+returns-in-Err-clause-refused g c =
+    let D = g.D.BlockStore in
+    let H = g.H.BlockStore in
+    let s = c.self.inside in
+    let t : Table = s.tree in
+    let sound : s.broken ≡ false = c.if-self.false in
+    let r = c.commit_under-tree.result.2 in
+    let told = c.commit_under-tree.ensures in
+    let new_data = c.commit_under-tree.new.data_store in
+    let new_hash = c.commit_under-tree.result.1 in
+    let new : LineEditing g.row.D.Denot g.row.H.Denot = record {
+      data_store = new_data;
+      hash_store = new_hash;
+      table = c.commit_under-tree.result.0;
+      volume = s.superblock;
+      draft = s.pending;
+      hashed = c.commit_under-tree.new.hasher.hashed;
+      broken = c.commit_under-tree.new.broken;
+    } in
+    let old : LineEditing g.row.D.Denot g.row.H.Denot = record {
+      data_store = s.data_store;
+      hash_store = s.hash_store;
+      table = t;
+      volume = s.superblock;
+      draft = s.pending;
+      hashed = s.hasher.hashed;
+      broken = s.broken;
+    } in
+    let why = at_err r c.in-Err.why (ExplainsUncommitted D H t (length (H.given s.hash_store)) s.data_store new_data s.hash_store
+    new_hash) c.in-Err.is told.refused in
+    let whole = at_err r c.in-Err.why (LeavesWhole c.commit_under-tree.new.broken) c.in-Err.is told.whole in
+    let P : LineEditing g.row.D.Denot g.row.H.Denot → Type 0 = λ e. IsRefusalUnder D H e new c.fault_of_commit.result in
+    subst P c.self.view_is
+    (subst (λ (f : EditFault). IsRefusalUnder D H old new f) (sym c.fault_of_commit.ensures)
+    (refused_under D H old new c.in-Err.why sound why whole))
