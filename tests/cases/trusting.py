@@ -56,7 +56,8 @@ def with_field(number, text):
 def refusals():
     for command, script in (("edit", b"fill 16 01\ncommit\n"), ("update", some(DATA, (16,)))):
         for name, line, fault in (
-                ("data block size", with_field(3, "1024"), "E13"), ("count", with_field(5, "299"), "E13"), ("start", with_field(6, "2"), "E9 B2"),
+                ("data block size", with_field(3, "1024"), "E13"), ("count", with_field(5, "299"), "E13"),
+                ("start", with_field(6, "2"), "E9 B2"),
                 ("start 0", with_field(6, "0"), "E13"), ("salt", with_field(9, "00fe"), "E13"), ("no salt", with_field(9, "-"), "E13"),
                 ("algorithm", with_field(7, "sha512").replace(LINE.split()[8], 2 * LINE.split()[8]), "E13"),
                 ("a field more", LINE + " x", "L1"), ("version", "2" + LINE[1:], "L2")):
@@ -64,7 +65,8 @@ def refusals():
         yield plain(f"{command}, an offset too", OFFSET, status=2, more=["--hash-offset", "0"], script=script, command=command)
         for name, files, fault in (("a longer data device", {"data": DATA + bytes(512)}, "E10"),
                                    ("a shorter data device", {"data": DATA[512:]}, "E10"),
-                                   ("an empty hash device", {"hash": b""}, "E9 B1"), ("no superblock", {"hash": bytes(512) + HASHES[512:]}, "E9 B2"),
+                                   ("an empty hash device", {"hash": b""}, "E9 B1"),
+                                   ("no superblock", {"hash": bytes(512) + HASHES[512:]}, "E9 B2"),
                                    ("a superblock of another count", {"hash": flipped(HASHES, 72)}, "E13")):
             yield plain(f"{command}, {name}", f"refused {fault}\n", files=files, script=script, command=command)
     # The superblock, the top, two blocks of level 1, and level 0: of block 16, which is edited, each hash block above it.
