@@ -1,7 +1,11 @@
 """The tables of cases, a file for each command."""
-from cases import dumping, editing, explaining, formatting, readers, reading_words, recovering, serving, slips, talking, verifying
+from cases import dumping, editing, explaining, formatting, readers, reading_words, recovering
+from cases import serving, slips, talking, trusting, updating, verifying
+
+TABLES = (formatting, dumping, editing, updating, trusting, verifying,
+          serving, talking, reading_words, slips, readers, recovering, explaining)
 
 
 def all_cases():
-    for table in (formatting, dumping, editing, verifying, serving, talking, reading_words, slips, readers, recovering, explaining):
+    for table in TABLES:
         yield from table.cases()

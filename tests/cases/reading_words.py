@@ -9,6 +9,7 @@ Commands:
   format   Makes the hash device of a block image, and prints the table line
   dump     Prints the superblock of a hash device
   edit     Does a script's lines over a volume, and prints an answer to each
+  update   Makes a volume that of another image, by what differs, with one commit
   recover  Makes whole a commit that a stop cut short
   verify   Reports what is wrong in a volume
   serve    Serves a volume over NBD, to up to 64 clients at once

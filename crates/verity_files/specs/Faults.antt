@@ -16,7 +16,7 @@ use Rattle.verity_superblock.specs.declared.faults.SuperFault.TheVariants as sup
 use Rattle.verity_superblock.specs.declared.faults.TableFault.TheVariants as table
 use Rattle.verity_superblock.specs.Texts.{super_text, table_text}
 use Rattle.verity_files.specs.declared.fault.Fault.{Fault}
-use Rattle.verity_files.specs.declared.fault.Fault.TheVariants.{Store, InUse, UnderWay, Journal}
+use Rattle.verity_files.specs.declared.fault.Fault.TheVariants.{Store, InUse, NewInUse, UnderWay, Journal}
 use Rattle.verity_files.specs.declared.fault.Fault.TheVariants.{Salt, Superblock, Table, Build, Check, Edit, Session, Socket}
 use Rattle.verity_files.specs.declared.failure.Failure.{Failure}
 use Rattle.verity_files.specs.declared.failure.Failure.TheVariants.{Word, Refused, NoMemory, Output}
@@ -25,6 +25,7 @@ use Rattle.verity_files.specs.declared.failure.Failure.TheVariants.{Word, Refuse
 abbrev pub fault_text : Fault → List ℕ
 fault_text (Store fault) = store_texts.fault_text fault
 fault_text (InUse which) = codes "S5 " ++ store_texts.which_text which
+fault_text NewInUse = codes "S5 new"
 fault_text UnderWay = codes "S6"
 fault_text Journal = codes "S7"
 fault_text (Salt fault) = salt_text fault

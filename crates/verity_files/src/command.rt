@@ -14,6 +14,7 @@ pub enum Command {
     Serve,
     Talk,
     Recover,
+    Update,
 }
 
 /// Who else may work on a file.
@@ -43,6 +44,7 @@ impl Command {
             Command::Serve => false,
             Command::Talk => false,
             Command::Recover => true,
+            Command::Update => true,
         }
     }
 
@@ -58,6 +60,7 @@ impl Command {
             Command::Serve => Lock::Shared,
             Command::Talk => Lock::Shared,
             Command::Recover => Lock::Alone,
+            Command::Update => Lock::Alone,
         }
     }
 }

@@ -21,6 +21,7 @@ use verity_superblock::{SuperFault, TableFault};
 pub enum Word {
     Data,
     Hash,
+    New,
     Salt,
     Uuid,
     DataBlocks,
@@ -40,6 +41,7 @@ impl fmt::Display for Word {
         f.write_str(match self {
             Word::Data => "DATA",
             Word::Hash => "HASH",
+            Word::New => "NEW",
             Word::Salt => "--salt",
             Word::Uuid => "--uuid",
             Word::DataBlocks => "--data-blocks",
@@ -63,6 +65,7 @@ impl Word {
             Word::Data => "a path that isn't empty and has no space, since a table line names it",
             Word::Hash =>
                 "another file than DATA, by a path that isn't empty and has no space, since a table line names it",
+            Word::New => "another file than DATA and HASH",
             Word::Salt => "two hexadecimal digits a byte, or none for the empty salt",
             Word::Uuid => "a UUID, as 01234567-89ab-cdef-0123-456789abcdef",
             Word::DataBlocks => "a count of blocks, in decimal digits",
@@ -74,7 +77,7 @@ impl Word {
             Word::Memory => "a count of MiB, in decimal digits, from 33 to 1048576",
             Word::Idle => "a count of seconds, in decimal digits",
             Word::Journal =>
-                "a path that leads neither to DATA nor to HASH; of edit also none, for no journal; a device has one only where named",
+                "a path that leads neither to DATA nor to HASH; of edit and update also none, for no journal; a device has one only where named",
         }
     }
 }

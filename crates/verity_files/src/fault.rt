@@ -30,6 +30,8 @@ pub enum Fault {
     Store(StoreFault),
     /// S5 and the store: another program works on it.
     InUse(Which),
+    /// S5 and `new`: another program works on NEW.
+    NewInUse,
     /// S6: a commit is under way in the journal.
     UnderWay,
     /// S7: the journal can't be used, or is none of this volume.
@@ -79,7 +81,7 @@ impl Fault {
     {
         match self {
             Fault::Store(fault) => of_store(fault),
-            Fault::InUse(_) => Number::S5,
+            Fault::InUse(_) | Fault::NewInUse => Number::S5,
             Fault::UnderWay => Number::S6,
             Fault::Journal => Number::S7,
             Fault::Salt(fault) => of_salt(fault),
@@ -226,6 +228,7 @@ impl fmt::Display for Fault {
         match self {
             Fault::Store(fault) => write!(f, "{fault}"),
             Fault::InUse(which) => write!(f, "S5 {which}"),
+            Fault::NewInUse => f.write_str("S5 new"),
             Fault::Salt(fault) => write!(f, "{fault}"),
             Fault::Superblock(fault) => write!(f, "{fault}"),
             Fault::Table(fault) => write!(f, "{fault}"),

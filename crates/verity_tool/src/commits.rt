@@ -1,20 +1,18 @@
 //! How the commits of an editor reach a volume's files.
-ghost use Rattle.std.specs.Prelude.{◌≡◌, length, IfOk};
 
+use crate::edits::{Edits, StagedEdits};
 use crate::journal::{FileKeeper, fault_of_disks, make_journal, remove_journal};
-use std::alloc::Global;
 use std::fs::File;
 use std::rt::Files;
-use verity_commit::{CommitFault, commit_editor};
-use verity_edit::{Committed, EditFault, Editor};
-use verity_files::{Fault, Opened, VolumeStore, store_of_most};
-use verity_stage::Staged;
-use verity_store::{BlockStore, StoreFault, Which};
+use verity_commit::CommitFault;
+use verity_edit::{Committed, EditFault};
+use verity_files::{Fault, Opened};
+use verity_store::StoreFault;
 
-/// How an editor's commits reach a volume's files.
-pub trait Commits<D: BlockStore, H: BlockStore> {
-    /// Commits, and brings what was committed to the files.
-    fn commit(&mut self, editor: &mut Editor<D, H>) -> Result<Committed, Fault>;
+/// How the commits of an editor of the type `V` reach a volume's files.
+pub trait Commits<V> {
+    /// Commits, and brings what was committed to the files. The editor comes back.
+    fn commit(&mut self, editor: V) -> (V, Result<Committed, Fault>);
 
     /// Whether no commit is made any more, though the editor isn't broken.
     fn is_broken(&self) -> bool;
@@ -24,11 +22,11 @@ pub trait Commits<D: BlockStore, H: BlockStore> {
 #[derive(Drop)]
 pub struct Direct;
 
-impl<D: BlockStore, H: BlockStore> Commits<D, H> for Direct {
-    fn commit(&mut self, editor: &mut Editor<D, H>) -> Result<Committed, Fault> {
+impl<V: Edits> Commits<V> for Direct {
+    fn commit(&mut self, editor: V) -> (V, Result<Committed, Fault>) {
         match editor.commit() {
-            Ok(committed) => Ok(committed),
-            Err(fault) => Err(Fault::Edit(fault)),
+            (editor, Ok(committed)) => (editor, Ok(committed)),
+            (editor, Err(fault)) => (editor, Err(Fault::Edit(fault))),
         }
     }
 
@@ -36,12 +34,6 @@ impl<D: BlockStore, H: BlockStore> Commits<D, H> for Direct {
         false
     }
 }
-
-/// A store whose changes are kept beside a file or a device until they are committed.
-pub type StagedFile = Staged<VolumeStore>;
-
-/// An editor over two of them.
-pub type StagedEditor = Editor<StagedFile, StagedFile>;
 
 /// The stores are staged over the files: what was committed goes through a journal.
 #[derive(Drop)]
@@ -91,9 +83,9 @@ impl<'a, R: Files<File = File> + AllocGlobal> Journalled<'a, R> {
     }
 
     /// Makes ready for a commit: nothing is staged, and there is a journal.
-    fn begin(&mut self, editor: &mut StagedEditor) -> Result<(), Fault> {
+    fn begin<V: StagedEdits>(&mut self, editor: &mut V) -> Result<(), Fault> {
         if self.is_staged {
-            self.empty_stages(editor)?;
+            editor.restage(self.rt.alloc(), self.data.again()?, self.hash.again()?)?;
             self.is_staged = false;
         }
         if self.keeper.is_none() {
@@ -101,50 +93,24 @@ impl<'a, R: Files<File = File> + AllocGlobal> Journalled<'a, R> {
         }
         Ok(())
     }
-
-    /// Puts stores with nothing staged in the place of the editor's, over the files as they are by now.
-    fn empty_stages(&self, editor: &mut StagedEditor) -> Result<(), Fault> {
-        let alloc = self.rt.alloc();
-        let data = restaged(alloc, self.data.again()?, editor.data_store(), Which::Data)?;
-        let hash = restaged(alloc, self.hash.again()?, editor.hash_store(), Which::Hash)?;
-        let _old = editor.change_stores(data, hash);
-        Ok(())
-    }
 }
 
-/// A store with nothing staged over a file that holds by now what a staged store does. E6 where it hasn't its length.
-fn restaged(
-    alloc: Global,
-    opened: Opened,
-    old: &StagedFile,
-    which: Which,
-) -> Result<StagedFile, Fault>
-    ensures size { IfOk result (λ s. ⟦<StagedFile as BlockStore>⟧.size s ≡ ⟦<StagedFile as BlockStore>⟧.size old.now) }
-    ensures len { IfOk result (λ s. length (⟦<StagedFile as BlockStore>⟧.content s)
-        ≡ length (⟦<StagedFile as BlockStore>⟧.content old.now)) }
-{
-    let size = old.block_size();
-    let blocks = old.len();
-    let store = store_of_most(opened, size, blocks)?;
-    match Staged::new(alloc, store) {
-        Ok(staged) if staged.len() == blocks && staged.block_size() == size => Ok(staged),
-        _ => Err(Fault::Edit(EditFault::Store(which))),
-    }
-}
-
-impl<'a, R: Files<File = File> + AllocGlobal> Commits<StagedFile, StagedFile>
-    for Journalled<'a, R> {
-    fn commit(&mut self, editor: &mut StagedEditor) -> Result<Committed, Fault> {
-        self.begin(editor)?;
+impl<'a, R: Files<File = File> + AllocGlobal, V: StagedEdits> Commits<V> for Journalled<'a, R> {
+    fn commit(&mut self, editor: V) -> (V, Result<Committed, Fault>) {
+        let mut editor = editor;
+        if let Err(fault) = self.begin(&mut editor) {
+            return (editor, Err(fault));
+        }
         let Some(keeper) = &mut self.keeper else {
-            return Err(Fault::Journal);
+            return (editor, Err(Fault::Journal));
         };
-        match commit_editor(self.rt.alloc(), keeper, self.names.as_bytes(), editor) {
+        let (editor, done) = editor.commit_through(self.rt.alloc(), keeper, self.names.as_bytes());
+        let answer = match done {
             Ok(committed) => {
                 self.is_staged = true;
                 Ok(committed)
             }
-            Err(CommitFault::Edit(_)) if is_starved(editor) => Err(Fault::Edit(
+            Err(CommitFault::Edit(_)) if editor.is_starved() => Err(Fault::Edit(
                 EditFault::NoMemory,
             )),
             Err(CommitFault::Edit(fault)) => Err(Fault::Edit(fault)),
@@ -152,15 +118,11 @@ impl<'a, R: Files<File = File> + AllocGlobal> Commits<StagedFile, StagedFile>
                 self.is_broken = true;
                 Err(fault_of_disks(keeper, fault))
             }
-        }
+        };
+        (editor, answer)
     }
 
     fn is_broken(&self) -> bool {
         self.is_broken
     }
-}
-
-/// Whether a commit failed since memory for what is staged was refused.
-fn is_starved(editor: &StagedEditor) -> bool {
-    editor.data_store().is_starved() || editor.hash_store().is_starved()
 }

@@ -1,23 +1,16 @@
 //! The command `edit`: does a script's lines over a volume.
 
-use crate::commits::{Commits, Direct, Journalled};
-use crate::dump::read_superblock;
-use crate::journal::{check_other_gate, journal_path, recover_files, volume_names};
+use crate::commits::Commits;
+use crate::edits::Edits;
 use crate::lines::Devices;
+use crate::over::{Words, Work, do_over, offset_of};
 use crate::script::{Script, read_script, run_script};
-use std::alloc::Global;
 use std::fs::File;
 use std::io::Write;
 use std::rt::Files;
-use verity_edit::{EditFault, Editor};
-use verity_files::{
-    Command, Failure, Fault, Opened, VolumeStore, Word, check_apart, check_paths, fault_of, number,
-    open_there, room_of, store_of_most, take_lock,
-};
-use verity_stage::Staged;
-use verity_store::{BlockStore, StoreFault, Which};
-use verity_superblock::SuperFault;
-use verity_words::{EditWords, explain_no_journal, explain_recovered};
+use verity_files::{Command, Failure, Opened, check_paths, fault_of};
+use verity_update::Edited;
+use verity_words::EditWords;
 
 /// Does the lines of SCRIPT over the volume in DATA and HASH, and prints their answers; why one wasn't done goes to `errors`.
 ///
@@ -31,187 +24,62 @@ pub fn edit<R: Files<File = File> + AllocGlobal, W: Write, E: Write>(
     errors: &mut E,
 ) -> Result<u8, Failure> {
     check_paths(words.data_path, words.hash_path)?;
-    let offset = number(Word::HashOffset, words.hash_offset)?;
-    let (data, hash) = open_both(rt, words.data_path, words.hash_path, Command::Edit)?;
-    if let Some(named) = words.journal {
-        check_other_gate(rt, words.hash_path, named)?;
-    }
-    match journal_path(rt, words.journal, hash.identity, words.hash_path)? {
-        Some(path) => edit_through(rt, words, &path, offset, data, hash, output, errors),
-        None => {
-            if words.journal.is_none() {
-                explain_no_journal(words.hash_path, errors);
-            }
-            edit_in_place(rt, words, offset, data, hash, output, errors)
-        }
-    }
-}
-
-/// Edits the files themselves.
-fn edit_in_place<R: Files<File = File> + AllocGlobal, W: Write, E: Write>(
-    rt: &R,
-    words: &EditWords<'_>,
-    offset: u64,
-    data: Result<Opened, StoreFault>,
-    hash: Opened,
-    output: &mut W,
-    errors: &mut E,
-) -> Result<u8, Failure> {
-    let (data_store, hash_store, sizes) = open_stores(rt.alloc(), data, hash, offset)?;
-    match Editor::open_at(rt.alloc(), data_store, hash_store, offset) {
-        Ok(mut editor) => { run_words(rt, words, &mut editor, &mut Direct, sizes, output, errors) }
-        Err(refused) => Err(refused.fault.into()),
-    }
-}
-
-/// Edits through a journal, which is removed at the end where its gate is closed.
-fn edit_through<R: Files<File = File> + AllocGlobal, W: Write, E: Write>(
-    rt: &R,
-    words: &EditWords<'_>,
-    path: &str,
-    offset: u64,
-    data: Result<Opened, StoreFault>,
-    hash: Opened,
-    output: &mut W,
-    errors: &mut E,
-) -> Result<u8, Failure> {
-    let Ok(data) = data else {
-        return edit_in_place(rt, words, offset, data, hash, output, errors);
-    };
-    let names = volume_names(rt, &data, words.data_path, &hash, words.hash_path)?;
-    let keeper = match recover_files(rt, path, &data, &hash, &names)? {
-        Some(found) => {
-            if found.is_recovered {
-                explain_recovered(words.hash_path, errors);
-            }
-            Some(found.keeper)
-        }
-        None => None,
-    };
-    let data = data.seen_again()?;
-    let hash = hash.seen_again()?;
-    let mut commits = Journalled::new(rt, path, &names, data, hash, keeper);
-    let done = edit_staged(rt, words, &mut commits, offset, output, errors);
-    commits.end();
-    done
-}
-
-/// Edits stores that are staged over the files.
-fn edit_staged<R: Files<File = File> + AllocGlobal, W: Write, E: Write>(
-    rt: &R,
-    words: &EditWords<'_>,
-    commits: &mut Journalled<'_, R>,
-    offset: u64,
-    output: &mut W,
-    errors: &mut E,
-) -> Result<u8, Failure> {
-    let alloc = rt.alloc();
-    let (data, hash) = commits.files()?;
-    let (data_store, hash_store, sizes) = open_stores(alloc, Ok(data), hash, offset)?;
-    let staged_data = Staged::new(alloc, data_store)?;
-    let staged_hash = Staged::new(alloc, hash_store)?;
-    match Editor::open_at(alloc, staged_data, staged_hash, offset) {
-        Ok(mut editor) => run_words(rt, words, &mut editor, commits, sizes, output, errors),
-        Err(refused) => Err(refused.fault.into()),
-    }
-}
-
-/// Does the lines of the script that the words name.
-fn run_words<
-    R: Files<File = File> + AllocGlobal,
-    D: BlockStore,
-    H: BlockStore,
-    C: Commits<D, H>,
-    W: Write,
-    E: Write,
->(
-    rt: &R,
-    words: &EditWords<'_>,
-    editor: &mut Editor<D, H>,
-    commits: &mut C,
-    sizes: Sizes,
-    output: &mut W,
-    errors: &mut E,
-) -> Result<u8, Failure> {
-    let bytes = script_bytes(rt, words.script_path)?;
-    let script = Script {
-        path: words.script_path,
-        bytes: &bytes,
-    };
-    let devices = Devices {
+    let over = Words {
+        command: Command::Edit,
         data_path: words.data_path,
         hash_path: words.hash_path,
-        hash_start_block: sizes.hash_start_block,
-        data_room: sizes.data_room,
-        hash_room: sizes.hash_room,
+        offset: offset_of(words.table, words.hash_offset)?,
+        table: words.table,
+        journal: words.journal,
     };
-    run_script(rt.alloc(), editor, commits, devices, script, output, errors)
+    let mut lines = Lines {
+        path: words.script_path,
+    };
+    do_over(rt, &over, &mut lines, output, errors)
 }
 
-/// The stores of the volume whose superblock stands at an offset of HASH, and what they were opened with.
-fn open_stores(
-    alloc: Global,
-    data: Result<Opened, StoreFault>,
-    hash: Opened,
-    offset: u64,
-) -> Result<(VolumeStore, VolumeStore, Sizes), Failure> {
-    let mut sizes = read_sizes(alloc, &hash, offset)?;
-    let data = data?;
-    sizes.data_room = room_of(&data, sizes.data_block_size);
-    let data_store = store_of_most(data, sizes.data_block_size, sizes.data_blocks)?;
-    let hash_store = store_of_most(hash, sizes.hash_block_size, u64::MAX)?;
-    Ok((data_store, hash_store, sizes))
+/// The lines of the script at a path.
+#[derive(Drop)]
+struct Lines<'a> {
+    path: &'a str,
 }
 
-/// Opens both files and takes their locks. That there is no DATA is told only once HASH was found to hold a superblock.
-pub fn open_both<R: Files<File = File>>(
-    rt: &R,
-    data_path: &str,
-    hash_path: &str,
-    command: Command,
-) -> Result<(Result<Opened, StoreFault>, Opened), Failure> {
-    let hash = open_there(rt, hash_path, command, Which::Hash)?;
-    let data = open_there(rt, data_path, command, Which::Data);
-    if let Ok(data) = &data {
-        check_apart(data.identity, hash.identity)?;
-        take_lock(&data.file, command.lock(), Which::Data)?;
+impl<'a> Work for Lines<'a> {
+    fn begin<R: Files<File = File> + AllocGlobal>(
+        &mut self,
+        _rt: &R,
+        _data: Option<&Opened>,
+        _hash: &Opened,
+    ) -> Result<(), Failure> {
+        Ok(())
     }
-    take_lock(&hash.file, command.lock(), Which::Hash)?;
-    Ok((data, hash))
-}
 
-/// What a volume's files are opened with.
-#[derive(Clone, Copy)]
-struct Sizes {
-    data_block_size: usize,
-    hash_block_size: usize,
-    data_blocks: u64,
-    hash_start_block: u64,
-    data_room: u64,
-    hash_room: u64,
-}
-
-/// What the superblock at an offset of HASH says of them.
-fn read_sizes(alloc: Global, hash: &Opened, offset: u64) -> Result<Sizes, Failure> {
-    match read_superblock(alloc, hash.again()?, offset) {
-        Ok((superblock, hash_start_block)) => Ok(Sizes {
-            data_block_size: superblock.data_block_size(),
-            hash_block_size: superblock.hash_block_size(),
-            data_blocks: superblock.data_blocks(),
-            hash_start_block,
-            data_room: 0,
-            hash_room: room_of(hash, superblock.hash_block_size()),
-        }),
-        Err(fault) => Err(not_a_volume(fault).into()),
+    fn see(&mut self, _data_block_size: usize) -> Result<(), Failure> {
+        Ok(())
     }
-}
 
-/// E12 where no superblock can stand at the offset, E9 where there is none.
-fn not_a_volume(fault: Fault) -> Fault {
-    match fault {
-        Fault::Superblock(SuperFault::Offset) => Fault::Edit(EditFault::Offset),
-        Fault::Superblock(fault) => Fault::Edit(EditFault::Superblock(fault)),
-        fault => fault,
+    fn run<
+        R: Files<File = File> + AllocGlobal,
+        V: Edits + Edited,
+        C: Commits<V>,
+        W: Write,
+        E: Write,
+    >(
+        &mut self,
+        rt: &R,
+        editor: V,
+        commits: &mut C,
+        _hash: Opened,
+        devices: Devices<'_>,
+        output: &mut W,
+        errors: &mut E,
+    ) -> Result<u8, Failure> {
+        let bytes = script_bytes(rt, self.path)?;
+        let script = Script {
+            path: self.path,
+            bytes: &bytes,
+        };
+        run_script(rt.alloc(), editor, commits, devices, script, output, errors)
     }
 }
 

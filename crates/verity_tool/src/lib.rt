@@ -7,16 +7,19 @@
 mod commits;
 mod dump;
 mod edit;
+mod edits;
 mod format;
 mod journal;
 mod lines;
 mod opened;
+mod over;
 mod program;
 mod recover;
 mod scratch;
 mod script;
 mod serve;
 mod talk;
+mod update;
 mod verify;
 
 pub use program::run;

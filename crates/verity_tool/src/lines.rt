@@ -19,9 +19,14 @@ pub struct Volume<'a> {
     pub salt: &'a [u8],
 }
 
-/// The table line of a volume with this root hash.
+/// The table line of a volume with this root hash, as it is printed.
 pub fn table_line(alloc: Global, volume: &Volume<'_>, root: Digest) -> Result<String, Failure> {
-    let table = Table::new(
+    Ok(table_of(alloc, volume, root)?.text()?)
+}
+
+/// The table line of a volume with this root hash.
+pub fn table_of(alloc: Global, volume: &Volume<'_>, root: Digest) -> Result<Table, Failure> {
+    Ok(Table::new(
         alloc,
         volume.data_path,
         volume.hash_path,
@@ -31,8 +36,7 @@ pub fn table_line(alloc: Global, volume: &Volume<'_>, root: Digest) -> Result<St
         volume.hash_start_block,
         root,
         salt(alloc, volume.salt)?,
-    )?;
-    Ok(table.text()?)
+    )?)
 }
 
 /// Where a volume's devices are, at which hash block its tree begins, and how far both can grow.

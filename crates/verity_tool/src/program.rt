@@ -7,6 +7,7 @@ use crate::recover::recover;
 use crate::scratch::scratch;
 use crate::serve::serve;
 use crate::talk::talk;
+use crate::update::update;
 use crate::verify::verify;
 use clap::Error;
 use clap::error::ErrorKind;
@@ -21,7 +22,7 @@ use verity_words::{Request, explain, explain_corrupt, explain_usage, explain_wor
 /// Does what the words ask for, of which the first is the program's own name, and answers the status that the process
 /// ends with: 0 done; 1 refused, corrupt, or a fault of a file, a socket or the output; 2 words that were not
 /// understood; 3 want of memory. What the program has to say goes to `output`; to `errors` goes why it refused, in words for
-/// a person; where the status is 0 nothing, but for what `edit` says of a journal.
+/// a person; where the status is 0 nothing, but for what `edit` and `update` say of a journal.
 pub fn run<
     R: Files<File = File> + Net<Stream = TcpStream, Listener = TcpListener> + Clock + AllocGlobal,
     I: Read,
@@ -77,6 +78,7 @@ fn answer<
         Request::Serve(words) => serve(rt, &words, output),
         Request::Talk(words) => talk(rt, &words, input, output),
         Request::Recover(words) => recover(rt, &words, output).map(|()| DONE),
+        Request::Update(words) => update(rt, &words, output, errors),
     }
 }
 

@@ -31,7 +31,7 @@ pub fn scratch<I: Read, W: Write, E: Write>(
     output: &mut W,
     errors: &mut E,
 ) -> Result<u8, Failure> {
-    let mut editor = zero_volume(alloc)?;
+    let editor = zero_volume(alloc)?;
     print_line(alloc, &editor, output)?;
     let bytes = read_script(alloc, input)?;
     let script = Script {
@@ -40,7 +40,7 @@ pub fn scratch<I: Read, W: Write, E: Write>(
     };
     run_script(
         alloc,
-        &mut editor,
+        editor,
         &mut Direct,
         DEVICES,
         script,

@@ -1,15 +1,16 @@
 //! A script over a volume: read whole, then done line by line.
 
 use crate::commits::Commits;
+use crate::edits::Edits;
 use crate::lines::{Devices, committed_line};
 use std::alloc::{AllocError, Global};
 use std::io::{ErrorKind, Read, Write};
 use std::{io, str};
-use verity_edit::{Command, Committed, EditFault, Editor, Reply};
+use verity_edit::{Command, Committed, EditFault, Reply};
 use verity_files::{DONE, Failure, Fault, REFUSED};
 use verity_geometry::Geometry;
 use verity_script::{Line, read_line};
-use verity_store::{Block, BlockStore, StoreFault, Which};
+use verity_store::{Block, StoreFault, Which};
 use verity_words::{Refusal, Where, explain_line};
 
 /// The most bytes of a script.
@@ -47,9 +48,9 @@ fn unread(error: io::Error) -> Failure {
 /// Does the lines of a script in order and prints one answer line each, but for empty lines: `ok`, `committed ` and the
 /// new table line, `refused ` and the fault's text, or `bad line`. It goes on after a refusal, and answers status 1 if
 /// there was one. Edits that are pending at the end are dropped with the editor. Why a line wasn't done goes to `errors`.
-pub fn run_script<D: BlockStore, H: BlockStore, C: Commits<D, H>, W: Write, E: Write>(
+pub fn run_script<V: Edits, C: Commits<V>, W: Write, E: Write>(
     alloc: Global,
-    editor: &mut Editor<D, H>,
+    editor: V,
     commits: &mut C,
     devices: Devices<'_>,
     script: Script<'_>,
@@ -58,19 +59,22 @@ pub fn run_script<D: BlockStore, H: BlockStore, C: Commits<D, H>, W: Write, E: W
 ) -> Result<u8, Failure> {
     let mut status = DONE;
     let mut line: usize = 0;
+    let mut editor = editor;
     for text in script.bytes.split(|byte| *byte == b'\n') {
         line = line.saturating_add(1);
-        if let Some(refusal) = run_line(alloc, editor, commits, devices, text, output)? {
+        let (after, done) = run_line(alloc, editor, commits, devices, text, output);
+        editor = after;
+        if let Some(refusal) = done? {
             status = REFUSED;
-            explain_line(place_of(editor, script, line), refusal, errors);
+            explain_line(place_of(&editor, script, line), refusal, errors);
         }
     }
     Ok(status)
 }
 
 /// Where a line of a script is done.
-fn place_of<'a, D: BlockStore, H: BlockStore>(
-    editor: &Editor<D, H>,
+fn place_of<'a, V: Edits>(
+    editor: &V,
     script: Script<'a>,
     line: usize,
 ) -> Where<'a> {
@@ -83,22 +87,45 @@ fn place_of<'a, D: BlockStore, H: BlockStore>(
 }
 
 /// Does a line that isn't empty, prints its answer, and tells what of it was refused.
-fn run_line<'a, D: BlockStore, H: BlockStore, C: Commits<D, H>, W: Write>(
+fn run_line<'a, V: Edits, C: Commits<V>, W: Write>(
     alloc: Global,
-    editor: &mut Editor<D, H>,
+    editor: V,
     commits: &mut C,
     devices: Devices<'_>,
     text: &'a [u8],
     output: &mut W,
-) -> Result<Option<Refusal<'a>>, Failure> {
+) -> (V, Result<Option<Refusal<'a>>, Failure>) {
     if text.is_empty() {
-        return Ok(None);
+        return (editor, Ok(None));
     }
     let Some(line) = line_of(text) else {
-        writeln!(output, "bad line")?;
-        return Ok(Some(Refusal::BadLine));
+        return (editor, print_bad(output));
     };
-    match reply_to(alloc, editor, commits, devices, line)? {
+    match reply_to(alloc, editor, commits, devices, line) {
+        (editor, Ok(answer)) => {
+            let told = print_answer(alloc, &editor, devices, line, answer, output);
+            (editor, told)
+        }
+        (editor, Err(failure)) => (editor, Err(failure)),
+    }
+}
+
+/// Prints that a line is none.
+fn print_bad<'a, W: Write>(output: &mut W) -> Result<Option<Refusal<'a>>, Failure> {
+    writeln!(output, "bad line")?;
+    Ok(Some(Refusal::BadLine))
+}
+
+/// Prints the answer to a line, and tells what of it was refused.
+fn print_answer<'a, V: Edits, W: Write>(
+    alloc: Global,
+    editor: &V,
+    devices: Devices<'_>,
+    line: Line<'a>,
+    answer: Answer,
+    output: &mut W,
+) -> Result<Option<Refusal<'a>>, Failure> {
+    match answer {
         Answer::Done => {
             writeln!(output, "ok")?;
             Ok(None)
@@ -132,24 +159,31 @@ enum Answer {
 }
 
 /// The answer to a line. Want of memory is a failure of the whole program.
-fn reply_to<D: BlockStore, H: BlockStore, C: Commits<D, H>>(
+fn reply_to<V: Edits, C: Commits<V>>(
     alloc: Global,
-    editor: &mut Editor<D, H>,
+    editor: V,
     commits: &mut C,
     devices: Devices<'_>,
     line: Line<'_>,
-) -> Result<Answer, Failure> {
+) -> (V, Result<Answer, Failure>) {
     if editor.broken() || commits.is_broken() {
-        return Ok(Answer::Refused(Fault::Edit(EditFault::Broken)));
+        return (
+            editor,
+            Ok(Answer::Refused(Fault::Edit(EditFault::Broken))),
+        );
     }
     if line == Line::Commit {
-        return answer_of(commit(editor, commits, devices));
+        let (editor, done) = commit(editor, commits, devices);
+        return (editor, answer_of(done));
     }
-    let command = command_of(alloc, editor, line)?;
+    let command = match command_of(alloc, &editor, line) {
+        Ok(command) => command,
+        Err(error) => return (editor, Err(error.into())),
+    };
     match editor.answer(&command) {
-        Reply::Done => Ok(Answer::Done),
-        Reply::Committed(committed) => Ok(Answer::Committed(committed)),
-        Reply::Refused(fault) => answer_of(Err(Fault::Edit(fault))),
+        (editor, Reply::Done) => (editor, Ok(Answer::Done)),
+        (editor, Reply::Committed(committed)) => (editor, Ok(Answer::Committed(committed))),
+        (editor, Reply::Refused(fault)) => (editor, answer_of(Err(Fault::Edit(fault)))),
     }
 }
 
@@ -165,22 +199,22 @@ fn answer_of(done: Result<Committed, Fault>) -> Result<Answer, Failure> {
 }
 
 /// Commits, and brings what was committed to the files. E6 with the store that hasn't room for it, and then nothing is changed.
-fn commit<D: BlockStore, H: BlockStore, C: Commits<D, H>>(
-    editor: &mut Editor<D, H>,
+pub fn commit<V: Edits, C: Commits<V>>(
+    editor: V,
     commits: &mut C,
     devices: Devices<'_>,
-) -> Result<Committed, Fault> {
+) -> (V, Result<Committed, Fault>) {
     if editor.blocks() > devices.data_room {
-        return Err(Fault::Edit(EditFault::Store(Which::Data)));
+        return (editor, Err(Fault::Edit(EditFault::Store(Which::Data))));
     }
-    if !has_room(editor, devices) {
-        return Err(Fault::Edit(EditFault::Store(Which::Hash)));
+    if !has_room(&editor, devices) {
+        return (editor, Err(Fault::Edit(EditFault::Store(Which::Hash))));
     }
     commits.commit(editor)
 }
 
 /// Whether HASH can hold the tree of the working image.
-fn has_room<D: BlockStore, H: BlockStore>(editor: &Editor<D, H>, devices: Devices<'_>) -> bool {
+fn has_room<V: Edits>(editor: &V, devices: Devices<'_>) -> bool {
     let superblock = editor.superblock();
     let tree = Geometry::with_digest(
         superblock.data_block_size(),
@@ -195,9 +229,9 @@ fn has_room<D: BlockStore, H: BlockStore>(editor: &Editor<D, H>, devices: Device
 }
 
 /// The command that a line asks for.
-fn command_of<D: BlockStore, H: BlockStore>(
+fn command_of<V: Edits>(
     alloc: Global,
-    editor: &Editor<D, H>,
+    editor: &V,
     line: Line<'_>,
 ) -> Result<Command, AllocError> {
     Ok(match line {
@@ -212,14 +246,14 @@ fn command_of<D: BlockStore, H: BlockStore>(
 
 /// Whether the editor looks at the bytes of a block that is written here. What it refuses by place or length takes no
 /// memory: no bytes are refused like it.
-fn is_welcome<D: BlockStore, H: BlockStore>(editor: &Editor<D, H>, n: u64, size: usize) -> bool {
+fn is_welcome<V: Edits>(editor: &V, n: u64, size: usize) -> bool {
     n < editor.blocks() && size == editor.superblock().data_block_size()
 }
 
 /// The block that these digits spell.
-fn written<D: BlockStore, H: BlockStore>(
+fn written<V: Edits>(
     alloc: Global,
-    editor: &Editor<D, H>,
+    editor: &V,
     n: u64,
     digits: &str,
 ) -> Result<Block, AllocError> {
@@ -233,9 +267,9 @@ fn written<D: BlockStore, H: BlockStore>(
 }
 
 /// A block whose every byte is this one.
-fn filled<D: BlockStore, H: BlockStore>(
+fn filled<V: Edits>(
     alloc: Global,
-    editor: &Editor<D, H>,
+    editor: &V,
     n: u64,
     byte: u8,
 ) -> Result<Block, AllocError> {

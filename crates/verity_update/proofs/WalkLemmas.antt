@@ -155,7 +155,8 @@ read_on facts a b c ab bc = record {
   };
 }
 
-pub store_on : {H : Type 0} (hash : store.Ghosts H) (t : Table) (a b : H) → IsOnlyRead hash a b → IsHashStoreOf hash t a → IsHashStoreOf hash t b
+pub store_on : {H : Type 0} (hash : store.Ghosts H) (t : Table) (a b : H) → IsOnlyRead hash a b → IsHashStoreOf hash t a
+    → IsHashStoreOf hash t b
 store_on hash t a b read is = record {
   size = read.later.size ∙ is.size;
   tree = λ some. subst (λ blocks. t.hash_start_block + tree_len t ≤ length blocks) (sym read.content) (is.tree some);

@@ -3,7 +3,7 @@ ghost use Rattle.std.specs.Prelude.{◌≡◌, ℕ, ◌-◌, ◌++◌, List, len
 ghost use Rattle.verity_profile.specs.Profile.{zero_block};
 
 use std::alloc::Allocator;
-use verity_edit::{EditFault, Editor};
+use verity_edit::{EditFault, Editor, LineEditor};
 use verity_store::BlockStore;
 
 /// What an update edits: an editor, whichever way it was opened.
@@ -85,5 +85,39 @@ impl<D: BlockStore, H: BlockStore, A: Allocator + Copy> Edited for Editor<D, H, 
 
     fn discard(&mut self) -> Result<(), EditFault> {
         Editor::discard(self)
+    }
+}
+
+impl<D: BlockStore, H: BlockStore, A: Allocator + Copy + Drop> Edited for LineEditor<D, H, A> {
+    ghost use Rattle.verity_edit.specs.Draft.{edits_of};
+
+    ghost working = { λ e image. (edits_of image e.draft).working };
+
+    ghost count = { λ e. e.draft.working };
+
+    ghost size = { λ e. e.draft.size };
+
+    ghost content = { λ e. D.content e.data_store };
+
+    ghost data_reads = { λ e. D.reads e.data_store };
+
+    fn blocks(&self) -> u64 {
+        LineEditor::blocks(self)
+    }
+
+    fn write(&mut self, n: u64, block: &[u8]) -> Result<(), EditFault> {
+        LineEditor::write(self, n, block)
+    }
+
+    fn grow(&mut self, wanted: u64) -> Result<(), EditFault> {
+        LineEditor::grow(self, wanted)
+    }
+
+    fn shrink(&mut self, wanted: u64) -> Result<(), EditFault> {
+        LineEditor::shrink(self, wanted)
+    }
+
+    fn discard(&mut self) -> Result<(), EditFault> {
+        LineEditor::discard(self)
     }
 }

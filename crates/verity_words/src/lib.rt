@@ -12,6 +12,6 @@ pub use explaining::{
     explain_usage, explain_words,
 };
 pub use words::{
-    DumpWords, EditWords, FormatWords, RecoverWords, Request, ServeWords, TalkWords, VerifyWords,
-    read_words,
+    DumpWords, EditWords, FormatWords, RecoverWords, Request, ServeWords, TalkWords, UpdateWords,
+    VerifyWords, read_words,
 };

@@ -76,6 +76,7 @@ pub fn look<'a, R: Files<File = File>>(
 fn subject_of<'a>(parts: Parts<'a>, fault: Fault) -> &'a str {
     match fault {
         Fault::InUse(which) => parts.path(which),
+        Fault::NewInUse => parts.read,
         Fault::UnderWay | Fault::Journal => parts.hash,
         Fault::Salt(_) => "--salt",
         Fault::Superblock(SuperFault::Offset) => "--hash-offset",
@@ -163,18 +164,18 @@ fn look_at_files<'a, R: Files<File = File>>(
     match (data, hash) {
         (Some(detail), _) => (parts.data, detail),
         (None, Some(detail)) => (parts.hash, detail),
-        (None, None) => look_at_script(rt, parts),
+        (None, None) => look_at_read(rt, parts),
     }
 }
 
-/// The script, where it can't be read; else nothing that is seen.
-fn look_at_script<'a, R: Files<File = File>>(rt: &R, parts: Parts<'a>) -> (&'a str, Detail<'a>) {
-    if parts.script.is_empty() {
+/// The script or NEW, where it can't be read; else nothing that is seen.
+fn look_at_read<'a, R: Files<File = File>>(rt: &R, parts: Parts<'a>) -> (&'a str, Detail<'a>) {
+    if parts.read.is_empty() {
         return ("the volume", Detail::None);
     }
-    match fs::metadata(rt, parts.script) {
-        Ok(_) => (parts.script, Detail::None),
-        Err(error) => (parts.script, Detail::System(error)),
+    match fs::metadata(rt, parts.read) {
+        Ok(_) => (parts.read, Detail::None),
+        Err(error) => (parts.read, Detail::System(error)),
     }
 }
 

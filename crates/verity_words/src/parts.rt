@@ -10,7 +10,8 @@ pub struct Parts<'a> {
     pub command: Command,
     pub data: &'a str,
     pub hash: &'a str,
-    pub script: &'a str,
+    /// The other file that is read: the script, or NEW.
+    pub read: &'a str,
     pub address: &'a str,
     pub line: &'a str,
     pub data_size: u64,
@@ -40,7 +41,7 @@ impl<'a> Parts<'a> {
 pub fn parts_of<'a>(request: Request<'a>) -> Parts<'a> {
     match request {
         Request::Scratch => Parts {
-            script: "standard input",
+            read: "standard input",
             ..no_parts(Command::Edit)
         },
         Request::Format(words) => Parts {
@@ -58,8 +59,14 @@ pub fn parts_of<'a>(request: Request<'a>) -> Parts<'a> {
         Request::Edit(words) => Parts {
             data: words.data_path,
             hash: words.hash_path,
-            script: words.script_path,
-            ..no_parts(Command::Edit)
+            read: words.script_path,
+            ..parts_of_line(Command::Edit, words.table.unwrap_or(""))
+        },
+        Request::Update(words) => Parts {
+            data: words.data_path,
+            hash: words.hash_path,
+            read: words.new_path,
+            ..parts_of_line(Command::Update, words.table.unwrap_or(""))
         },
         Request::Verify(words) => parts_of_line(Command::Verify, words.table),
         Request::Serve(words) => Parts {
@@ -103,7 +110,7 @@ fn no_parts<'a>(command: Command) -> Parts<'a> {
         command,
         data: "",
         hash: "",
-        script: "",
+        read: "",
         address: "",
         line: "",
         data_size: 0,

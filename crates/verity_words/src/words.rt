@@ -7,6 +7,7 @@ mod parts;
 mod recover;
 mod serve;
 mod talk;
+mod update;
 mod verify;
 
 use clap::{ArgMatches, Command, Error};
@@ -23,6 +24,8 @@ use serve::{serve_command, serve_words};
 use std::alloc::{AllocError, Global};
 pub use talk::TalkWords;
 use talk::{talk_command, talk_words};
+pub use update::UpdateWords;
+use update::{update_command, update_words};
 pub use verify::VerifyWords;
 use verify::{verify_command, verify_words};
 
@@ -38,6 +41,7 @@ pub enum Request<'a> {
     Serve(ServeWords<'a>),
     Talk(TalkWords<'a>),
     Recover(RecoverWords<'a>),
+    Update(UpdateWords<'a>),
 }
 
 /// The program's version.
@@ -50,6 +54,7 @@ fn tool<'a>(alloc: Global) -> Result<Command<'a>, AllocError> {
         .subcommand(format_command(alloc)?)?
         .subcommand(dump_command(alloc)?)?
         .subcommand(edit_command(alloc)?)?
+        .subcommand(update_command(alloc)?)?
         .subcommand(recover_command(alloc)?)?
         .subcommand(verify_command(alloc)?)?
         .subcommand(serve_command(alloc)?)?
@@ -66,6 +71,7 @@ fn asked<'a>(matches: &ArgMatches<'a>) -> Option<Request<'a>> {
         Some(("serve", below)) => Some(Request::Serve(serve_words(below)?)),
         Some(("talk", below)) => Some(Request::Talk(talk_words(below)?)),
         Some(("recover", below)) => Some(Request::Recover(recover_words(below)?)),
+        Some(("update", below)) => Some(Request::Update(update_words(below)?)),
         Some(_) => None,
     }
 }

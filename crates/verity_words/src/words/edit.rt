@@ -1,6 +1,6 @@
 //! The words of `edit`.
 
-use super::parts::{hash_offset, journal, path};
+use super::parts::{journal, own_offset, own_table, path};
 use clap::{ArgMatches, Command};
 use std::alloc::{AllocError, Global};
 
@@ -16,7 +16,8 @@ pub struct EditWords<'a> {
     pub data_path: &'a str,
     pub hash_path: &'a str,
     pub script_path: &'a str,
-    pub hash_offset: &'a str,
+    pub hash_offset: Option<&'a str>,
+    pub table: Option<&'a str>,
     pub journal: Option<&'a str>,
 }
 
@@ -27,7 +28,8 @@ pub fn edit_command<'a>(alloc: Global) -> Result<Command<'a>, AllocError> {
         .arg(path(alloc, "DATA", "The block image"))?
         .arg(path(alloc, "HASH", "The hash device"))?
         .arg(path(alloc, "SCRIPT", "The script"))?
-        .arg(hash_offset(alloc))?
+        .arg(own_offset(alloc))?
+        .arg(own_table(alloc))?
         .arg(journal(alloc))
 }
 
@@ -36,7 +38,8 @@ pub fn edit_words<'a>(matches: &ArgMatches<'a>) -> Option<EditWords<'a>> {
         data_path: matches.get_str("DATA")?,
         hash_path: matches.get_str("HASH")?,
         script_path: matches.get_str("SCRIPT")?,
-        hash_offset: matches.get_str("hash-offset")?,
+        hash_offset: matches.get_str("hash-offset"),
+        table: matches.get_str("table"),
         journal: matches.get_str("journal"),
     })
 }

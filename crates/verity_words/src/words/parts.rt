@@ -23,6 +23,24 @@ pub fn hash_offset<'a>(alloc: Global) -> Arg<'a> {
     .default_value("0")
 }
 
+/// `--hash-offset`, of the commands that edit: not beside `--table`.
+pub fn own_offset<'a>(alloc: Global) -> Arg<'a> {
+    option(
+        alloc,
+        "hash-offset",
+        "The superblock's place in HASH, in bytes; 0 where neither it nor a line is named",
+    )
+}
+
+/// `--table`, of the commands that edit.
+pub fn own_table<'a>(alloc: Global) -> Arg<'a> {
+    option(
+        alloc,
+        "table",
+        "The table line of the volume, under which nothing else of it is trusted",
+    )
+}
+
 /// `--journal`, of the commands that commit.
 pub fn journal<'a>(alloc: Global) -> Arg<'a> {
     option(
