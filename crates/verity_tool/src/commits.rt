@@ -2,14 +2,18 @@
 ghost use Rattle.std.specs.Prelude.{◌≡◌, length, IfOk};
 
 use crate::journal::{FileKeeper, fault_of_disks, make_journal, remove_journal};
+use crate::watching::WatchedFile;
 use std::alloc::Global;
 use std::fs::File;
+use std::io::Eprint;
 use std::rt::Files;
+use std::time::Clock;
 use verity_commit::{CommitFault, commit_editor};
 use verity_edit::{Committed, EditFault, Editor};
-use verity_files::{Fault, Opened, VolumeStore, store_of_most};
+use verity_files::{Fault, Opened, store_of_most};
 use verity_stage::Staged;
 use verity_store::{BlockStore, StoreFault, Which};
+use verity_watch::Watched;
 
 /// How an editor's commits reach a volume's files.
 pub trait Commits<D: BlockStore, H: BlockStore> {
@@ -38,10 +42,10 @@ impl<D: BlockStore, H: BlockStore> Commits<D, H> for Direct {
 }
 
 /// A store whose changes are kept beside a file or a device until they are committed.
-pub type StagedFile = Staged<VolumeStore>;
+pub type StagedFile<'a, R> = Staged<WatchedFile<'a, R>>;
 
 /// An editor over two of them.
-pub type StagedEditor = Editor<StagedFile, StagedFile>;
+pub type StagedEditor<'a, R> = Editor<StagedFile<'a, R>, StagedFile<'a, R>>;
 
 /// The stores are staged over the files: what was committed goes through a journal.
 #[derive(Drop)]
@@ -55,7 +59,7 @@ pub struct Journalled<'a, R> {
     is_broken: bool,
 }
 
-impl<'a, R: Files<File = File> + AllocGlobal> Journalled<'a, R> {
+impl<'a, R: Files<File = File> + Clock + Eprint + AllocGlobal> Journalled<'a, R> {
     /// Over these files, and a journal at this path: where it was there, with what was found.
     pub fn new(
         rt: &'a R,
@@ -88,7 +92,7 @@ impl<'a, R: Files<File = File> + AllocGlobal> Journalled<'a, R> {
     }
 
     /// Makes ready for a commit: nothing is staged, and there is a journal.
-    fn begin(&mut self, editor: &mut StagedEditor) -> Result<(), Fault> {
+    fn begin(&mut self, editor: &mut StagedEditor<'_, R>) -> Result<(), Fault> {
         if self.is_staged {
             self.empty_stages(editor)?;
             self.is_staged = false;
@@ -100,7 +104,7 @@ impl<'a, R: Files<File = File> + AllocGlobal> Journalled<'a, R> {
     }
 
     /// Puts stores with nothing staged in the place of the editor's, over the files as they are by now.
-    fn empty_stages(&self, editor: &mut StagedEditor) -> Result<(), Fault> {
+    fn empty_stages(&self, editor: &mut StagedEditor<'_, R>) -> Result<(), Fault> {
         let alloc = self.rt.alloc();
         let data = restaged(alloc, self.data.again()?, editor.data_store(), Which::Data)?;
         let hash = restaged(alloc, self.hash.again()?, editor.hash_store(), Which::Hash)?;
@@ -110,28 +114,30 @@ impl<'a, R: Files<File = File> + AllocGlobal> Journalled<'a, R> {
 }
 
 /// A store with nothing staged over a file that holds by now what a staged store does. E6 where it hasn't its length.
-fn restaged(
+fn restaged<'a, R: Clock + Eprint + AllocGlobal>(
     alloc: Global,
     opened: Opened,
-    old: &StagedFile,
+    old: &StagedFile<'a, R>,
     which: Which,
-) -> Result<StagedFile, Fault>
-    ensures size { IfOk result (λ s. ⟦<StagedFile as BlockStore>⟧.size s ≡ ⟦<StagedFile as BlockStore>⟧.size old.now) }
-    ensures len { IfOk result (λ s. length (⟦<StagedFile as BlockStore>⟧.content s)
-        ≡ length (⟦<StagedFile as BlockStore>⟧.content old.now)) }
+) -> Result<StagedFile<'a, R>, Fault>
+    ensures size { IfOk result (λ s. ⟦<StagedFile<'a, R> as BlockStore>⟧.size s ≡ ⟦<StagedFile<'a, R> as BlockStore>⟧.size old.now) }
+    ensures len { IfOk result (λ s. length (⟦<StagedFile<'a, R> as BlockStore>⟧.content s)
+        ≡ length (⟦<StagedFile<'a, R> as BlockStore>⟧.content old.now)) }
 {
     let size = old.block_size();
     let blocks = old.len();
     let store = store_of_most(opened, size, blocks)?;
-    match Staged::new(alloc, store) {
+    match Staged::new(alloc, Watched::new(store, None)) {
         Ok(staged) if staged.len() == blocks && staged.block_size() == size => Ok(staged),
         _ => Err(Fault::Edit(EditFault::Store(which))),
     }
 }
 
-impl<'a, R: Files<File = File> + AllocGlobal> Commits<StagedFile, StagedFile>
-    for Journalled<'a, R> {
-    fn commit(&mut self, editor: &mut StagedEditor) -> Result<Committed, Fault> {
+impl<'a, 'b, R: Files<File = File> + Clock + Eprint + AllocGlobal> Commits<
+    StagedFile<'b, R>,
+    StagedFile<'b, R>,
+> for Journalled<'a, R> {
+    fn commit(&mut self, editor: &mut StagedEditor<'b, R>) -> Result<Committed, Fault> {
         self.begin(editor)?;
         let Some(keeper) = &mut self.keeper else {
             return Err(Fault::Journal);
@@ -158,6 +164,6 @@ impl<'a, R: Files<File = File> + AllocGlobal> Commits<StagedFile, StagedFile>
 }
 
 /// Whether a commit failed since memory for what is staged was refused.
-fn is_starved(editor: &StagedEditor) -> bool {
+fn is_starved<'a, R: Clock + Eprint + AllocGlobal>(editor: &StagedEditor<'a, R>) -> bool {
     editor.data_store().is_starved() || editor.hash_store().is_starved()
 }

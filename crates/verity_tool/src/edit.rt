@@ -5,10 +5,12 @@ use crate::dump::read_superblock;
 use crate::journal::{check_other_gate, journal_path, recover_files};
 use crate::lines::Devices;
 use crate::script::{Script, read_script, run_script};
+use crate::watching::{end_progress, progress_of};
 use std::alloc::Global;
 use std::fs::File;
-use std::io::Write;
+use std::io::{Eprint, IsTerminal, Write};
 use std::rt::Files;
+use std::time::Clock;
 use verity_edit::{EditFault, Editor};
 use verity_files::{
     Command, Failure, Fault, Opened, VolumeStore, Word, check_apart, check_paths, fault_of, number,
@@ -17,14 +19,15 @@ use verity_files::{
 use verity_stage::Staged;
 use verity_store::{BlockStore, StoreFault, Which};
 use verity_superblock::SuperFault;
+use verity_watch::Watched;
 use verity_words::{EditWords, explain_no_journal, explain_recovered};
 
 /// Does the lines of SCRIPT over the volume in DATA and HASH, and prints their answers; why one wasn't done goes to `errors`.
 ///
 /// The words are read first, then both files opened and told apart, what stands in the journal is made whole, the superblock
 /// read, the volume opened, and the script read. Commits go through a journal, but where none is asked for, and where HASH is a
-/// device and none is named, which `errors` is told.
-pub fn edit<R: Files<File = File> + AllocGlobal, W: Write, E: Write>(
+/// device and none is named, which `errors` is told. Where `errors` is a terminal, the opening shows how much of DATA was read.
+pub fn edit<R: Files<File = File> + Clock + Eprint + AllocGlobal, W: Write, E: Write + IsTerminal>(
     rt: &R,
     words: &EditWords<'_>,
     output: &mut W,
@@ -48,7 +51,11 @@ pub fn edit<R: Files<File = File> + AllocGlobal, W: Write, E: Write>(
 }
 
 /// Edits the files themselves.
-fn edit_in_place<R: Files<File = File> + AllocGlobal, W: Write, E: Write>(
+fn edit_in_place<
+    R: Files<File = File> + Clock + Eprint + AllocGlobal,
+    W: Write,
+    E: Write + IsTerminal,
+>(
     rt: &R,
     words: &EditWords<'_>,
     offset: u64,
@@ -58,14 +65,22 @@ fn edit_in_place<R: Files<File = File> + AllocGlobal, W: Write, E: Write>(
     errors: &mut E,
 ) -> Result<u8, Failure> {
     let (data_store, hash_store, sizes) = open_stores(rt.alloc(), data, hash, offset)?;
-    match Editor::open_at(rt.alloc(), data_store, hash_store, offset) {
+    let progress = progress_of(rt, words.is_quiet, errors, &data_store);
+    let watched = Watched::new(data_store, progress.as_ref());
+    let opened = Editor::open_at(rt.alloc(), watched, hash_store, offset);
+    end_progress(progress.as_ref());
+    match opened {
         Ok(mut editor) => { run_words(rt, words, &mut editor, &mut Direct, sizes, output, errors) }
         Err(refused) => Err(refused.fault.into()),
     }
 }
 
 /// Edits through a journal, which is removed at the end where its gate is closed.
-fn edit_through<R: Files<File = File> + AllocGlobal, W: Write, E: Write>(
+fn edit_through<
+    R: Files<File = File> + Clock + Eprint + AllocGlobal,
+    W: Write,
+    E: Write + IsTerminal,
+>(
     rt: &R,
     words: &EditWords<'_>,
     path: &str,
@@ -96,7 +111,11 @@ fn edit_through<R: Files<File = File> + AllocGlobal, W: Write, E: Write>(
 }
 
 /// Edits stores that are staged over the files.
-fn edit_staged<R: Files<File = File> + AllocGlobal, W: Write, E: Write>(
+fn edit_staged<
+    R: Files<File = File> + Clock + Eprint + AllocGlobal,
+    W: Write,
+    E: Write + IsTerminal,
+>(
     rt: &R,
     words: &EditWords<'_>,
     commits: &mut Journalled<'_, R>,
@@ -107,9 +126,12 @@ fn edit_staged<R: Files<File = File> + AllocGlobal, W: Write, E: Write>(
     let alloc = rt.alloc();
     let (data, hash) = commits.files()?;
     let (data_store, hash_store, sizes) = open_stores(alloc, Ok(data), hash, offset)?;
-    let staged_data = Staged::new(alloc, data_store)?;
-    let staged_hash = Staged::new(alloc, hash_store)?;
-    match Editor::open_at(alloc, staged_data, staged_hash, offset) {
+    let progress = progress_of(rt, words.is_quiet, errors, &data_store);
+    let staged_data = Staged::new(alloc, Watched::new(data_store, progress.as_ref()))?;
+    let staged_hash = Staged::new(alloc, Watched::new(hash_store, None))?;
+    let opened = Editor::open_at(alloc, staged_data, staged_hash, offset);
+    end_progress(progress.as_ref());
+    match opened {
         Ok(mut editor) => run_words(rt, words, &mut editor, commits, sizes, output, errors),
         Err(refused) => Err(refused.fault.into()),
     }

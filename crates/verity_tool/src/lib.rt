@@ -17,7 +17,9 @@ mod scratch;
 mod script;
 mod serve;
 mod talk;
+mod told;
 mod verify;
+mod watching;
 
 pub use program::run;
 pub use serve::serve_on;

@@ -1,6 +1,6 @@
 //! The words of `edit`.
 
-use super::parts::{hash_offset, journal, path};
+use super::parts::{hash_offset, journal, path, quiet};
 use clap::{ArgMatches, Command};
 use std::alloc::{AllocError, Global};
 
@@ -18,6 +18,7 @@ pub struct EditWords<'a> {
     pub script_path: &'a str,
     pub hash_offset: &'a str,
     pub journal: Option<&'a str>,
+    pub is_quiet: bool,
 }
 
 pub fn edit_command<'a>(alloc: Global) -> Result<Command<'a>, AllocError> {
@@ -28,7 +29,8 @@ pub fn edit_command<'a>(alloc: Global) -> Result<Command<'a>, AllocError> {
         .arg(path(alloc, "HASH", "The hash device"))?
         .arg(path(alloc, "SCRIPT", "The script"))?
         .arg(hash_offset(alloc))?
-        .arg(journal(alloc))
+        .arg(journal(alloc))?
+        .arg(quiet(alloc))
 }
 
 pub fn edit_words<'a>(matches: &ArgMatches<'a>) -> Option<EditWords<'a>> {
@@ -38,5 +40,6 @@ pub fn edit_words<'a>(matches: &ArgMatches<'a>) -> Option<EditWords<'a>> {
         script_path: matches.get_str("SCRIPT")?,
         hash_offset: matches.get_str("hash-offset")?,
         journal: matches.get_str("journal"),
+        is_quiet: matches.get_flag("quiet"),
     })
 }
