@@ -77,7 +77,7 @@ impl Word {
             Word::Memory => "a count of MiB, in decimal digits, from 33 to 1048576",
             Word::Idle => "a count of seconds, in decimal digits",
             Word::Journal =>
-                "a path that leads neither to DATA nor to HASH; none, of edit and update, for no journal; a device has one only where named",
+                "a path that leads neither to DATA nor to HASH; none, of edit and update, for no journal; a device has one only if named",
         }
     }
 }

@@ -38,15 +38,7 @@ pub fn scratch<I: Read, W: Write, E: Write>(
         path: "standard input",
         bytes: &bytes,
     };
-    run_script(
-        alloc,
-        editor,
-        &mut Direct,
-        DEVICES,
-        script,
-        output,
-        errors,
-    )
+    run_script(alloc, editor, &mut Direct, DEVICES, script, output, errors)
 }
 
 fn zero_volume(alloc: Global) -> Result<Editor<MemStore, MemStore>, Failure> {

@@ -73,11 +73,7 @@ pub fn run_script<V: Edits, C: Commits<V>, W: Write, E: Write>(
 }
 
 /// Where a line of a script is done.
-fn place_of<'a, V: Edits>(
-    editor: &V,
-    script: Script<'a>,
-    line: usize,
-) -> Where<'a> {
+fn place_of<'a, V: Edits>(editor: &V, script: Script<'a>, line: usize) -> Where<'a> {
     Where {
         script: script.path,
         line,
@@ -167,10 +163,7 @@ fn reply_to<V: Edits, C: Commits<V>>(
     line: Line<'_>,
 ) -> (V, Result<Answer, Failure>) {
     if editor.broken() || commits.is_broken() {
-        return (
-            editor,
-            Ok(Answer::Refused(Fault::Edit(EditFault::Broken))),
-        );
+        return (editor, Ok(Answer::Refused(Fault::Edit(EditFault::Broken))));
     }
     if line == Line::Commit {
         let (editor, done) = commit(editor, commits, devices);
@@ -229,11 +222,7 @@ fn has_room<V: Edits>(editor: &V, devices: Devices<'_>) -> bool {
 }
 
 /// The command that a line asks for.
-fn command_of<V: Edits>(
-    alloc: Global,
-    editor: &V,
-    line: Line<'_>,
-) -> Result<Command, AllocError> {
+fn command_of<V: Edits>(alloc: Global, editor: &V, line: Line<'_>) -> Result<Command, AllocError> {
     Ok(match line {
         Line::Write(n, digits) => Command::Write(n, written(alloc, editor, n, digits)?),
         Line::Fill(n, byte) => Command::Write(n, filled(alloc, editor, n, byte)?),
@@ -251,12 +240,7 @@ fn is_welcome<V: Edits>(editor: &V, n: u64, size: usize) -> bool {
 }
 
 /// The block that these digits spell.
-fn written<V: Edits>(
-    alloc: Global,
-    editor: &V,
-    n: u64,
-    digits: &str,
-) -> Result<Block, AllocError> {
+fn written<V: Edits>(alloc: Global, editor: &V, n: u64, digits: &str) -> Result<Block, AllocError> {
     if !is_welcome(editor, n, digits.len() / 2) {
         return Ok(Block::new(Vec::new(alloc)));
     }
@@ -267,12 +251,7 @@ fn written<V: Edits>(
 }
 
 /// A block whose every byte is this one.
-fn filled<V: Edits>(
-    alloc: Global,
-    editor: &V,
-    n: u64,
-    byte: u8,
-) -> Result<Block, AllocError> {
+fn filled<V: Edits>(alloc: Global, editor: &V, n: u64, byte: u8) -> Result<Block, AllocError> {
     let size = editor.superblock().data_block_size();
     if !is_welcome(editor, n, size) {
         return Ok(Block::new(Vec::new(alloc)));

@@ -156,13 +156,7 @@ fn take<V: Edits + Edited>(
     let table = table_of(alloc, &volume, editor.root())?;
     let geometry = geometry_of(&table);
     let mut tree = Tree::new(alloc, table, geometry)?;
-    Ok(verity_update::update(
-        alloc,
-        &mut tree,
-        &mut hash_store,
-        new_store,
-        editor,
-    ))
+    Ok(verity_update::update(alloc, &mut tree, &mut hash_store, new_store, editor))
 }
 
 /// S1 where NEW can't be read; E8 where no line was trusted, and the tree isn't any more what it was when the volume was opened.
