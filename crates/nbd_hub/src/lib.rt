@@ -31,7 +31,8 @@ mod run;
 mod sessions;
 mod stream;
 
-pub use events::{Event, HubReply, Piece};
+pub use events::{Event, HubReply};
 pub use fault::{HubFault, ServeFault};
+pub use held_bytes::HeldBytes as Piece;
 pub use sessions::Sessions;
 pub use stream::serve;

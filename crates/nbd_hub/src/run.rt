@@ -6,8 +6,9 @@ ghost use Rattle.nbd_hub.specs.declared.events.HubReply.{HubReply};
 ghost use Rattle.nbd_hub.specs.History.{Step, step_of, steps};
 ghost use Rattle.nbd_hub.specs.After.{EachAfter, Given, IsAfter, Replies};
 
-use crate::events::{Event, HubReply, Piece};
+use crate::events::{Event, HubReply};
 use crate::sessions::Sessions;
+use held_bytes::HeldBytes as Piece;
 use nbd_session::Export;
 use std::alloc::{AllocError, Allocator};
 

@@ -18,7 +18,7 @@ ghost use Rattle.verity_build.specs.Device.{AreStored, StaysRight, StaysStored, 
 
 use crate::leaves::{Leaves, bytes_at_a_time};
 use crate::open_tree::OpenTree;
-use crate::prepare::{prepare, superblock_of, zeros};
+use crate::prepare::{prepare, superblock_of};
 use crate::{BuildFault, Params};
 use std::alloc::Allocator;
 use verity_digest::Digest;
@@ -283,7 +283,7 @@ pub fn build_at<A: Allocator + Copy, P: Allocator, D: BlockStore, H: BlockStore>
     let (start, mut tree) = prepare(alloc, data_store, hash_store, params, offset)?;
     let superblock = superblock_of(alloc, &tree.geometry, params)?;
     let size = bytes_at_a_time(tree.geometry.data_size()).max(tree.geometry.hash_size());
-    let mut buffer = zeros(alloc, size)?;
+    let mut buffer = Vec::from_elem(alloc, 0u8, size)?;
     let Ok(()) = hash_store.reserve(start + tree.geometry.total()) else {
         return Err(BuildFault::NoMemory);
     };

@@ -16,7 +16,7 @@ ghost use Rattle.verity_build.specs.Differences as spec;
 
 use crate::leaves::{Leaves, bytes_at_a_time};
 use crate::open_tree::OpenTree;
-use crate::prepare::{prepare, zeros};
+use crate::prepare::prepare;
 use crate::{BuildFault, Compared, Params};
 use std::alloc::Allocator;
 use verity_geometry::GeometryFault;
@@ -239,8 +239,8 @@ pub fn compare_at<A: Allocator + Copy, P: Allocator, D: BlockStore, H: BlockStor
         → (D.failures data_store.new ≡ D.failures data_store.old) × (H.failures hash_store.new ≡ H.failures hash_store.old)) }
 {
     let (start, mut tree) = prepare(alloc, data_store, hash_store, params, offset)?;
-    let mut buffer = zeros(alloc, bytes_at_a_time(tree.geometry.data_size()))?;
-    let mut hash_block = zeros(alloc, tree.geometry.hash_size())?;
+    let mut buffer = Vec::from_elem(alloc, 0u8, bytes_at_a_time(tree.geometry.data_size()))?;
+    let mut hash_block = Vec::from_elem(alloc, 0u8, tree.geometry.hash_size())?;
     let found = compare_tree(
         &mut tree,
         data_store,

@@ -1,6 +1,7 @@
 //! Why nothing was built or compared.
 ghost use Rattle.std.specs.Prelude.{◌≡◌, Some};
 
+use std::alloc::AllocError;
 use std::fmt;
 use thiserror::Error;
 use verity_geometry::GeometryFault;
@@ -28,6 +29,17 @@ impl From<Which> for BuildFault {
     /// U2 with this store.
     fn from(which: Which) -> Self {
         BuildFault::Store(which)
+    }
+}
+
+impl From<AllocError> for BuildFault {
+    ghost use Rattle.verity_build.specs.declared.fault.BuildFault.TheVariants as fault;
+
+    ghost from_gives = { λ _ built. built ≡ fault.NoMemory };
+
+    /// U3.
+    fn from(_refused: AllocError) -> Self {
+        BuildFault::NoMemory
     }
 }
 

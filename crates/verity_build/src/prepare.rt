@@ -10,21 +10,10 @@ ghost use Rattle.verity_build.specs.Faults.{CanBuild, Explains};
 use crate::open_tree::OpenTree;
 use crate::{BuildFault, Params};
 use std::alloc::Allocator;
-use verity_digest::{Hasher, Salt};
+use verity_digest::Hasher;
 use verity_geometry::Geometry;
 use verity_store::BlockStore;
 use verity_superblock::{Superblock, tree_start};
-
-/// A salt of the same bytes. U3 where memory was refused.
-fn copy_of<A: Allocator, P: Allocator>(alloc: A, salt: &Salt<P>) -> Result<Salt<A>, BuildFault>
-    ensures value { IfOk result (λ copy. copy ≡ salt.now) }
-    ensures fault { IfErr result (λ fault. fault ≡ BuildFault.NoMemory) }
-{
-    match Salt::new(alloc, salt.bytes()) {
-        Ok(copy) => Ok(copy),
-        Err(_) => Err(BuildFault::NoMemory),
-    }
-}
 
 /// Where the tree of a volume over these stores begins, and its open blocks. The first that applies:
 /// U1, U4, U3.
@@ -58,7 +47,7 @@ pub(crate) fn prepare<A: Allocator + Copy, P: Allocator, D: BlockStore, H: Block
     let Ok(start) = tree_start(offset, hash_store.block_size()) else {
         return Err(BuildFault::Offset);
     };
-    let salt = copy_of(alloc, params.salt())?;
+    let salt = params.salt().copy(alloc)?;
     match OpenTree::new(alloc, Hasher::new(salt, algorithm), geometry) {
         Ok(tree) => Ok((start, tree)),
         Err(_) => Err(BuildFault::NoMemory),
@@ -75,7 +64,7 @@ pub(crate) fn superblock_of<A: Allocator + Copy, P: Allocator>(
         geometry.now.blocks) }
     ensures fault { IfErr result (λ fault. fault ≡ BuildFault.NoMemory) }
 {
-    let salt = copy_of(alloc, params.salt())?;
+    let salt = params.salt().copy(alloc)?;
     match Superblock::new(
         geometry.data_size(),
         geometry.hash_size(),
@@ -86,16 +75,5 @@ pub(crate) fn superblock_of<A: Allocator + Copy, P: Allocator>(
     ) {
         Ok(superblock) => Ok(superblock.encode()),
         Err(_) => unreachable!(),
-    }
-}
-
-/// So many zero bytes. U3 where memory was refused.
-pub(crate) fn zeros<A: Allocator>(alloc: A, len: usize) -> Result<Vec<u8, A>, BuildFault>
-    ensures value { IfOk result (λ bytes. bytes.items ≡ replicate len 0) }
-    ensures fault { IfErr result (λ fault. fault ≡ BuildFault.NoMemory) }
-{
-    match Vec::from_elem(alloc, 0u8, len) {
-        Ok(bytes) => Ok(bytes),
-        Err(_) => Err(BuildFault::NoMemory),
     }
 }

@@ -7,7 +7,7 @@ ghost use Rattle.verity_chain.specs.Table.{height, row_len, tree_len, hash_place
 
 use std::alloc::{AllocError, Allocator, Global};
 use std::marker::Model;
-use verity_digest::{Algorithm, Digest, Hasher, Salt, SaltFault};
+use verity_digest::{Digest, Hasher};
 use verity_geometry::Geometry;
 use verity_superblock::Table;
 
@@ -55,7 +55,7 @@ impl<A: Allocator + Copy> Tree<A> {
             table.hash_block_size(),
             table.data_blocks(),
         );
-        match Salt::new(alloc, table.salt().bytes()) {
+        match table.salt().copy(alloc) {
             Ok(salt) => {
                 let hasher = Hasher::new(salt, table.algorithm());
                 Ok(Tree {
@@ -183,18 +183,7 @@ impl<A: Allocator> Tree<A> {
         requires whole { length block.now ≡ self.now.hash_block_size }
         ensures { result ≡ slot_in (hashing_of self.now) block.now slot }
     {
-        match self.table.algorithm() {
-            Algorithm::Sha256 => {
-                let mut bytes = [0; 32];
-                bytes.copy_from_slice(&block[slot * 32..slot * 32 + 32]);
-                Digest::from_bytes(bytes)
-            }
-            Algorithm::Sha512 => {
-                let mut bytes = [0; 64];
-                bytes.copy_from_slice(&block[slot * 64..slot * 64 + 64]);
-                Digest::from_wide(bytes)
-            }
-        }
+        Digest::in_block(block, slot, self.table.algorithm())
     }
 
     /// Whether a block has this digest.

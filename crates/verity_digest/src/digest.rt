@@ -1,5 +1,5 @@
 //! The digest of a block.
-ghost use Rattle.std.specs.Prelude.{◌≡◌, length};
+ghost use Rattle.std.specs.Prelude.{◌≡◌, ◌≤◌, ◌+◌, ◌*◌, length, take, drop};
 ghost use Rattle.verity_digest.specs.Hash.{size_of};
 
 use crate::Algorithm;
@@ -52,6 +52,27 @@ impl Digest {
         Digest {
             bytes: wide,
             algorithm: Algorithm::Sha512,
+        }
+    }
+
+    /// The digest in a slot of a hash block, whose slots have the size of this algorithm's digests.
+    pub fn in_block(block: &[u8], slot: usize, algorithm: Algorithm) -> Self
+        requires { slot * size_of algorithm + size_of algorithm ≤ length block.now }
+        ensures value { result ≡ take (size_of algorithm) (drop (slot * size_of algorithm) block.now) }
+        ensures size { length result ≡ size_of algorithm }
+    {
+        let at = slot * algorithm.size();
+        match algorithm {
+            Algorithm::Sha256 => {
+                let mut bytes = [0; 32];
+                bytes.copy_from_slice(&block[at..at + 32]);
+                Digest::from_bytes(bytes)
+            }
+            Algorithm::Sha512 => {
+                let mut bytes = [0; 64];
+                bytes.copy_from_slice(&block[at..at + 64]);
+                Digest::from_wide(bytes)
+            }
         }
     }
 

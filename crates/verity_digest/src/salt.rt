@@ -1,7 +1,7 @@
 //! The salt of a volume.
 ghost use Rattle.std.specs.Prelude.{◌≡◌, ◌↔◌, ◌<◌, ◌≤◌, length, IfOk};
 
-use std::alloc::{Allocator, Global};
+use std::alloc::{AllocError, Allocator, Global};
 use std::fmt;
 use std::marker::Model;
 use thiserror::Error;
@@ -59,6 +59,14 @@ impl<A: Allocator> Salt<A> {
             Ok(bytes) => Ok(Salt { bytes }),
             Err(_) => Err(SaltFault::NoMemory),
         }
+    }
+
+    /// The same salt, in memory of its own. It takes one request for memory, of as many bytes as it has.
+    pub fn copy<B: Allocator>(&self, alloc: B) -> Result<Salt<B>, AllocError>
+        ensures { IfOk result (λ salt. salt ≡ self.now) }
+    {
+        let bytes = self.bytes().to_vec(alloc)?;
+        Ok(Salt { bytes })
     }
 
     /// Its bytes.

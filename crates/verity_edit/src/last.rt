@@ -16,27 +16,6 @@ use std::alloc::Allocator;
 use verity_digest::{Algorithm, Digest};
 use verity_store::{BlockStore, Which};
 
-/// The digest that stands in a slot of a hash block.
-fn digest_at(block: &[u8], slot: usize, algorithm: Algorithm) -> Digest
-    requires { slot * size_of algorithm + size_of algorithm ≤ length block.now }
-    ensures value { result ≡ take (size_of algorithm) (drop (slot * size_of algorithm) block.now) }
-    ensures size { length result ≡ size_of algorithm }
-{
-    let at = slot * algorithm.size();
-    match algorithm {
-        Algorithm::Sha256 => {
-            let mut bytes = [0; 32];
-            bytes.copy_from_slice(&block[at..at + 32]);
-            Digest::from_bytes(bytes)
-        }
-        Algorithm::Sha512 => {
-            let mut bytes = [0; 64];
-            bytes.copy_from_slice(&block[at..at + 64]);
-            Digest::from_wide(bytes)
-        }
-    }
-}
-
 /// Adds the last data block of the new count to the leaves, with the digest that level 0 of the committed tree holds. It
 /// reads one hash block.
 pub fn add_last<H: BlockStore, A: Allocator>(
@@ -66,7 +45,7 @@ pub fn add_last<H: BlockStore, A: Allocator>(
     };
     let child = Child {
         number: last,
-        digest: digest_at(block, slot, algorithm),
+        digest: Digest::in_block(block, slot, algorithm),
     };
     match leaves.push(child) {
         Ok(()) => Ok(()),

@@ -22,7 +22,7 @@ use crate::made::Made;
 use crate::pending::Pending;
 use crate::tree::{Change, make_tree};
 use std::alloc::Allocator;
-use verity_digest::{Digest, Hasher, Salt};
+use verity_digest::{Digest, Hasher};
 use verity_geometry::Geometry;
 use verity_store::{BlockStore, Which};
 use verity_superblock::Superblock;
@@ -47,17 +47,6 @@ pub struct CommitPlan<A: Allocator> {
 }
 
 ghost use Rattle.verity_edit.specs.Planning.{volume_shape, IsPlan, IsRight, ReadsTouched};
-
-/// So many zero bytes.
-pub fn zeros<A: Allocator>(alloc: A, len: usize) -> Result<Vec<u8, A>, EditFault>
-    ensures value { IfOk result (λ bytes. bytes.items ≡ replicate len 0) }
-    ensures fault { IfErr result (λ fault. fault ≡ EditFault.NoMemory) }
-{
-    match Vec::from_elem(alloc, 0u8, len) {
-        Ok(bytes) => Ok(bytes),
-        Err(_) => Err(EditFault::NoMemory),
-    }
-}
 
 /// The geometry of a volume with so many data blocks.
 pub fn geometry_over<A: Allocator>(superblock: &Superblock<A>, blocks: u64) -> Geometry
@@ -89,9 +78,7 @@ fn superblock_over<A: Allocator + Copy>(
     ensures value { IfOk result (λ next. next ≡ record { params = superblock.now.params; data_blocks = blocks }) }
     ensures fault { IfErr result (λ fault. fault ≡ EditFault.NoMemory) }
 {
-    let Ok(salt) = Salt::new(alloc, superblock.salt().bytes()) else {
-        return Err(EditFault::NoMemory);
-    };
+    let salt = superblock.salt().copy(alloc)?;
     match Superblock::new(
         superblock.data_block_size(),
         superblock.hash_block_size(),
@@ -216,7 +203,7 @@ pub fn plan_commit<H: BlockStore, A: Allocator + Copy>(
         new: geometry_over(superblock, blocks),
         root,
     };
-    let zero = zeros(alloc, superblock.data_block_size())?;
+    let zero = Vec::from_elem(alloc, 0u8, superblock.data_block_size())?;
     let next = superblock_over(alloc, superblock, blocks)?;
     let first_block = first_block_of(alloc, &next)?;
     let tree = plan_tree(alloc, hash_store, hasher, pending, &change, &zero, block)?;

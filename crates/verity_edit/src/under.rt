@@ -15,10 +15,10 @@ use crate::EditFault;
 use crate::committing::{carry_out, reserve_both};
 use crate::line_opening::tree_of;
 use crate::pending::Pending;
-use crate::planning::{CommitPlan, plan_commit, zeros};
+use crate::planning::{CommitPlan, plan_commit};
 use std::alloc::Allocator;
 use verity_chain::{Checked, ReadRefused, Tree};
-use verity_digest::{Digest, Hasher, Salt};
+use verity_digest::{Digest, Hasher};
 use verity_store::{BlockStore, Which};
 use verity_superblock::{Superblock, Table};
 
@@ -164,9 +164,7 @@ fn next_tree<A: Allocator + Copy>(
     ensures fault { IfErr result (λ fault. fault ≡ EditFault.NoMemory) }
 {
     let old = tree.table();
-    let Ok(salt) = Salt::new(alloc, old.salt().bytes()) else {
-        return Err(EditFault::NoMemory);
-    };
+    let salt = old.salt().copy(alloc)?;
     let Ok(table) = Table::new(
         alloc,
         old.dev(),
@@ -225,7 +223,7 @@ pub fn commit_under<D: BlockStore, H: BlockStore, A: Allocator + Copy + Drop>(
 {
     let first = tree.table().hash_start_block();
     let root = tree.root();
-    let Ok(mut block) = zeros(alloc, superblock.hash_block_size()) else {
+    let Ok(mut block) = Vec::from_elem(alloc, 0u8, superblock.hash_block_size()) else {
         return (
             tree,
             hash_store,

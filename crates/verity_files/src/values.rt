@@ -11,6 +11,7 @@ use hex::FromHexError;
 use std::alloc::Global;
 use uuid::Uuid;
 use verity_digest::{Algorithm, Salt};
+use verity_superblock::path_fits;
 
 /// The least and the most MiB of replies that may wait.
 const LEAST_MEMORY: u64 = 33;
@@ -126,23 +127,11 @@ pub fn algorithm(text: &str) -> Result<Algorithm, Failure>
 pub fn check_paths(data_path: &str, hash_path: &str) -> Result<(), Failure>
     ensures { result_err result ≡ paths_refusal data_path.now hash_path.now }
 {
-    if !is_field(data_path) {
+    if !path_fits(data_path) {
         return Err(Failure::Word(Word::Data));
     }
-    if !is_field(hash_path) || hash_path == data_path {
+    if !path_fits(hash_path) || hash_path == data_path {
         return Err(Failure::Word(Word::Hash));
     }
     Ok(())
-}
-
-fn is_field(text: &str) -> bool
-    ensures { result ≡ is_path text.now }
-{
-    0 < text.len() && has_no_space(text)
-}
-
-fn has_no_space(text: &str) -> bool
-    ensures { result ≡ list_all (λ b. not (b == 32)) text.now }
-{
-    text.as_bytes().iter().all(|byte| *byte != b' ')
 }

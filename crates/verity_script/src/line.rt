@@ -7,9 +7,7 @@ ghost use Rattle.verity_superblock.specs.Line.{fields_of, is_number, number};
 ghost use Rattle.verity_script.specs.Script.{asked, asked_by, asked_of, byte_of, is_block};
 
 use hex::FromHex;
-
-/// The most digits of a number.
-const MOST_DIGITS: usize = 20;
+use verity_superblock::read_number;
 
 /// What a line of a script asks for.
 #[derive(Clone, Copy, Debug, PartialEq, Eq)]
@@ -109,23 +107,6 @@ fn read_digits<'a>(word: &'a str, place: &'a str, digits: &'a str) -> Option<Lin
     } else {
         None
     }
-}
-
-/// The number of 1 to 20 decimal digits whose value fits 64 bits.
-fn read_number(digits: &str) -> Option<u64>
-    ensures found { IsSome result ↔ IsTrue (is_number digits.now) }
-    ensures value { IfSome result (λ n. n ≡ number digits.now) }
-{
-    if digits.len() > MOST_DIGITS || !are_digits(digits) {
-        return None;
-    }
-    digits.parse::<u64>().ok()
-}
-
-fn are_digits(text: &str) -> bool
-    ensures { result ≡ list_all is_ascii_digit text.now }
-{
-    text.as_bytes().iter().all(|byte| byte.is_ascii_digit())
 }
 
 /// The byte of two hexadecimal digits.

@@ -18,7 +18,6 @@
 //! a file), `specs/Window.antt` (its first bytes), `specs/Texts.antt` (the texts).
 #![tactic(auto)]
 
-mod block;
 mod fault;
 mod file;
 mod memory;
@@ -27,9 +26,9 @@ mod raw_file;
 mod store;
 mod window;
 
-pub use block::Block;
 pub use fault::{StoreFault, Which};
 pub use file::FileStore;
+pub use held_bytes::HeldBytes as Block;
 pub use memory::MemStore;
 pub use moves::move_run;
 pub use raw_file::RawFile;

@@ -24,6 +24,7 @@ mod superblock;
 mod table;
 
 pub use faults::{SuperFault, TableFault};
+pub use line::{path_fits, read_number};
 pub use start::tree_start;
 pub use superblock::Superblock;
-pub use table::Table;
+pub use table::{Table, spell_salt};

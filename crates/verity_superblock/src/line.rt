@@ -96,8 +96,8 @@ fn cut(text: &str) -> (&str, &str)
     text.split_once(' ').unwrap()
 }
 
-/// Whether a path can stand in a table line: it isn't empty and holds no space.
-pub(crate) fn path_fits(path: &str) -> bool
+/// Whether a path can stand in a table line: it isn't empty and holds no space. It takes no memory.
+pub fn path_fits(path: &str) -> bool
     ensures { result ≡ is_path path.now }
 {
     0 < path.len() && has_no_space(path)
@@ -109,8 +109,8 @@ fn has_no_space(text: &str) -> bool
     text.as_bytes().iter().all(|byte| *byte != b' ')
 }
 
-/// The number of 1 to 20 decimal digits whose value fits 64 bits.
-pub(crate) fn read_number(digits: &str) -> Option<u64>
+/// The number of 1 to 20 decimal digits whose value fits 64 bits; none of other text. It takes no memory.
+pub fn read_number(digits: &str) -> Option<u64>
     ensures found { IsSome result ↔ IsTrue (is_number digits.now) }
     ensures value { IfSome result (λ n. n ≡ number digits.now) }
 {

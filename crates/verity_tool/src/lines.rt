@@ -5,7 +5,7 @@ use std::io::Write;
 use verity_digest::Digest;
 use verity_files::{Failure, salt};
 use verity_geometry::Geometry;
-use verity_superblock::{Superblock, Table};
+use verity_superblock::{Superblock, Table, spell_salt};
 
 /// What a table line names but for the root hash.
 #[derive(Clone, Copy)]
@@ -100,7 +100,7 @@ fn print_fields<W: Write>(
     let data_block_size = superblock.data_block_size();
     let hash_block_size = superblock.hash_block_size();
     let data_blocks = superblock.data_blocks();
-    let salt = salt_text(alloc, superblock.salt().bytes())?;
+    let salt = spell_salt(alloc, superblock.salt())?;
     writeln!(output, "version 1")?;
     writeln!(output, "hash_type 1")?;
     writeln!(output, "uuid {uuid}")?;
@@ -110,14 +110,6 @@ fn print_fields<W: Write>(
     writeln!(output, "data_blocks {data_blocks}")?;
     writeln!(output, "salt {salt}")?;
     Ok(())
-}
-
-/// A salt as it is printed: `-` where it is empty, else its hexadecimal digits in lower case.
-fn salt_text(alloc: Global, bytes: &[u8]) -> Result<String, Failure> {
-    if bytes.is_empty() {
-        return Ok(String::from_str(alloc, "-")?);
-    }
-    Ok(hex::encode(alloc, bytes)?)
 }
 
 fn print_levels<W: Write>(geometry: &Geometry, start: u64, output: &mut W) -> Result<(), Failure> {

@@ -27,9 +27,9 @@ pub returns-in-Ok-push-clause-added : goal.returns-in-Ok-push-clause-added
 returns-in-Ok-push-clause-added g c =
     let last : c.blocks-last.result - 1 ≡ c.args.change.now.new.blocks - 1 = ap (λ n. n - 1) c.blocks-last.ensures.value in
     record {
-      digest = c.digest_at.result;
-      sized = c.digest_at.ensures.size;
-      added = c.in-Ok-push.ensures.items ∙ ap (λ n. let x : Child = record { number = n; digest = c.digest_at.result } in
+      digest = c.in_block.result;
+      sized = c.in_block.ensures.size;
+      added = c.in-Ok-push.ensures.items ∙ ap (λ n. let x : Child = record { number = n; digest = c.in_block.result } in
           c.args.leaves.now.items ++ x ∷ []) last;
     }
 
@@ -55,8 +55,8 @@ returns-in-Ok-push-clause-named g c = λ content shown h image ok block_size dig
     let inside : b / per_block h < level_len (per_block h) (length image) 0 =
     subst (λ (n : ℕ). n < level_len (per_block h) (length image) 0) index
     (subst (λ (n : ℕ). c.leaf_parent-index.result.0 < n) (λ i. level_len (width i) (sym len i) 0) parent.index_within) in
-    let digest : c.digest_at.result ≡ h.digest (get_or image b []) =
-    c.digest_at.ensures.value ∙ (λ i. take (size i) (drop (slots i * size i) (block i)))
+    let digest : c.in_block.result ≡ h.digest (get_or image b []) =
+    c.in_block.ensures.value ∙ (λ i. take (size i) (drop (slots i * size i) (block i)))
     ∙ slot_stands h image content first b ok stands some_level (omega arith) inside in
     c.in-Ok-push.ensures.items
     ∙ (λ i. let x : Child = record { number = last i; digest = digest i } in c.args.leaves.now.items ++ x ∷ [])
