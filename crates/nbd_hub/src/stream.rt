@@ -88,7 +88,7 @@ fn exchange<E: Export, A: Allocator + Copy, W: Write>(
 }
 
 /// Writes the greeting, then takes turns with the client.
-fn turns<E: Export, A: Allocator + Copy, R: Read, W: Write>(
+fn converse<E: Export, A: Allocator + Copy, R: Read, W: Write>(
     hub: &mut Sessions<E, A>,
     id: u64,
     out: &mut Vec<u8, A>,
@@ -186,7 +186,7 @@ pub fn serve<E: Export, A: Allocator + Copy, R: Read, W: Write>(
     let mut out = Vec::new(hub.allocator());
     match hub.open(&mut out) {
         Ok(id) => {
-            let result = turns(hub, id, &mut out, reader, writer, limit);
+            let result = converse(hub, id, &mut out, reader, writer, limit);
             match hub.end(id) {
                 Ok(()) => result,
                 Err(_) => unreachable!(),

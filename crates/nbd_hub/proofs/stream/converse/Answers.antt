@@ -6,7 +6,7 @@ use Rattle.nbd_session.specs.Handshake.{greeting}
 use Rattle.nbd_session.proofs.Moving.{Keeps-refl, Keeps-trans}
 use Rattle.nbd_hub.proofs.Turns.{talked_first, taken_at, taken_on, sets_none, sets_on, sets_at, some_is, on_err, on_ok, turned}
 use Rattle.nbd_hub.proofs.Turns.{served_err, ended_if, open_if, turned_first, turned_on}
-use Rattle.nbd_hub.proofs.stream.turns.Goals as goal
+use Rattle.nbd_hub.proofs.stream.converse.Goals as goal
 
 pub returns-then-is_err-clause-served : goal.returns-then-is_err-clause-served
 returns-then-is_err-clause-served g c =

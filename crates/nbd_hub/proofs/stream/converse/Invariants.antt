@@ -5,7 +5,7 @@ use Rattle.nbd_hub.specs.History.{Step}
 use Rattle.nbd_hub.specs.Sessions.{SetsOnly}
 use Rattle.nbd_hub.specs.After.{IsAfter}
 use Rattle.nbd_hub.specs.Stream.{Moved, HasEnded, turn_bytes, TurnedAfter}
-use Rattle.nbd_hub.proofs.stream.turns.Given as goal
+use Rattle.nbd_hub.proofs.stream.converse.Given as goal
 
 abbrev pub invariant-loop-turn : goal.invariant-loop-turn
 invariant-loop-turn g l =
