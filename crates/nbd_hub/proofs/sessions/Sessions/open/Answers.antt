@@ -1,5 +1,5 @@
 use Rattle.std.proofs.Common.{◌≡◌, ◌+◌, ℕ, nat_eq, if◌then◌else◌, List, [], ◌∷◌, ◌++◌, Some, length, refl, sym, ap, ◌∙◌, subst}
-use Rattle.std.proofs.Common.{arith, length-append}
+use Rattle.std.proofs.Common.{arith, length-append, rules}
 use Rattle.nbd_session.specs.declared.offer.Offer.{Offer}
 use Rattle.nbd_hub.specs.Sessions.{Entry, IsSound, lookup}
 use Rattle.nbd_hub.proofs.Lookup.{lookup-push, Rising-push, AllOffer-push}
@@ -62,3 +62,9 @@ returns-in-Ok-push-clause-after g c =
     λ history x. after_opened (f c.args.self.now.1) (f c.self.inside.export) c.args.self.now.0 _ history c.self.inside.next
     (keeps_at f c.args.self.now.1 c.self.inside.export (ap (λ p. p.1) (sym c.self.view_is)))
     (returns-in-Ok-push-clause-opens g c) x
+
+pub invariant_of-self-in-Err : goal.invariant_of-self-in-Err
+invariant_of-self-in-Err g c = search rules depth 4
+
+pub returns-in-Err-clause-refused : goal.returns-in-Err-clause-refused
+returns-in-Err-clause-refused g c = search rules depth 4
