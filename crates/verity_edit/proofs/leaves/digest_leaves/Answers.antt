@@ -1,9 +1,9 @@
-use Rattle.std.proofs.Common.{◌≡◌, ℕ, ◌+◌, ◌-◌, ◌≤◌, List, length, take, drop, map, sym, ap, ◌∙◌, arith}
+use Rattle.std.proofs.Common.{◌≡◌, ℕ, ◌+◌, ◌-◌, ◌≤◌, List, length, take, drop, map, ap, ◌∙◌, arith}
 use Rattle.std.proofs.lemmas.List.{length-take-le, length-drop}
 use Rattle.verity_digest.specs.Hash.{Salted}
 use Rattle.verity_edit.specs.declared.plan.Child.{Child}
 use Rattle.verity_edit.specs.Leaves.{hashed_leaf}
-use Rattle.verity_edit.proofs.LeafLemmas.{run_made, all_made}
+use Rattle.verity_edit.proofs.LeafLemmas.{run_made}
 use Rattle.verity_edit.proofs.leaves.digest_leaves.Goals as goal
 
 pub runs-preserved : goal.runs-preserved
