@@ -139,8 +139,8 @@ fn take<H: BlockStore, A: Allocator + Copy + Drop>(
 /// Finds the note of a hash block; else reads the block, checks it and notes it, below the notes of the blocks above it, of
 /// which it reads those that aren't there.
 ///
-/// Each block that is read is noted, unless it was refused, which ends the call; no block is noted twice. `block` has the bytes of a hash block, and
-/// may then hold anything. It takes memory for each note.
+/// Each block that is read is noted, unless it was refused, which ends the call; no block is noted twice. `block` has the bytes of
+/// a hash block, and may then hold anything. It takes memory for each note.
 pub fn fetch<H: BlockStore, A: Allocator + Copy + Drop>(
     alloc: A,
     tree: &mut Tree<A>,
