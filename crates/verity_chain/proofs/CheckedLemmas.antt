@@ -1,21 +1,23 @@
 -- What reads leave of a checked store.
 use Rattle.std.proofs.Common.{ℕ, ◌+◌, ◌<◌, ◌≤◌, ◌≡◌, ◌≢◌, ◌++◌, List, [], ◌∷◌, length, Contains, Option, None, Some, sym, ap, ◌∙◌}
-use Rattle.std.proofs.Common.{◌≢◌, true, false, true≢false, subst, inl, inr, ⊎_elim, arith, refl}
+use Rattle.std.proofs.Common.{Bool, true, false, true≢false, subst, inl, inr, ⊎_elim, arith, refl}
 use Rattle.std.specs.Prelude.{IfSome}
 use Rattle.std.specs.Option.{is_some}
-use Rattle.std.proofs.lemmas.List.Elements.{Contains-push_cases}
+use Rattle.std.proofs.lemmas.List.Elements.{Contains-push_cases, Contains-push, Contains-append_left}
 use Rattle.verity_store.specs.Stores.{IsOnlyRead}
 use Rattle.verity_store.specs.declared.store.BlockStore as store
 use Rattle.verity_store.proofs.GivenLemmas.{goes_on_then, goes_on_same}
-use Rattle.verity_chain.specs.Table.{Table, tree_len}
+use Rattle.verity_chain.specs.Table.{Table, height, tree_len}
 use Rattle.verity_chain.specs.Stores.{hash_given, IsHashStoreOf}
 use Rattle.verity_chain.specs.Notes.{Note, AreChecked, WereGiven, KeepsNotes, ExplainsUnread}
+use Rattle.verity_chain.specs.Notes.{AreApart, IsUpward, AsksWithin, NotesWithin}
 use Rattle.verity_chain.specs.Origin.{StoreFacts, facts_of, IsReadSince}
-use Rattle.verity_chain.specs.Checked.{IsAnswer, Checking, IsChecking, unread}
+use Rattle.verity_chain.specs.Checked.{IsAnswer, AsksOnly, Covers, Checking, IsChecking, unread}
 use Rattle.verity_chain.specs.declared.notes.ReadRefused.{ReadRefused}
 use Rattle.verity_chain.specs.declared.notes.ReadRefused.TheVariants as variant
 use Rattle.verity_chain.proofs.ChainLemmas.{hash_given-grows}
 use Rattle.verity_chain.proofs.NoteLemmas.{explains_grows}
+use Rattle.verity_chain.proofs.FewLemmas.{few_notes}
 
 some_not_none : {X : Type 0} (x : X) → Some x ≡ None → ⊥
 some_not_none x e = subst (λ o. IfSome o (λ y. ⊥)) (sym e) tt
@@ -63,12 +65,15 @@ answer_kept t old new n block keeps = ⊎_elim inl (λ has. inr (keeps (record {
 
 module _ {H : Type 0} (hash : store.Ghosts H) (c : Checking H) (new : H) (notes : List Note) (is : IsChecking hash c)
     (read : IsOnlyRead hash c.hash_store new)
-    (checked : AreChecked c.table notes) (noted : WereGiven hash c.since new notes) (keeps : KeepsNotes c.notes notes) where
+    (checked : AreChecked c.table notes) (noted : WereGiven hash c.since new notes) (keeps : KeepsNotes c.notes notes)
+    (first : c.refusal ≡ None) (apart : AreApart notes) where
   -- a read that was answered
   pub checking_answered : (given : List (ℕ × List ℕ)) (asked n : ℕ) (block : List ℕ) → given ≡ c.given ++ (n, block) ∷ [] →
       IsAnswer c.table notes n block → hash.failures new ≡ hash.failures c.hash_store
+      → ((set : ℕ → ℕ → Bool) → IsUpward c.table set → AsksWithin c.table set n → NotesWithin c.table set c.notes notes)
+      → hash.reads new + length c.notes ≡ hash.reads c.hash_store + length notes
       → IsChecking hash (record c { hash_store = new; notes = notes; given = given; asked = asked })
-  checking_answered given asked n block added answer unfailed = record {
+  checking_answered given asked n block added answer unfailed within reads = record {
     store = store_later hash c.table c.hash_store new read is.store;
     blocks = is.blocks;
     since = is.since;
@@ -90,14 +95,25 @@ module _ {H : Type 0} (hash : store.Ghosts H) (c : Checking H) (new : H) (notes 
     unrefused = is.unrefused;
     counted = is.counted;
     unfailed = λ other. unfailed ∙ is.unfailed other;
+    apart = apart;
+    within = λ none set asks m has.
+        let has_now : (k : ℕ) (b : List ℕ) → Contains (c.given ++ (n, block) ∷ []) (k, b) → AsksWithin c.table set k =
+        subst (λ rows. (k : ℕ) (b : List ℕ) → Contains rows (k, b) → AsksWithin c.table set k) added asks.1 in
+        ⊎_elim
+        (is.within first set (asks.0, λ k b h. has_now k b (Contains-append_left c.given ((n, block) ∷ []) (k, b) h)) m)
+        (λ here. here)
+        (within set asks.0 (has_now n block (Contains-push c.given (n, block))) m has);
+    reads = λ none. let before = is.reads first in omega (arith, reads);
+    few = λ some. absurd (some first);
   }
 
   -- a read that was refused
-  pub checking_refused : (asked refused : ℕ) (why : ReadRefused) → c.refusal ≡ None → refused ≡ c.refused + 1
+  pub checking_refused : (asked refused : ℕ) (why : ReadRefused) → refused ≡ c.refused + 1
       → ExplainsUnread c.table (hash_given hash c.table c.since new) (hash.failures c.hash_store < hash.failures new) why
       → (why ≢ variant.Store → hash.failures new ≡ hash.failures c.hash_store)
+      → hash.reads new ≤ hash.reads c.hash_store + height c.table
       → IsChecking hash (record c { hash_store = new; notes = notes; asked = asked; refused = refused; refusal = Some why })
-  checking_refused asked refused why first more explains unfailed = record {
+  checking_refused asked refused why more explains unfailed path = record {
     store = store_later hash c.table c.hash_store new read is.store;
     blocks = is.blocks;
     since = is.since;
@@ -113,6 +129,13 @@ module _ {H : Type 0} (hash : store.Ghosts H) (c : Checking H) (new : H) (notes 
     counted = λ none. absurd (omega (arith, none, more));
     unfailed = λ other. unfailed (λ same. other (ap Some same))
         ∙ is.unfailed (λ same. some_not_none variant.Store (sym same ∙ first));
+    apart = apart;
+    within = λ none. absurd (some_not_none why none);
+    reads = λ none. absurd (some_not_none why none);
+    few = λ some set asks places covers.
+        let before = is.reads first in
+        let most = few_notes c.notes places is.apart (λ n has. covers n (is.within first set asks n has)) in
+        omega (arith, path);
   }
 
 -- a read that was refused since one was before
@@ -132,6 +155,10 @@ checking_again hash c asked refused was more is = record {
   unrefused = λ none. absurd (was none);
   counted = λ none. absurd (omega (arith, none, more));
   unfailed = is.unfailed;
+  apart = is.apart;
+  within = is.within;
+  reads = is.reads;
+  few = is.few;
 }
 
 -- one of which nothing was read
@@ -159,4 +186,24 @@ checking_unread hash t h is = record {
   unrefused = λ none. refl;
   counted = λ none. refl;
   unfailed = λ other. refl;
+  apart = λ i j d less below. absurd (omega (arith, less, below));
+  within = λ none set asks n has. absurd (omega (arith, has.1));
+  reads = λ none. omega arith;
+  few = λ some. absurd (some refl);
 }
+
+-- how much was read of the store below, where what was asked for is in a set of places
+pub few_reads : {H : Type 0} (hash : store.Ghosts H) (c : Checking H) (is : IsChecking hash c) (set : ℕ → ℕ → Bool)
+    (places : List ℕ) → AsksOnly c.table set c.given → Covers c.table set places
+    → (c.refusal ≡ None → hash.reads c.hash_store ≤ is.was.reads + length places)
+    × (hash.reads c.hash_store ≤ is.was.reads + length places + height c.table)
+few_reads hash c is set places asks covers = (whole, by_refusal c.refusal refl) where
+  whole : c.refusal ≡ None → hash.reads c.hash_store ≤ is.was.reads + length places
+  whole none =
+      let same = is.reads none in
+      let most = few_notes c.notes places is.apart (λ n has. covers n (is.within none set asks n has)) in
+      omega arith
+
+  by_refusal : (o : Option ReadRefused) → c.refusal ≡ o → hash.reads c.hash_store ≤ is.was.reads + length places + height c.table
+  by_refusal None none = omega (arith, whole none)
+  by_refusal (Some why) some = is.few (λ none. some_not_none why (sym some ∙ none)) set asks places covers

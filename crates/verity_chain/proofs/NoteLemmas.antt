@@ -1,6 +1,6 @@
 -- Notes of checked hash blocks, one after the other.
 use Rattle.std.proofs.Common.{ℕ, zero, suc, ◌/◌, ◌%◌, ◌<◌, ◌≡◌, ◌≢◌, ◌++◌, List, [], ◌∷◌, Contains}
-use Rattle.std.proofs.Common.{sym, ◌∙◌, subst, ⊎_elim, Result, Ok, Err, IfErr}
+use Rattle.std.proofs.Common.{sym, ◌∙◌, subst, ⊎_elim, Result, Ok, Err, IfErr, OnOk}
 use Rattle.std.proofs.lemmas.List.Elements.{Contains-append_left, Contains-push, Contains-push_cases, Contains-get_or}
 use Rattle.verity_digest.specs.Tree.{slot}
 use Rattle.verity_store.specs.Stores.{IsOnlyRead}
@@ -102,3 +102,7 @@ explains_grows t given more P Q grows f refused.NoMemory h = h
 pub err_weaker : {T E : Type 0} (r : Result T E) (P Q : E → Type 0) → ((e : E) → P e → Q e) → IfErr r P → IfErr r Q
 err_weaker (Ok x) P Q f h = tt
 err_weaker (Err e) P Q f h = f e h
+
+pub ok_weaker : {T E : Type 0} (r : Result T E) (P Q : Type 0) → (P → Q) → OnOk r P → OnOk r Q
+ok_weaker (Ok x) P Q f h = f h
+ok_weaker (Err e) P Q f h = tt

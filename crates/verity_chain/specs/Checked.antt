@@ -1,12 +1,12 @@
 -- A hash store under a table line, each of whose blocks was checked.
-use Rattle.std.specs.Prelude.{ℕ, ◌+◌, ◌<◌, ◌≤◌, ◌≡◌, ◌≢◌, ◌⊎◌, List, [], ◌∷◌, length, Contains, Option, None, Some, IfSome}
+use Rattle.std.specs.Prelude.{ℕ, ◌+◌, ◌<◌, ◌≤◌, ◌≡◌, ◌≢◌, ◌⊎◌, Bool, List, [], ◌∷◌, length, Contains, Option, None, Some, IfSome}
 use Rattle.verity_profile.specs.Profile.{zero_block}
 use Rattle.verity_digest.specs.Hash.{size_of}
 use Rattle.verity_store.specs.declared.store.BlockStore as store
-use Rattle.verity_chain.specs.Table.{Table, tree_len}
+use Rattle.verity_chain.specs.Table.{Table, height, tree_len}
 use Rattle.verity_chain.specs.Stores.{hash_given, IsHashStoreOf}
 use Rattle.verity_chain.specs.Origin.{StoreFacts, facts_of, IsReadSince, rows_of}
-use Rattle.verity_chain.specs.Notes.{Note, AreChecked, WereGiven, ExplainsUnread}
+use Rattle.verity_chain.specs.Notes.{Note, AreChecked, WereGiven, ExplainsUnread, numbers, AreApart, IsAmong, IsUpward, AsksWithin}
 use Rattle.verity_chain.specs.declared.notes.ReadRefused.{ReadRefused}
 use Rattle.verity_chain.specs.declared.notes.ReadRefused.TheVariants as refused
 
@@ -35,6 +35,14 @@ abbrev pub bound_to : Table → List (ℕ × List ℕ) → List (ℕ × List ℕ
 bound_to t origin = (size_of t.algorithm, t.salt) ∷ (t.data_block_size, t.root) ∷ (t.hash_block_size, t.dev)
     ∷ (t.data_blocks, t.hash_dev) ∷ (t.hash_start_block, []) ∷ origin
 
+-- what was given was asked for at places in the set, which has with each place the one above it
+abbrev pub AsksOnly : Table → (ℕ → ℕ → Bool) → List (ℕ × List ℕ) → Type 0
+AsksOnly t set given = IsUpward t set × ((n : ℕ) (block : List ℕ) → Contains given (n, block) → AsksWithin t set n)
+
+-- the numbers of all places in the set are in the list
+abbrev pub Covers : Table → (ℕ → ℕ → Bool) → List ℕ → Type 0
+Covers t set places = (n : ℕ) → IsAmong t set n → Contains places n
+
 -- what is true of each
 pub record IsChecking {H : Type 0} (hash : store.Ghosts H) (c : Checking H) : Type 0 where
   pub store : IsHashStoreOf hash c.table c.hash_store
@@ -51,6 +59,13 @@ pub record IsChecking {H : Type 0} (hash : store.Ghosts H) (c : Checking H) : Ty
   pub unrefused : c.refusal ≡ None → c.refused ≡ 0
   pub counted : c.refused ≡ 0 → c.refusal ≡ None
   pub unfailed : c.refusal ≢ Some refused.Store → hash.failures c.hash_store ≡ was.failures
+  pub apart : AreApart c.notes
+  pub within : c.refusal ≡ None → (set : ℕ → ℕ → Bool) → AsksOnly c.table set c.given → (n : ℕ) → Contains (numbers c.notes) n
+      → IsAmong c.table set n
+  pub reads : c.refusal ≡ None → hash.reads c.hash_store ≡ was.reads + length c.notes
+  -- A read that was refused may have read a whole path.
+  pub few : c.refusal ≢ None → (set : ℕ → ℕ → Bool) → AsksOnly c.table set c.given → (places : List ℕ) → Covers c.table set places
+      → hash.reads c.hash_store ≤ was.reads + length places + height c.table
 
 -- nothing was read yet
 abbrev pub unread : {H : Type 0} → store.Ghosts H → Table → H → Checking H

@@ -1,7 +1,8 @@
 -- Hash blocks that were read under a table line, each noted with its number in the hash store.
-use Rattle.std.specs.Prelude.{ℕ, suc, ◌<◌, ◌≡◌, List, [], length, Contains, slice_index_or}
+use Rattle.std.specs.Prelude.{ℕ, suc, ◌/◌, ◌<◌, ◌≡◌, ◌≢◌, ◌⊎◌, Bool, true, List, [], length, map, Contains, slice_index_or}
+use Rattle.std.specs.List.{AllPairs}
 use Rattle.verity_store.specs.declared.store.BlockStore as store
-use Rattle.verity_chain.specs.Table.{Table, height, row_len, hash_place}
+use Rattle.verity_chain.specs.Table.{Table, branching, height, row_len, hash_place}
 use Rattle.verity_chain.specs.Chain.{Given, given_by, EndsChain, WrongAt}
 use Rattle.verity_chain.specs.Right.{own}
 use Rattle.verity_chain.specs.Stores.{Gave}
@@ -43,6 +44,35 @@ IsNoteAt notes c n = (c < length notes) × ((note_at notes c).number ≡ n)
 -- behind the first `mark` of what it gave, the hash store gave what is noted
 abbrev pub WereGiven : {H : Type 0} → store.Ghosts H → ℕ → H → List Note → Type 0
 WereGiven hash mark h notes = (note : Note) → Contains notes note → Gave hash mark h note.number note.block
+
+-- the numbers of the notes
+abbrev pub numbers : List Note → List ℕ
+numbers notes = map (λ note. note.number) notes
+
+-- no block is noted twice
+abbrev pub AreApart : List Note → Type 0
+AreApart notes = AllPairs (λ n m. n ≢ m) (numbers notes)
+
+-- the number is that of a place of the tree in this set of levels and indexes
+pub record IsAmong (t : Table) (set : ℕ → ℕ → Bool) (n : ℕ) : Type 0 where
+  pub level : ℕ
+  pub index : ℕ
+  pub is_level : level < height t
+  pub is_index : index < row_len t (suc level)
+  pub place : hash_place t level index ≡ n
+  pub among : set level index ≡ true
+
+-- with each place the set has the one above it
+abbrev pub IsUpward : Table → (ℕ → ℕ → Bool) → Type 0
+IsUpward t set = (l i : ℕ) → set l i ≡ true → set (suc l) (i / branching t) ≡ true
+
+-- if a place of the tree has this number, it is in the set
+abbrev pub AsksWithin : Table → (ℕ → ℕ → Bool) → ℕ → Type 0
+AsksWithin t set n = (l i : ℕ) → l < height t → i < row_len t (suc l) → hash_place t l i ≡ n → set l i ≡ true
+
+-- what is noted anew is of places in the set
+abbrev pub NotesWithin : Table → (ℕ → ℕ → Bool) → List Note → List Note → Type 0
+NotesWithin t set old new = (n : ℕ) → Contains (numbers new) n → Contains (numbers old) n ⊎ IsAmong t set n
 
 -- every note stays
 abbrev pub KeepsNotes : List Note → List Note → Type 0

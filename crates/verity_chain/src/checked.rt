@@ -1,9 +1,10 @@
 //! A hash store under a table line: each block that it gives was checked.
-ghost use Rattle.std.specs.Prelude.{◌≡◌, ◌≢◌, ℕ, ◌+◌, ◌<◌, ◌≤◌, length, OnOk, IfErr};
+ghost use Rattle.std.specs.Prelude.{◌≡◌, ◌≢◌, ℕ, ◌+◌, ◌<◌, ◌≤◌, Bool, length, OnOk, IfErr};
 ghost use Rattle.verity_store.specs.Stores.{IsOnlyRead};
-ghost use Rattle.verity_chain.specs.Table.{tree_len};
+ghost use Rattle.verity_chain.specs.Table.{height, tree_len};
 ghost use Rattle.verity_chain.specs.Stores.{hash_given, IsHashStoreOf};
 ghost use Rattle.verity_chain.specs.Notes.{AreChecked, WereGiven, KeepsNotes, ExplainsUnread};
+ghost use Rattle.verity_chain.specs.Notes.{AreApart, IsUpward, AsksWithin, NotesWithin};
 ghost use Rattle.verity_chain.specs.Checked.{IsAnswer, IsChecking, unread};
 
 use crate::notes::{Noted, ReadRefused, fetch};
@@ -87,10 +88,16 @@ fn look_up<H: BlockStore, A: Allocator + Copy + Drop>(
     requires since { since.now.steps ≤ length (H.given store.old) }
     requires checked { AreChecked tree.old notes.old.items }
     requires given { WereGiven H.BlockStore since.now.steps store.old notes.old.items }
+    requires apart { AreApart notes.old.items }
     ensures gave { OnOk result (IsAnswer tree.old notes.new.items number out.new) }
     ensures checked { AreChecked tree.old notes.new.items }
     ensures given { WereGiven H.BlockStore since.now.steps store.new notes.new.items }
     ensures kept { KeepsNotes notes.old.items notes.new.items }
+    ensures apart { AreApart notes.new.items }
+    ensures within { (set : ℕ → ℕ → Bool) → IsUpward tree.old set → AsksWithin tree.old set number
+        → NotesWithin tree.old set notes.old.items notes.new.items }
+    ensures few { H.reads store.new ≤ H.reads store.old + height tree.old }
+    ensures read { OnOk result (H.reads store.new + length notes.old.items ≡ H.reads store.old + length notes.new.items) }
     ensures err { IfErr result (ExplainsUnread tree.old (hash_given H.BlockStore tree.old since.now.steps store.new)
         (H.failures store.old < H.failures store.new)) }
     ensures unfailed { OnOk result (H.failures store.new ≡ H.failures store.old) }

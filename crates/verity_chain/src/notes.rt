@@ -1,10 +1,11 @@
 //! Hash blocks that were read and checked, each noted with its number.
-ghost use Rattle.std.specs.Prelude.{◌≡◌, ◌≢◌, suc, ◌+◌, ◌<◌, ◌≤◌, length, OnOk, IfOk, IfErr, IfSome};
+ghost use Rattle.std.specs.Prelude.{◌≡◌, ◌≢◌, ℕ, suc, ◌+◌, ◌<◌, ◌≤◌, Bool, true, length, Contains, None, OnOk, IfOk, IfErr, IfSome};
 ghost use Rattle.verity_store.specs.Stores.{IsOnlyRead};
 ghost use Rattle.verity_chain.specs.Table.{height, row_len, hash_place};
 ghost use Rattle.verity_chain.specs.Chain.{Names};
 ghost use Rattle.verity_chain.specs.Stores.{hash_given, IsHashStoreOf};
 ghost use Rattle.verity_chain.specs.Notes.{noted, note_at, IsNoteAt, AreChecked, WereGiven, KeepsNotes, ExplainsUnread};
+ghost use Rattle.verity_chain.specs.Notes.{numbers, AreApart, IsUpward, NotesWithin};
 
 use crate::tree::Tree;
 use std::alloc::Allocator;
@@ -69,7 +70,8 @@ impl<A: Allocator> Noted<A> {
 
 // The first note of this number.
 fn find<A: Allocator>(notes: &[Noted<A>], number: u64) -> Option<usize>
-    ensures { IfSome result (λ c. IsNoteAt notes.now c number) }
+    ensures some { IfSome result (λ c. IsNoteAt notes.now c number) }
+    ensures none { result ≡ None → ¬ (Contains (numbers notes.now) number) }
 {
     for c in 0..notes.len() {
         if notes[c].number() == number {
@@ -99,10 +101,15 @@ fn take<H: BlockStore, A: Allocator + Copy + Drop>(
     requires checked { AreChecked tree.old notes.old.items }
     requires given { WereGiven H.BlockStore since.now.steps store.old notes.old.items }
     requires names { Names tree.old (noted tree.old notes.old.items) (suc level) index named.now }
+    requires apart { AreApart notes.old.items }
+    requires unnoted { ¬ (Contains (numbers notes.old.items) (hash_place tree.old level index)) }
     ensures found { IfOk result (λ c. IsNoteAt notes.new.items c (hash_place tree.old level index)) }
     ensures checked { AreChecked tree.old notes.new.items }
     ensures given { WereGiven H.BlockStore since.now.steps store.new notes.new.items }
     ensures kept { KeepsNotes notes.old.items notes.new.items }
+    ensures apart { AreApart notes.new.items }
+    ensures within { (set : ℕ → ℕ → Bool) → set level index ≡ true → NotesWithin tree.old set notes.old.items notes.new.items }
+    ensures one { H.reads store.new ≤ H.reads store.old + 1 }
     ensures err { IfErr result (ExplainsUnread tree.old (hash_given H.BlockStore tree.old since.now.steps store.new)
         (H.failures store.old < H.failures store.new)) }
     ensures unfailed { OnOk result (H.failures store.new ≡ H.failures store.old) }
@@ -132,8 +139,8 @@ fn take<H: BlockStore, A: Allocator + Copy + Drop>(
 /// Finds the note of a hash block; else reads the block, checks it and notes it, below the notes of the blocks above it, of
 /// which it reads those that aren't there.
 ///
-/// Each block that is read is noted, unless it was refused, which ends the call. `block` has the bytes of a hash block, and
-/// may then hold anything. It takes memory for each note.
+/// Each block that is read is noted, unless it was refused, which ends the call; no block is noted twice. `block` has the bytes of
+/// a hash block, and may then hold anything. It takes memory for each note.
 pub fn fetch<H: BlockStore, A: Allocator + Copy + Drop>(
     alloc: A,
     tree: &mut Tree<A>,
@@ -151,10 +158,15 @@ pub fn fetch<H: BlockStore, A: Allocator + Copy + Drop>(
     requires since { since.now.steps ≤ length (H.given store.old) }
     requires checked { AreChecked tree.old notes.old.items }
     requires given { WereGiven H.BlockStore since.now.steps store.old notes.old.items }
+    requires apart { AreApart notes.old.items }
     ensures found { IfOk result (λ c. IsNoteAt notes.new.items c (hash_place tree.old level index)) }
     ensures checked { AreChecked tree.old notes.new.items }
     ensures given { WereGiven H.BlockStore since.now.steps store.new notes.new.items }
     ensures kept { KeepsNotes notes.old.items notes.new.items }
+    ensures apart { AreApart notes.new.items }
+    ensures within { (set : ℕ → ℕ → Bool) → IsUpward tree.old set → set level index ≡ true
+        → NotesWithin tree.old set notes.old.items notes.new.items }
+    ensures few { H.reads store.new + level ≤ H.reads store.old + height tree.old }
     ensures err { IfErr result (ExplainsUnread tree.old (hash_given H.BlockStore tree.old since.now.steps store.new)
         (H.failures store.old < H.failures store.new)) }
     ensures unfailed { OnOk result (H.failures store.new ≡ H.failures store.old) }

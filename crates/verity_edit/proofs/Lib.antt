@@ -19,8 +19,10 @@ mod LeafLemmas
 mod MakingLemmas
 mod CarriedLemmas
 mod LastLemmas
+mod TouchedLemmas
 mod PlanLemmas
 mod UnderLemmas
+mod PathLemmas
 mod DeviceLemmas
 mod CommitLemmas
 mod OpeningLemmas

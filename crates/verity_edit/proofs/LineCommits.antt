@@ -1,6 +1,6 @@
 -- What a commit under a table line leaves.
 use Rattle.std.proofs.Common.{◌≡◌, ℕ, ◌+◌, ◌<◌, ◌≤◌, Bool, true, false, List, [], length, drop, get_or, Option, None, Some, cond}
-use Rattle.std.proofs.Common.{ltb, ◌⊎◌, ⊎_elim, inl, inr, refl, sym, ap, ◌∙◌, subst, arith}
+use Rattle.std.proofs.Common.{ltb, ⊎_elim, inl, inr, refl, sym, ap, ◌∙◌, subst, arith}
 use Rattle.std.specs.Prelude.{IfSome, unwrap_or, All, Result, Ok, Err, OnOk, IfErr}
 use Rattle.std.proofs.lemmas.Bool.{ltb-true}
 use Rattle.std.proofs.lemmas.List.{length-replicate}
@@ -16,7 +16,7 @@ use Rattle.verity_edit.specs.declared.command.Committed.{Committed}
 use Rattle.verity_edit.specs.declared.planning.CommitPlan.{CommitPlan}
 use Rattle.verity_edit.specs.Draft.{Draft, IsDraft, written_at, edits_of}
 use Rattle.verity_edit.specs.Standing.{BeginsWith}
-use Rattle.verity_edit.specs.Planning.{volume_hashing, IsPlan, IsRight}
+use Rattle.verity_edit.specs.Planning.{volume_hashing, IsPlan, IsRight, ReadsPaths}
 use Rattle.verity_edit.specs.Committing.{IsCarriedOut}
 use Rattle.verity_edit.specs.Editing.{FitsStores, fresh}
 use Rattle.verity_edit.specs.declared.fault.EditFault.TheVariants as fault
@@ -139,7 +139,9 @@ module _ {D H A : Type 0} (data_facts : store.Ghosts D) (hash_facts : store.Ghos
       old.table.hash_start_block plan)
       (data_unfailed : data_facts.failures new_data ≡ data_facts.failures old.data_store)
       (hash_unfailed : hash_facts.failures new_hash ≡ hash_facts.failures old.hash_store)
-      (counts : new_hashed ≡ old.hashed + plan.hashed) where
+      (counts : new_hashed ≡ old.hashed + plan.hashed)
+      (reads : old.draft.working ≡ old.draft.committed
+      → ReadsPaths old.volume old.draft 0 (hash_facts.reads old.hash_store) (hash_facts.reads new_hash)) where
     commits_next : CommitsUnder data_facts hash_facts old after made
     commits_next = record {
       whole = sound;
@@ -154,6 +156,7 @@ module _ {D H A : Type 0} (data_facts : store.Ghosts D) (hash_facts : store.Ghos
       volume = refl;
       counted = counts;
       bounded = (let most = planned.hashed image fits.committed in omega arith);
+      reads = λ stays. (let most = reads stays image fits.committed in omega arith);
       data_unfailed = data_unfailed;
       hash_unfailed = hash_unfailed;
       data_synced = done.data_synced;
@@ -232,11 +235,8 @@ refused_under data_facts hash_facts old new (Untrusted level index) sound why wh
   sound,
   whole,
   record {
-    is_level = why.0;
-    is_index = why.1;
-    wrong = why.2;
-    data_unfailed = why.3;
-    hash_unfailed = why.4;
+    wrong = why.0;
+    data_unfailed = why.1;
   },
 )
 refused_under data_facts hash_facts old new (Fault fault.NoMemory) sound why whole = (sound, whole, why.0, why.1)

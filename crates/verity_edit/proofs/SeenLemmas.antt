@@ -1,12 +1,12 @@
 -- What a store shows.
 use Rattle.std.proofs.Common.{◌≡◌, ℕ, true, List, [], ◌∷◌, ◌++◌, length, drop, get_or, ⊎_elim, inl, inr, subst, sym, ap, ◌∙◌}
 use Rattle.std.proofs.lemmas.List.{take-append-drop}
-use Rattle.std.proofs.lemmas.List.Elements.{Contains-append_left, Contains-push}
-use Rattle.std.specs.Prelude.{Contains, Result, Ok, Err, OnOk}
+use Rattle.std.proofs.lemmas.List.Elements.{Contains-append_left, Contains-push, Contains-push_cases}
+use Rattle.std.specs.Prelude.{Contains, Result, Ok, Err, OnOk, OnErr}
 use Rattle.verity_store.specs.Given.{GoesOn}
 use Rattle.verity_store.specs.Stores.{IsOnlyRead}
 use Rattle.verity_store.specs.declared.store.BlockStore as store
-use Rattle.verity_edit.specs.Seen.{Shows}
+use Rattle.verity_edit.specs.Seen.{GivesAt, Shows}
 
 -- what was given stays given
 stays_given : (old new : List (ℕ × List ℕ)) → GoesOn old new → (n : ℕ) (block : List ℕ) → Contains old (n, block) →
@@ -15,6 +15,24 @@ stays_given old new on n block has =
     let more : List (ℕ × List ℕ) = drop (length old) new in
     let is : old ++ more ≡ new = ap (λ front. front ++ more) (sym on) ∙ take-append-drop (length old) new in
     subst (λ rows. Contains rows (n, block)) is (Contains-append_left old more (n, block) has)
+
+-- a read gives one block at most
+pub gives_read : {T E : Type 0} (result : Result T E) (at : ℕ → Type 0) (old new : List (ℕ × List ℕ)) (n : ℕ) (block : List ℕ)
+    → OnOk result (new ≡ old ++ (n, block) ∷ []) → OnErr result (new ≡ old) → at n → GivesAt at old new
+gives_read (Ok done) at old new n block gave none is m other has =
+    ⊎_elim inl (λ here. inr (subst (λ (row : ℕ × List ℕ). at row.0) here is))
+    (Contains-push_cases old (n, block) (m, other) (subst (λ rows. Contains rows (m, other)) gave has))
+gives_read (Err error) at old new n block gave none is m other has = inl (subst (λ rows. Contains rows (m, other)) none has)
+
+pub gives_same : (at : ℕ → Type 0) (old new : List (ℕ × List ℕ)) → new ≡ old → GivesAt at old new
+gives_same at old new same n block has = inl (subst (λ rows. Contains rows (n, block)) same has)
+
+pub gives_then : (at : ℕ → Type 0) (a b c : List (ℕ × List ℕ)) → GivesAt at a b → GivesAt at b c → GivesAt at a c
+gives_then at a b c first next n block has = ⊎_elim (first n block) inr (next n block has)
+
+pub gives_more : (at more : ℕ → Type 0) (old new : List (ℕ × List ℕ)) → ((n : ℕ) → at n → more n) → GivesAt at old new
+    → GivesAt more old new
+gives_more at more old new weaker gives n block has = ⊎_elim inl (λ is. inr (weaker n is)) (gives n block has)
 
 -- what a store shows after reads it showed before
 pub shows_before : {S : Type 0} (facts : store.Ghosts S) (old new : S) (blocks : List (List ℕ)) → IsOnlyRead facts old new

@@ -17,7 +17,7 @@ use Rattle.verity_store.specs.declared.store.BlockStore as store
 use Rattle.verity_superblock.specs.Superblock.{Volume}
 use Rattle.verity_chain.specs.Table.{Table, IsTable, hashing_of, branching, height, row_len, hash_place}
 use Rattle.verity_chain.specs.Chain.{WrongAt}
-use Rattle.verity_chain.specs.Right.{Fits, Clash}
+use Rattle.verity_chain.specs.Right.{Fits, Clash, OtherAt, GaveOther}
 use Rattle.verity_chain.specs.Stores.{hash_given}
 use Rattle.verity_chain.specs.Origin.{facts_of, rows_of}
 use Rattle.verity_chain.specs.Notes.{Note, noted, AreChecked, AreOwn, ExplainsUnread}
@@ -25,6 +25,7 @@ use Rattle.verity_chain.specs.Checked.{IsAnswer, Checking, IsChecking, bound_to}
 use Rattle.verity_chain.specs.declared.notes.ReadRefused.{ReadRefused}
 use Rattle.verity_chain.specs.declared.notes.ReadRefused.TheVariants as refused
 use Rattle.verity_chain.proofs.ChainLemmas.{Grows, WrongAt-grows}
+use Rattle.verity_chain.proofs.ChainLaw.{other_given}
 use Rattle.verity_chain.proofs.NoteLemmas.{noted_given}
 use Rattle.verity_chain.proofs.NoteLaws.{own_or_clashes}
 use Rattle.verity_chain.proofs.OriginLaws.{rows_same, bound_same}
@@ -38,7 +39,7 @@ use Rattle.verity_edit.specs.Draft.{Draft}
 use Rattle.verity_edit.specs.Faults.{PlansOrFails}
 use Rattle.verity_edit.specs.Planning.{volume_hashing, IsRight}
 use Rattle.verity_edit.specs.Standing.{BeginsWith}
-use Rattle.verity_edit.specs.Under.{IsLineFor, IsRightUnder, ExplainsUnplanned, refusal_of, line_given}
+use Rattle.verity_edit.specs.Under.{IsLineFor, IsRightUnder, IsWrongBlock, ExplainsUnplanned, refusal_of, line_given}
 use Rattle.verity_edit.proofs.Trees.{stands_at}
 
 -- blocks behind so many zero blocks
@@ -112,6 +113,31 @@ answers_shown t notes blocks n b shown =
 pub from_ok : {X E : Type 0} (r : Result X E) (x : X) (P : X → Type 0) → r ≡ Ok x → IfOk r P → P x
 from_ok r x P is h = subst (λ s. IfOk s P) is h
 
+-- a block that isn't the image's own among more blocks
+other_grows : (t : Table) (image : List (List ℕ)) (given more : ℕ → ℕ → List ℕ → Type 0) → Grows given more → GaveOther t given image
+    → GaveOther t more image
+other_grows t image given more grows found =
+    let o = found.2 in (
+      found.0,
+      found.1,
+      record { row = o.row; index = o.index; y = o.y; gave = grows found.0 found.1 o.y o.gave; differs = o.differs },
+    )
+
+-- a store that tells and holds the image's tree gives no such block
+not_own : {H : Type 0} (t : Table) (image : List (List ℕ)) → IsTable t → Fits t image → (hash : store.Ghosts H) (mark : ℕ) (h : H)
+    → hash.tells h ≡ true → BeginsWith (drop t.hash_start_block (hash.content h)) (tree (hashing_of t) image) → (r i : ℕ)
+    → OtherAt t (hash_given hash t mark h) image r i → ⊥
+not_own t image ok fits hash mark h told stands zero i other = absurd other.gave
+not_own t image ok fits hash mark h told stands (suc l) i other =
+    let k : ℕ = branching t in
+    let first : ℕ = t.hash_start_block in
+    let row = other.row in
+    let there : l < level_count k (length image) = subst (λ m. l < level_count k m) (sym fits.blocks) (omega arith) in
+    let inside : i < level_len k (length image) l = subst (λ m. i < level_len k m l) (sym fits.blocks) other.index in
+    let at : hash_place t l i ≡ first + place k (length image) l i = ap (λ m. first + place k m l i) (sym fits.blocks) in
+    other.differs (sym (other.gave.2 told) ∙ ap (λ q. get_or (hash.content h) q []) at
+    ∙ stands_at (hashing_of t) image (hash.content h) first l i (two_branches t ok) stands there inside)
+
 -- what was given is in the log
 was_given : {H : Type 0} (hash : store.Ghosts H) (t : Table) (mark : ℕ) (h : H)
     → Grows (hash_given hash t mark h) (line_given hash t mark h)
@@ -165,7 +191,7 @@ module _ {H : Type 0} (hash : store.Ghosts H) (t : Table) (h : H) (new : Checkin
   pub same_table : new.table ≡ t
   same_table = (bound_same new.table t new.origin (rows_of (facts_of hash h)) bound).0
 
-  was_then : is.was ≡ facts_of hash h
+  pub was_then : is.was ≡ facts_of hash h
   was_then = rows_same is.was (facts_of hash h) (sym is.origin ∙ (bound_same new.table t new.origin (rows_of (facts_of hash h)) bound).1)
 
   since_then : new.since ≡ length (hash.given h)
@@ -194,30 +220,51 @@ module _ {H : Type 0} (hash : store.Ghosts H) (t : Table) (h : H) (new : Checkin
   pub unfailed_then : new.refused ≡ 0 → hash.failures new.hash_store ≡ hash.failures h
   unfailed_then none = same_failures (λ same. absurd (omega (arith, ap kind (sym same ∙ is.counted none))))
 
-  explains_by : (T : Type 0) (o : Option ReadRefused) (f : EditFault)
+  -- a block that hasn't the digest that is named for it
+  wrong_then : (level index : ℕ) → IsTable t → level < height t → index < row_len t (suc level)
+      → WrongAt t (hash_given hash t (length (hash.given h)) new.hash_store) (suc level) index
+      → hash.failures new.hash_store ≡ hash.failures h
+      → IsWrongBlock hash t (length (hash.given h)) h new.hash_store level index
+  wrong_then level index ok there inside wrong unfailed =
+      let mark : ℕ = length (hash.given h) in
+      let given = hash_given hash t mark new.hash_store in
+      let grows = was_given hash t mark new.hash_store in
+      record {
+        is_level = there;
+        is_index = inside;
+        wrong = WrongAt-grows t given (line_given hash t mark new.hash_store) grows (suc level) index wrong;
+        other = λ image fits. other_grows t image given (line_given hash t mark new.hash_store) grows
+            (other_given t image ok fits given (suc level) index inside wrong);
+        not_held = λ told image fits stands.
+            let found = other_given t image ok fits given (suc level) index inside wrong in
+            not_own t image ok fits hash mark new.hash_store (read_then.later.tells ∙ told)
+            (subst (λ blocks. BeginsWith (drop t.hash_start_block blocks) (tree (hashing_of t) image)) (sym read_then.content) stands)
+            found.0 found.1 found.2;
+        unfailed = unfailed;
+      }
+
+  explains_by : (T : Type 0) (o : Option ReadRefused) (f : EditFault) → IsTable t
       → IfSome o (ExplainsUnread new.table (hash_given hash new.table new.since new.hash_store)
       (is.was.failures < hash.failures new.hash_store))
       → (o ≡ None → new.refused ≡ 0) → (o ≢ Some refused.Store → hash.failures new.hash_store ≡ hash.failures h)
       → PlansOrFails {T = T} (Err f) 0 new.refused
       → ExplainsUnplanned hash t (length (hash.given h)) h new.hash_store (refusal_of o f)
-  explains_by T (Some (refused.Mismatch level index)) f why none same fails =
+  explains_by T (Some (refused.Mismatch level index)) f ok why none same fails =
       let P : Table → ℕ → Type 0 = λ u m. (level < height u) × (index < row_len u (suc level))
       × WrongAt u (hash_given hash u m new.hash_store) (suc level) index in
       let mark : ℕ = length (hash.given h) in
       let there : P t mark = subst (λ m. P t m) since_then (subst (λ u. P u new.since) same_table why) in
-      let wrong = WrongAt-grows t (hash_given hash t mark new.hash_store) (line_given hash t mark new.hash_store)
-      (was_given hash t mark new.hash_store) (suc level) index there.2 in
-      (there.0, there.1, wrong, same (λ e. absurd (omega (arith, ap kind e))))
-  explains_by T (Some refused.Store) f why none same fails = subst (λ w. w.failures < hash.failures new.hash_store) was_then why
-  explains_by T (Some refused.NoMemory) f why none same fails = same (λ e. absurd (omega (arith, ap kind e)))
-  explains_by T None f why none same fails =
+      wrong_then level index ok there.0 there.1 there.2 (same (λ e. absurd (omega (arith, ap kind e))))
+  explains_by T (Some refused.Store) f ok why none same fails = subst (λ w. w.failures < hash.failures new.hash_store) was_then why
+  explains_by T (Some refused.NoMemory) f ok why none same fails = same (λ e. absurd (omega (arith, ap kind e)))
+  explains_by T None f ok why none same fails =
       refused_by T hash t (length (hash.given h)) h new.hash_store f new.refused fails (none refl)
       (same (λ e. absurd (omega (arith, ap kind e))))
 
   -- why there is no plan
-  pub explains_then : (T : Type 0) (f : EditFault) → PlansOrFails {T = T} (Err f) 0 new.refused
+  pub explains_then : (T : Type 0) (f : EditFault) → IsTable t → PlansOrFails {T = T} (Err f) 0 new.refused
       → ExplainsUnplanned hash t (length (hash.given h)) h new.hash_store (refusal_of new.refusal f)
-  explains_then T f fails = explains_by T new.refusal f is.refusal is.unrefused same_failures fails
+  explains_then T f ok fails = explains_by T new.refusal f ok is.refusal is.unrefused same_failures fails
 
   module _ {A : Type 0} (v : Volume) (d : Draft) (first : ℕ) (old_root : List ℕ) (plan : CommitPlan A) (ok : IsTable t)
       (line : IsLineFor t v first old_root) (count : v.data_blocks ≡ d.committed)

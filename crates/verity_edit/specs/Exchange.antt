@@ -1,5 +1,5 @@
 -- Stores that are put in the place of an editor's.
-use Rattle.std.specs.Prelude.{◌≡◌, ℕ, true, length}
+use Rattle.std.specs.Prelude.{◌≡◌, true, length}
 use Rattle.verity_store.specs.declared.store.BlockStore as store
 use Rattle.verity_edit.specs.Editing.{Editing}
 

@@ -8,7 +8,6 @@ use Rattle.verity_store.specs.Stores.{IsOnlyRead}
 use Rattle.verity_superblock.specs.Superblock.{Volume, salted}
 use Rattle.verity_superblock.specs.Reading.{refusal}
 use Rattle.verity_chain.specs.Table.{Table, hashing_of, height, row_len, hash_place}
-use Rattle.verity_chain.specs.Chain.{WrongAt}
 use Rattle.verity_chain.specs.Right.{Fits, Clash}
 use Rattle.verity_build.specs.Faults.{HasFailed}
 use Rattle.verity_edit.specs.declared.command.Command.{Command}
@@ -21,11 +20,11 @@ use Rattle.verity_edit.specs.declared.fault.EditFault.TheVariants.{NoMemory, Sto
 use Rattle.verity_edit.specs.declared.fault.EditFault.TheVariants.{Line, Untrusted}
 use Rattle.verity_edit.specs.Edits.{unedited}
 use Rattle.verity_edit.specs.Draft.{Draft, edits_of}
-use Rattle.verity_edit.specs.Touched.{bound}
+use Rattle.verity_edit.specs.Touched.{bound, old_touched_count}
 use Rattle.verity_edit.specs.Editing.{Editing, Commits, FitsStores, IsUnchanged, Stands, Stays, edits_in, fresh, width_in}
 use Rattle.verity_edit.specs.Opening.{IsVolume, RefusesStores}
 use Rattle.verity_edit.specs.Running.{IsEdit, IsFailed, IsMade, IsRuled, IsStarved}
-use Rattle.verity_edit.specs.Under.{IsLineFor, line_given}
+use Rattle.verity_edit.specs.Under.{IsLineFor, IsWrongBlock, line_given}
 
 -- its stores; the line of what is committed; the superblock of it; the edits since the last commit; how many digests it made for its
 -- commits; and whether a commit failed after its first change
@@ -130,6 +129,10 @@ ExplainsUnder t data_size hash_size blocks content told failed NoMemory = 1 ≤ 
 ExplainsUnder t data_size hash_size blocks content told failed (Store which.Hash) = (1 ≤ t.hash_start_block) × failed
 ExplainsUnder t data_size hash_size blocks content told failed _ = ⊥
 
+-- how many blocks of the committed image's tree lie above its edited blocks
+abbrev pub paths_in : {D H : Type 0} → store.Ghosts D → LineEditing D H → ℕ
+paths_in data_facts e = old_touched_count (width_in (editing_of e)) (edits_in data_facts (editing_of e))
+
 -- what a commit makes of an image under the line: its edits' image, whose root is answered and which the new line fits
 pub record IsNextImage {D H : Type 0} (old new : LineEditing D H) (committed : Committed) (image : List (List ℕ)) : Type 0 where
   pub root : committed.root ≡ root (hashing_of old.table) (edits_of image old.draft).working
@@ -151,6 +154,8 @@ pub record CommitsUnder {D H : Type 0} (data_facts : store.Ghosts D) (hash_facts
   pub volume : new.volume ≡ record old.volume { data_blocks = old.draft.working }
   pub counted : new.hashed ≡ old.hashed + committed.hashed
   pub bounded : committed.hashed ≤ bound (width_in (editing_of old)) (edits_in data_facts (editing_of old))
+  pub reads : old.draft.working ≡ old.draft.committed
+      → hash_facts.reads new.hash_store ≤ hash_facts.reads old.hash_store + paths_in data_facts old
   -- No failure of a store, of a sync neither, is passed over.
   pub data_unfailed : data_facts.failures new.data_store ≡ data_facts.failures old.data_store
   pub hash_unfailed : hash_facts.failures new.hash_store ≡ hash_facts.failures old.hash_store
@@ -159,16 +164,11 @@ pub record CommitsUnder {D H : Type 0} (data_facts : store.Ghosts D) (hash_facts
   pub commits : HoldsImage data_facts hash_facts old → Commits data_facts hash_facts (editing_of old) (editing_of new) committed
   pub holds : HoldsImage data_facts hash_facts old → HoldsImage data_facts hash_facts new
 
--- in this call the hash store gave the block at this place of the tree without the digest that is named for it, below a chain of
--- given blocks; no store failed
+-- in this call the hash store gave a block at this place of the tree that isn't to be trusted; no store failed
 pub record IsUntrusted {D H : Type 0} (data_facts : store.Ghosts D) (hash_facts : store.Ghosts H) (old new : LineEditing D H)
     (level index : ℕ) : Type 0 where
-  pub is_level : level < height old.table
-  pub is_index : index < row_len old.table (suc level)
-  pub wrong : WrongAt old.table (line_given hash_facts old.table (length (hash_facts.given old.hash_store)) new.hash_store)
-      (suc level) index
+  pub wrong : IsWrongBlock hash_facts old.table (length (hash_facts.given old.hash_store)) old.hash_store new.hash_store level index
   pub data_unfailed : data_facts.failures new.data_store ≡ data_facts.failures old.data_store
-  pub hash_unfailed : hash_facts.failures new.hash_store ≡ hash_facts.failures old.hash_store
 
 -- why a commit under a line is refused: the editor is broken; the hash store gave a block that isn't to be trusted, or memory was
 -- refused, and the editor isn't broken by it; or the store that is named failed

@@ -1,14 +1,14 @@
 -- A commit under a trusted table line. The facts of a store of the type S are S.BlockStore.
-use Rattle.std.specs.Prelude.{◌≡◌, ℕ, suc, ◌<◌, ◌⊎◌, Bool, false, List, Option, Some, None}
-use Rattle.verity_digest.specs.Tree.{root}
+use Rattle.std.specs.Prelude.{◌≡◌, ℕ, suc, ◌<◌, ◌⊎◌, Bool, true, false, List, drop, Option, Some, None}
+use Rattle.verity_digest.specs.Tree.{root, tree}
 use Rattle.verity_geometry.specs.Geometry.{levels_of}
 use Rattle.verity_store.specs.declared.store.BlockStore as store
 use Rattle.verity_superblock.specs.Superblock.{Volume}
 use Rattle.verity_store.specs.declared.fault.Which.TheVariants as which
-use Rattle.verity_chain.specs.Table.{Table, height, row_len}
+use Rattle.verity_chain.specs.Table.{Table, hashing_of, height, row_len}
 use Rattle.verity_store.specs.Given.{GaveSince}
 use Rattle.verity_chain.specs.Chain.{Given, given_by, WrongAt}
-use Rattle.verity_chain.specs.Right.{Fits, Clash}
+use Rattle.verity_chain.specs.Right.{Fits, Clash, GaveOther}
 use Rattle.verity_chain.specs.declared.notes.ReadRefused.{ReadRefused}
 use Rattle.verity_chain.specs.declared.notes.ReadRefused.TheVariants as refused
 use Rattle.verity_edit.specs.declared.fault.EditFault.{EditFault}
@@ -20,6 +20,7 @@ use Rattle.verity_build.specs.Faults.{HasFailed}
 use Rattle.verity_edit.specs.Draft.{Draft, edits_of}
 use Rattle.verity_edit.specs.Making.{touched_blocks}
 use Rattle.verity_edit.specs.Planning.{volume_shape, volume_hashing}
+use Rattle.verity_edit.specs.Standing.{BeginsWith}
 
 -- the table line has the volume's parameters and count, and the start and the root of its tree
 pub record IsLineFor (t : Table) (v : Volume) (first : ℕ) (old_root : List ℕ) : Type 0 where
@@ -48,11 +49,21 @@ abbrev pub IsRightUnder : {H A : Type 0} → store.Ghosts H → Table → ℕ �
 IsRightUnder hash t mark h v d first plan = (image : List (List ℕ)) → Fits t image
     → PlansEdits v d first image plan ⊎ Clash t (line_given hash t mark h) image
 
--- why there is no plan: behind the first `mark` of what it gave the hash store gave a block without the digest that is named at its
--- place, below a chain of given blocks; or memory was refused; or the hash store failed
+-- Behind the first `mark` of what it gave the hash store gave the block at this place of the tree without the digest that is named
+-- for it, below a chain of given blocks. So for every image that fits the line it gave a block that isn't the image's own, and it
+-- doesn't both tell and hold the image's tree.
+pub record IsWrongBlock {H : Type 0} (hash : store.Ghosts H) (t : Table) (mark : ℕ) (old new : H) (level index : ℕ) : Type 0 where
+  pub is_level : level < height t
+  pub is_index : index < row_len t (suc level)
+  pub wrong : WrongAt t (line_given hash t mark new) (suc level) index
+  pub other : (image : List (List ℕ)) → Fits t image → GaveOther t (line_given hash t mark new) image
+  pub not_held : hash.tells old ≡ true → (image : List (List ℕ)) → Fits t image
+      → ¬ (BeginsWith (drop t.hash_start_block (hash.content old)) (tree (hashing_of t) image))
+  pub unfailed : hash.failures new ≡ hash.failures old
+
+-- why there is no plan: a block isn't to be trusted; or memory was refused; or the hash store failed
 abbrev pub ExplainsUnplanned : {H : Type 0} → store.Ghosts H → Table → ℕ → (old new : H) → PlanRefused → Type 0
-ExplainsUnplanned hash t mark old new (Untrusted level index) = (level < height t) × (index < row_len t (suc level))
-    × WrongAt t (line_given hash t mark new) (suc level) index × (hash.failures new ≡ hash.failures old)
+ExplainsUnplanned hash t mark old new (Untrusted level index) = IsWrongBlock hash t mark old new level index
 ExplainsUnplanned hash t mark old new (Fault fault.NoMemory) = hash.failures new ≡ hash.failures old
 ExplainsUnplanned hash t mark old new (Fault (fault.Store which.Hash)) = hash.failures old < hash.failures new
 ExplainsUnplanned hash t mark old new (Fault _) = ⊥
@@ -77,9 +88,8 @@ fault_under (Fault f) = f
 
 -- why nothing was committed: as for a plan; or a store failed
 abbrev pub ExplainsUncommitted : {D H : Type 0} → store.Ghosts D → store.Ghosts H → Table → ℕ → (d d' : D) (h h' : H) → PlanRefused → Type 0
-ExplainsUncommitted data_facts hash t mark d d' h h' (Untrusted level index) = (level < height t) × (index < row_len t (suc level))
-    × WrongAt t (line_given hash t mark h') (suc level) index
-    × (data_facts.failures d' ≡ data_facts.failures d) × (hash.failures h' ≡ hash.failures h)
+ExplainsUncommitted data_facts hash t mark d d' h h' (Untrusted level index) = IsWrongBlock hash t mark h h' level index
+    × (data_facts.failures d' ≡ data_facts.failures d)
 ExplainsUncommitted data_facts hash t mark d d' h h' (Fault fault.NoMemory) =
     (data_facts.failures d' ≡ data_facts.failures d) × (hash.failures h' ≡ hash.failures h)
 ExplainsUncommitted data_facts hash t mark d d' h h' (Fault (fault.Store which)) =

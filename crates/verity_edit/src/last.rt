@@ -3,10 +3,10 @@ ghost use Rattle.std.specs.Prelude.{◌≡◌, ℕ, ◌+◌, ◌-◌, ◌*◌, �
 ghost use Rattle.verity_digest.specs.Hash.{size_of};
 ghost use Rattle.verity_store.specs.Stores.{IsOnlyRead};
 ghost use Rattle.verity_edit.specs.Faults.{PlansOrFails};
-ghost use Rattle.verity_edit.specs.Seen.{Shows};
+ghost use Rattle.verity_edit.specs.Seen.{GivesAt, Shows};
 ghost use Rattle.verity_edit.specs.Slots.{AreSized, AreWithin};
 ghost use Rattle.verity_edit.specs.Making.{IsChange};
-ghost use Rattle.verity_edit.specs.Last.{AddsLast, NamesLast, AreChanged, AreEdited, NamesEdited};
+ghost use Rattle.verity_edit.specs.Last.{AddsLast, NamesLast, IsAboveLast, AreChanged, AreEdited, NamesEdited};
 
 use crate::EditFault;
 use crate::pending::Pending;
@@ -33,6 +33,7 @@ pub fn add_last<H: BlockStore, A: Allocator>(
         NamesLast change.now content leaves.old.items leaves.new.items) }
     ensures fails { PlansOrFails result (H.failures hash_store.old) (H.failures hash_store.new) }
     ensures reads { H.reads hash_store.new ≤ H.reads hash_store.old + 1 }
+    ensures gives { GivesAt (IsAboveLast change.now) (H.given hash_store.old) (H.given hash_store.new) }
     ensures read_only { IsOnlyRead H.BlockStore hash_store.old hash_store.new }
 {
     let _shaped = change.old.levels();
@@ -77,6 +78,7 @@ pub fn add_fallen<H: BlockStore, A: Allocator + Copy>(
     ensures edited_within { OnOk result (AreWithin change.now.new.blocks leaves.new.items) }
     ensures fails { PlansOrFails result (H.failures hash_store.old) (H.failures hash_store.new) }
     ensures reads { change.now.new.blocks ≡ change.now.old.blocks → H.reads hash_store.new ≡ H.reads hash_store.old }
+    ensures gives { GivesAt (IsAboveLast change.now) (H.given hash_store.old) (H.given hash_store.new) }
     ensures read_only { IsOnlyRead H.BlockStore hash_store.old hash_store.new }
 {
     pending.facts();

@@ -5,7 +5,7 @@ ghost use Rattle.verity_digest.specs.Tree.{pack};
 ghost use Rattle.verity_digest.specs.Hash.{hashing, size_of};
 ghost use Rattle.verity_store.specs.Stores.{IsOnlyRead, TellsFailure};
 ghost use Rattle.verity_edit.specs.Faults.{PlansOrFails};
-ghost use Rattle.verity_edit.specs.Seen.{Shows};
+ghost use Rattle.verity_edit.specs.Seen.{GivesAt, Shows};
 ghost use Rattle.verity_edit.specs.Slots.{slots, AreSized};
 ghost use Rattle.verity_edit.specs.Plan.{numbers_of, places, ArePlanned, AddsPlanned, AddsChild, made_blocks, made_digests};
 
@@ -42,7 +42,7 @@ pub struct Level {
     pub digest_size: usize,
 }
 
-ghost use Rattle.verity_edit.specs.Level.{Holds, Renews, IsLevel, AreChildren};
+ghost use Rattle.verity_edit.specs.Level.{Holds, Renews, IsLevel, IsOldBlock, IsOldOf, AreChildren};
 
 /// Gives the old block of a place, or one for the digest that is kept elsewhere, else zeros.
 fn read_old<H: BlockStore>(
@@ -59,6 +59,7 @@ fn read_old<H: BlockStore>(
         → IfSome level.now.old.first (λ digest. slice_index_or (slots level.now.digest_size level.now.per_block block.new) 0 [] ≡ digest)) }
     ensures fails { TellsFailure result (H.failures hash_store.old) (H.failures hash_store.new) }
     ensures reads { H.reads hash_store.new ≤ H.reads hash_store.old + 1 }
+    ensures gives { GivesAt (IsOldBlock level.now index) (H.given hash_store.old) (H.given hash_store.new) }
     ensures read_only { IsOnlyRead H.BlockStore hash_store.old hash_store.new }
 {
     let _len = hash_store.len();
@@ -97,6 +98,7 @@ fn make_again<H: BlockStore, A: Allocator>(
     ensures hashed { OnOk result (hasher.new.hashed ≡ hasher.old.hashed + 1) }
     ensures fails { TellsFailure result (H.failures hash_store.old) (H.failures hash_store.new) }
     ensures reads { H.reads hash_store.new ≤ H.reads hash_store.old + 1 }
+    ensures gives { GivesAt (IsOldBlock level.now index) (H.given hash_store.old) (H.given hash_store.new) }
     ensures read_only { IsOnlyRead H.BlockStore hash_store.old hash_store.new }
 {
     read_old(hash_store, level, index, block)?;
@@ -135,6 +137,7 @@ fn make_block<H: BlockStore, A: Allocator + Copy>(
     ensures hashed { OnOk result (hasher.new.hashed ≡ hasher.old.hashed + 1) }
     ensures fails { PlansOrFails result (H.failures hash_store.old) (H.failures hash_store.new) }
     ensures reads { H.reads hash_store.new ≤ H.reads hash_store.old + 1 }
+    ensures gives { GivesAt (IsOldBlock level.now index) (H.given hash_store.old) (H.given hash_store.new) }
     ensures read_only { IsOnlyRead H.BlockStore hash_store.old hash_store.new }
 {
     let Ok(digest) = make_again(hash_store, hasher, level, children, index, block) else {
@@ -186,6 +189,7 @@ pub fn make_level<H: BlockStore, A: Allocator + Copy>(
     ensures hashed { OnOk result (hasher.new.hashed ≡ hasher.old.hashed + length numbers.now) }
     ensures fails { PlansOrFails result (H.failures hash_store.old) (H.failures hash_store.new) }
     ensures reads { H.reads hash_store.new ≤ H.reads hash_store.old + length numbers.now }
+    ensures gives { GivesAt (IsOldOf level.now numbers.now) (H.given hash_store.old) (H.given hash_store.new) }
     ensures read_only { IsOnlyRead H.BlockStore hash_store.old hash_store.new }
 {
     let mut next = Vec::new(alloc);

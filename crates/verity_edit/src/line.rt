@@ -7,7 +7,9 @@ ghost use Rattle.verity_store.specs.Stores.{IsOnlyRead};
 ghost use Rattle.verity_edit.specs.Faults.{IsNotPassedOver};
 ghost use Rattle.verity_edit.specs.Exchange.{IsExchange};
 ghost use Rattle.verity_edit.specs.Editing.{IsUnchanged, Stays, FitsStores, fresh};
-ghost use Rattle.verity_edit.specs.Line.{CommitsUnder, ExplainsUnder, IsAnsweredUnder, IsLineOf, IsOpenedUnder, IsRefusalUnder, editing_of};
+ghost use Rattle.verity_chain.specs.Table.{height};
+ghost use Rattle.verity_edit.specs.Line.{CommitsUnder, ExplainsUnder, IsAnsweredUnder, IsLineOf, IsOpenedUnder, IsRefusalUnder};
+ghost use Rattle.verity_edit.specs.Line.{editing_of, paths_in};
 
 use crate::EditFault;
 use crate::command::{Command, Committed, Reply};
@@ -205,16 +207,23 @@ impl<D: BlockStore, H: BlockStore, A: Allocator + Copy + Drop> LineEditor<D, H, 
     /// change, both stores and the pending edits are as they were, and the editor isn't broken. On E6 after it the editor is broken;
     /// the blocks in front of the superblock's are as they were, and the line is the old one.
     ///
+    /// On E14 the hash store gave, for every image that fits the line, a block that isn't the image's own; from a store that tells
+    /// and holds the image's tree there is none.
+    ///
     /// It reads no data block. It hashes what `Editor::commit` does, which is counted, and each hash block that it reads once more
-    /// for its check, which isn't. It reads the blocks that `Editor::commit` does and those above them, each of the tree's once
-    /// before the first change; the levels that are moved are then read without a check. All its memory is taken before the first
-    /// change, as is the room of both stores: that of a commit, the blocks that were read, and the new line.
+    /// for its check, which isn't. Before the first change it reads the hash blocks of the committed tree that lie above an edited
+    /// block, each at most once: those are the touched ones, and where the count fell one more of each level above the new top. Where
+    /// a block is refused, it has read at most one more path. Where the count is another, the levels that are moved are then read
+    /// without a check. All its memory is taken before the first change, as is the room of both stores: that of a commit, the blocks
+    /// that were read, and the new line.
     pub fn commit(self) -> (Self, Result<Committed, EditFault>)
         ensures committed { IfOk result.1 (CommitsUnder D.BlockStore H.BlockStore self result.0) }
         ensures refused { IfErr result.1 (IsRefusalUnder D.BlockStore H.BlockStore self result.0) }
         ensures still_broken { self.broken ≡ true → result.0 ≡ self }
         ensures unchanged { OnErr result.1 (result.0.broken ≡ self.broken
             → IsUnchanged D.BlockStore H.BlockStore (editing_of self) (editing_of result.0)) }
+        ensures refused_reads { OnErr result.1 (result.0.broken ≡ false
+            → H.reads result.0.hash_store ≤ H.reads self.hash_store + paths_in D.BlockStore self + height self.table) }
         ensures line { OnErr result.1 (result.0.table ≡ self.table) }
         ensures stays { Stays D.BlockStore H.BlockStore (editing_of self) (editing_of result.0) }
     {

@@ -8,11 +8,11 @@ ghost use Rattle.verity_superblock.specs.Superblock.{salted};
 ghost use Rattle.verity_superblock.specs.Image.{superblock_block};
 ghost use Rattle.verity_store.specs.Stores.{IsOnlyRead};
 ghost use Rattle.verity_edit.specs.Faults.{PlansOrFails};
-ghost use Rattle.verity_edit.specs.Seen.{Shows};
+ghost use Rattle.verity_edit.specs.Seen.{GivesAt, Shows};
 ghost use Rattle.verity_edit.specs.Draft.{edits_of};
 ghost use Rattle.verity_edit.specs.Touched.{bound, touched_count};
 ghost use Rattle.verity_edit.specs.Plan.{ArePlanned};
-ghost use Rattle.verity_edit.specs.Making.{IsChange, touched_blocks};
+ghost use Rattle.verity_edit.specs.Making.{IsChange, IsTouchedPlace, touched_blocks};
 ghost use Rattle.verity_edit.specs.Carried.{AreInTree};
 ghost use Rattle.verity_edit.specs.Standing.{BeginsWith};
 
@@ -46,7 +46,7 @@ pub struct CommitPlan<A: Allocator> {
     pub zero: Vec<u8, A>,
 }
 
-ghost use Rattle.verity_edit.specs.Planning.{volume_shape, IsPlan, IsRight, ReadsTouched};
+ghost use Rattle.verity_edit.specs.Planning.{volume_shape, IsPlan, IsRight, ReadsTouched, GivesTouched};
 
 /// The geometry of a volume with so many data blocks.
 pub fn geometry_over<A: Allocator>(superblock: &Superblock<A>, blocks: u64) -> Geometry
@@ -153,6 +153,8 @@ fn plan_tree<H: BlockStore, A: Allocator + Copy>(
     ensures fails { PlansOrFails result (H.failures hash_store.old) (H.failures hash_store.new) }
     ensures reads { (image : List (List ℕ)) → length image ≡ pending.now.committed → change.now.new.blocks ≡ change.now.old.blocks
         → H.reads hash_store.new ≤ H.reads hash_store.old + touched_count (digests_per_block change.now.new) (edits_of image pending.now) }
+    ensures gives { (image : List (List ℕ)) → length image ≡ pending.now.committed
+        → GivesAt (IsTouchedPlace change.now (edits_of image pending.now)) (H.given hash_store.old) (H.given hash_store.new) }
     ensures read_only { IsOnlyRead H.BlockStore hash_store.old hash_store.new }
 {
     pending.facts();
@@ -194,6 +196,7 @@ pub fn plan_commit<H: BlockStore, A: Allocator + Copy>(
     ensures salted { hasher.new.salted ≡ hasher.old.salted }
     ensures fails { PlansOrFails result (H.failures hash_store.old) (H.failures hash_store.new) }
     ensures reads { ReadsTouched superblock.now pending.now (H.reads hash_store.old) (H.reads hash_store.new) }
+    ensures gives { GivesTouched superblock.now pending.now first root (H.given hash_store.old) (H.given hash_store.new) }
     ensures read_only { IsOnlyRead H.BlockStore hash_store.old hash_store.new }
 {
     let blocks = pending.blocks();

@@ -6,14 +6,14 @@ ghost use Rattle.verity_digest.specs.Shape.{row_len};
 ghost use Rattle.verity_geometry.specs.Geometry.{digests_per_block, levels_of, start_of};
 ghost use Rattle.verity_store.specs.Stores.{IsOnlyRead};
 ghost use Rattle.verity_edit.specs.Faults.{PlansOrFails};
-ghost use Rattle.verity_edit.specs.Seen.{Shows};
+ghost use Rattle.verity_edit.specs.Seen.{GivesAt, Shows};
 ghost use Rattle.verity_edit.specs.Parents.{parents};
-ghost use Rattle.verity_edit.specs.Level.{Holds, Renews};
+ghost use Rattle.verity_edit.specs.Level.{Holds, Renews, IsOldOf};
 ghost use Rattle.verity_edit.specs.Edits.{Edits};
 ghost use Rattle.verity_edit.specs.Touched.{touched_count};
 ghost use Rattle.verity_edit.specs.Slots.{child_at, AreSized, AreWithin};
 ghost use Rattle.verity_edit.specs.Plan.{numbers_of, places, ArePlanned, made_blocks, made_digests};
-ghost use Rattle.verity_edit.specs.Making.{old_level, touched_places, touched_blocks, IsEdited, StandsFor};
+ghost use Rattle.verity_edit.specs.Making.{old_level, touched_places, touched_blocks, IsEdited, IsTouchedPlace, StandsFor};
 
 use crate::EditFault;
 use crate::level::{Level, OldLevel, make_level};
@@ -130,6 +130,8 @@ fn make_next<H: BlockStore, A: Allocator + Copy>(
     ensures fails { PlansOrFails result (H.failures hash_store.old) (H.failures hash_store.new) }
     ensures reads { H.reads hash_store.new
         ≤ H.reads hash_store.old + length (parents (digests_per_block change.now.new) (numbers_of children.now)) }
+    ensures gives { GivesAt (IsOldOf (level_of change.now level) (parents (digests_per_block change.now.new) (numbers_of children.now)))
+        (H.given hash_store.old) (H.given hash_store.new) }
     ensures read_only { IsOnlyRead H.BlockStore hash_store.old hash_store.new }
 {
     let made = change.level(level);
@@ -186,6 +188,8 @@ pub fn make_tree<H: BlockStore, A: Allocator + Copy>(
     ensures fails { PlansOrFails result (H.failures hash_store.old) (H.failures hash_store.new) }
     ensures reads { (e : Edits) → IsEdited e change.now.old.blocks change.now.new.blocks leaves.items
         → H.reads hash_store.new ≤ H.reads hash_store.old + touched_count (digests_per_block change.now.new) e }
+    ensures gives { (e : Edits) → IsEdited e change.now.old.blocks change.now.new.blocks leaves.items
+        → GivesAt (IsTouchedPlace change.now e) (H.given hash_store.old) (H.given hash_store.new) }
     ensures read_only { IsOnlyRead H.BlockStore hash_store.old hash_store.new }
 {
     let mut children = leaves;

@@ -4,12 +4,12 @@ ghost use Rattle.std.specs.Prelude.{◌≡◌, ℕ, ◌+◌, ◌-◌, ◌^◌, �
 ghost use Rattle.verity_digest.specs.Hash.{size_of};
 ghost use Rattle.verity_store.specs.Stores.{IsOnlyRead, IsOnlyWritten, StaysStore};
 ghost use Rattle.verity_superblock.specs.Superblock.{salted};
-ghost use Rattle.verity_chain.specs.Table.{IsTable};
+ghost use Rattle.verity_chain.specs.Table.{IsTable, height};
 ghost use Rattle.verity_chain.specs.Stores.{IsHashStoreOf};
 ghost use Rattle.verity_chain.specs.Checked.{unread};
 ghost use Rattle.verity_edit.specs.Levels.{KeepsFront};
 ghost use Rattle.verity_edit.specs.Committing.{CanCommit, IsCarriedOut};
-ghost use Rattle.verity_edit.specs.Planning.{IsPlan, IsRight};
+ghost use Rattle.verity_edit.specs.Planning.{IsPlan, IsRight, ReadsPaths};
 
 use crate::EditFault;
 use crate::committing::{carry_out, reserve_both};
@@ -82,8 +82,13 @@ fn plan_checked<H: BlockStore, A: Allocator + Copy + Drop>(
     ensures unfailed { OnOk result (H.failures checked.new.hash_store ≡ H.failures checked.old.hash_store) }
     ensures counted { IfOk result (λ plan. hasher.new.hashed ≡ hasher.old.hashed + plan.hashed) }
     ensures salted { hasher.new.salted ≡ hasher.old.salted }
+    ensures reads { OnOk result (ReadsPaths superblock.now pending.now 0 (H.reads checked.old.hash_store)
+        (H.reads checked.new.hash_store)) }
+    ensures most_reads { ReadsPaths superblock.now pending.now (height checked.old.table) (H.reads checked.old.hash_store)
+        (H.reads checked.new.hash_store) }
     ensures read_only { IsOnlyRead H.BlockStore checked.old.hash_store checked.new.hash_store }
 {
+    pending.facts();
     let planned = plan_commit(
         alloc, checked, hasher, pending, superblock, first, root, block,
     );
@@ -125,6 +130,8 @@ pub fn plan_under<H: BlockStore, A: Allocator + Copy + Drop>(
     ensures unfailed { OnOk result.2 (H.failures result.1 ≡ H.failures hash_store) }
     ensures counted { IfOk result.2 (λ plan. hasher.new.hashed ≡ hasher.old.hashed + plan.hashed) }
     ensures salted { hasher.new.salted ≡ hasher.old.salted }
+    ensures reads { OnOk result.2 (ReadsPaths superblock.now pending.now 0 (H.reads hash_store) (H.reads result.1)) }
+    ensures most_reads { ReadsPaths superblock.now pending.now (height tree) (H.reads hash_store) (H.reads result.1) }
     ensures read_only { IsOnlyRead H.BlockStore hash_store result.1 }
 {
     let _allowed = tree.table();
@@ -220,6 +227,10 @@ pub fn commit_under<D: BlockStore, H: BlockStore, A: Allocator + Copy + Drop>(
     ensures front { KeepsFront (tree.hash_start_block - 1) (H.content hash_store) (H.content result.1) }
     ensures data_store { IsOnlyWritten D.BlockStore data_store.old data_store.new }
     ensures hash_store { StaysStore H.BlockStore hash_store result.1 }
+    ensures reads { OnOk result.2 (pending.now.working ≡ pending.now.committed
+        → ReadsPaths superblock.now pending.now 0 (H.reads hash_store) (H.reads result.1)) }
+    ensures most_reads { broken.new ≡ false
+        → ReadsPaths superblock.now pending.now (height tree) (H.reads hash_store) (H.reads result.1) }
 {
     let first = tree.table().hash_start_block();
     let root = tree.root();

@@ -15,3 +15,13 @@ copy_from_slice-requires g c =
     c.block.ensures ∙ ap (λ n. n.block) (c.index.ensures ∙ get_or_default notes c.in_ok-c.c c.index.result.now
     (record { number = 0; block = [] }) r.found.0) in
     c.fetch.auto.block ∙ c.requires.sized ∙ sym (ap length is ∙ here.0.sized)
+
+pub returns-in_err-c-clause-within : goal.returns-in_err-c-clause-within
+returns-in_err-c-clause-within g c = λ set upward asks.
+    let at = c.locate-level.ensures in
+    c.fetch.ensures.within set upward (asks c.locate-level.result.0 c.locate-level.result.1 at.level at.index at.value)
+
+pub returns-clause-within : goal.returns-clause-within
+returns-clause-within g c = λ set upward asks.
+    let at = c.locate-level.ensures in
+    c.fetch.ensures.within set upward (asks c.locate-level.result.0 c.locate-level.result.1 at.level at.index at.value)

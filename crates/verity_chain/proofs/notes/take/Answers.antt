@@ -5,6 +5,7 @@ use Rattle.verity_chain.specs.Stores.{Gave}
 use Rattle.verity_chain.specs.Notes.{Note, IsNoteOf, AreChecked, WereGiven}
 use Rattle.verity_chain.proofs.ChainLemmas.{ok_here, same_here, differs_here, gave_here}
 use Rattle.verity_chain.proofs.NoteLemmas.{given_later, given_push, checked_push, wrong_noted}
+use Rattle.verity_chain.proofs.FewLemmas.{apart_push, within_push}
 use Rattle.verity_chain.proofs.notes.take.Goals as goal
 
 pub returns-then-not-matches-clause-err : goal.returns-then-not-matches-clause-err
@@ -168,3 +169,17 @@ returns-in_default-push-clause-given g c =
         room = omega (arith, e.room);
       };
     }) c.requires.given)
+
+pub returns-clause-apart : goal.returns-clause-apart
+returns-clause-apart g c =
+    let x : Note = record { number = c.hash_place-number.result; block = c.read.new.out } in
+    let added : c.push.new.self.items ≡ c.args.notes.now.items ++ x ∷ [] = search rules in
+    apart_push c.args.notes.now.items c.push.new.self.items x (hash_place c.args.tree.now c.args.level c.args.index) added
+    c.hash_place-number.ensures.value c.requires.apart c.requires.unnoted
+
+pub returns-clause-within : goal.returns-clause-within
+returns-clause-within g c = λ set among.
+    let x : Note = record { number = c.hash_place-number.result; block = c.read.new.out } in
+    let added : c.push.new.self.items ≡ c.args.notes.now.items ++ x ∷ [] = search rules in
+    within_push c.args.tree.now set c.args.notes.now.items c.push.new.self.items x c.args.level c.args.index added c.requires.level
+    c.requires.index c.hash_place-number.ensures.value among

@@ -43,3 +43,6 @@ returns-clause-named g c =
     (ap h.digest (ap (λ n. get_or image n []) last ∙ sym cut.same ∙ ap (λ n. get_or (edits_of image d).working n []) (sym last)))
     before)
     c.add_last.ensures.named
+
+pub returns-clause-gives : goal.returns-clause-gives
+returns-clause-gives g c = c.add_last.ensures.gives

@@ -5,7 +5,9 @@ use Rattle.verity_digest.specs.Shape.{level_count, level_len, place}
 use Rattle.verity_geometry.specs.Geometry.{Shape, digests_per_block}
 use Rattle.verity_geometry.proofs.Shapes.{branching, some}
 use Rattle.verity_edit.specs.declared.plan.Child.{Child}
-use Rattle.verity_edit.proofs.SeenLemmas.{shows_read}
+use Rattle.verity_edit.specs.declared.tree.Change.{Change}
+use Rattle.verity_edit.specs.Last.{IsAboveLast}
+use Rattle.verity_edit.proofs.SeenLemmas.{shows_read, gives_read}
 use Rattle.verity_edit.proofs.LastLemmas.{level_some, slot_stands}
 use Rattle.verity_edit.proofs.last.add_last.Goals as goal
 
@@ -60,3 +62,27 @@ returns-in-Ok-push-clause-named g c = λ content shown h image ok block_size dig
     ∙ slot_stands h image content first b ok stands some_level (omega arith) inside in
     c.in-Ok-push.ensures.items
     ∙ (λ i. let x : Child = record { number = last i; digest = digest i } in c.args.leaves.now.items ++ x ∷ [])
+
+pub returns-in-Err-clause-gives : goal.returns-in-Err-clause-gives
+returns-in-Err-clause-gives g c =
+    let H = g.H.BlockStore in
+    let c0 : Change = c.args.change.now in
+    let k : ℕ = digests_per_block c0.old in
+    let last : c.blocks-last.result - 1 ≡ c0.new.blocks - 1 = ap (λ n. n - 1) c.blocks-last.ensures.value in
+    let index : c.leaf_parent-index.result.0 ≡ (c0.new.blocks - 1) / k = c.leaf_parent-index.ensures.index ∙ ap (λ n. n / k) last in
+    let at : c0.first + c.place.result ≡ c0.first + place k c0.old.blocks 0 ((c0.new.blocks - 1) / k) =
+    ap (λ p. c0.first + p) (c.place.ensures.value ∙ ap (λ i. place k c0.old.blocks 0 i) index) in
+    gives_read c.read.result (IsAboveLast c0) (H.given c.args.hash_store.now) (H.given c.read.new.self)
+    (c0.first + c.place.result) c.read.new.out c.read.ensures.given c.read.ensures.ungiven (c.requires.fell, at)
+
+pub returns-in-Ok-push-clause-gives : goal.returns-in-Ok-push-clause-gives
+returns-in-Ok-push-clause-gives g c =
+    let H = g.H.BlockStore in
+    let c0 : Change = c.args.change.now in
+    let k : ℕ = digests_per_block c0.old in
+    let last : c.blocks-last.result - 1 ≡ c0.new.blocks - 1 = ap (λ n. n - 1) c.blocks-last.ensures.value in
+    let index : c.leaf_parent-index.result.0 ≡ (c0.new.blocks - 1) / k = c.leaf_parent-index.ensures.index ∙ ap (λ n. n / k) last in
+    let at : c0.first + c.place.result ≡ c0.first + place k c0.old.blocks 0 ((c0.new.blocks - 1) / k) =
+    ap (λ p. c0.first + p) (c.place.ensures.value ∙ ap (λ i. place k c0.old.blocks 0 i) index) in
+    gives_read c.read.result (IsAboveLast c0) (H.given c.args.hash_store.now) (H.given c.read.new.self)
+    (c0.first + c.place.result) c.read.new.out c.read.ensures.given c.read.ensures.ungiven (c.requires.fell, at)

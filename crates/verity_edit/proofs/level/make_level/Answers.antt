@@ -1,13 +1,14 @@
 use Rattle.std.proofs.Common.{◌≡◌, ℕ, ◌+◌, ◌<◌, ◌≤◌, ◌++◌, ◌∷◌, List, [], length, take, map, get_or, arith, subst, sym, ap, ◌∙◌}
 use Rattle.std.proofs.lemmas.List.{take_all, map_more, append_assoc, take_more}
+use Rattle.std.proofs.lemmas.List.Elements.{Contains-get_or}
 use Rattle.verity_digest.specs.Tree.{Hashing, pack}
 use Rattle.verity_digest.specs.Hash.{hashing, size_of}
 use Rattle.verity_store.proofs.StoreLemmas.{only_read_then}
 use Rattle.verity_edit.specs.declared.plan.Child.{Child}
 use Rattle.verity_edit.specs.Slots.{AreSized, nobody}
-use Rattle.verity_edit.specs.Level.{Holds, IsLevel}
+use Rattle.verity_edit.specs.Level.{Holds, IsLevel, IsOldBlock, IsOldOf}
 use Rattle.verity_edit.specs.Plan.{Planned, nothing_planned, numbers_of, places, ArePlanned, made_blocks, made_digests}
-use Rattle.verity_edit.proofs.SeenLemmas.{shows_before}
+use Rattle.verity_edit.proofs.SeenLemmas.{shows_before, gives_then, gives_more}
 use Rattle.verity_edit.proofs.Pushes.{each_push, map_push}
 use Rattle.verity_edit.proofs.level.make_level.Goals as goal
 
@@ -80,6 +81,8 @@ loop-index-preserved g c =
       hashed = omega arith;
       unfailed = one.fails ∙ inv.unfailed;
       reads = omega arith;
+      gives = gives_then (IsOldOf level numbers) _ _ _ inv.gives
+          (gives_more (IsOldBlock level i) (IsOldOf level numbers) _ _ (λ n is. (i, Contains-get_or numbers at 0 below, is)) one.gives);
       read_only = only_read_then g.H.BlockStore _ _ _ inv.read_only one.read_only;
     }
 
@@ -104,3 +107,17 @@ pub returns-clause-places : goal.returns-clause-places
 returns-clause-places g c = c.loop-index.invariant.places
     ∙ ap (λ ns. places c.args.plan.now.items ++ map (λ i. c.args.level.now.start + i) ns)
     (all c.args.numbers.now c.loop-index.index-index (omega arith))
+
+pub returns-in_err-make_block-clause-gives : goal.returns-in_err-make_block-clause-gives
+returns-in_err-make_block-clause-gives g c =
+    let inv = c.loop-index.invariant in
+    let level = c.args.level.now in
+    let numbers : List ℕ = c.args.numbers.now in
+    let at : ℕ = c.loop-index.index-index in
+    let below : at < length numbers = omega arith in
+    gives_then (IsOldOf level numbers) _ _ _ inv.gives
+    (gives_more (IsOldBlock level (get_or numbers at 0)) (IsOldOf level numbers) _ _ (λ n is. (
+      get_or numbers at 0,
+      Contains-get_or numbers at 0 below,
+      is,
+    )) c.in_err-make_block.ensures.gives)

@@ -1,9 +1,9 @@
 use Rattle.std.proofs.Common.{◌≡◌, ℕ, ◌+◌, ◌≤◌, ◌++◌, List, length, map, take}
 use Rattle.verity_digest.specs.Hash.{hashing}
 use Rattle.verity_store.specs.Stores.{IsOnlyRead}
-use Rattle.verity_edit.specs.Seen.{Shows}
+use Rattle.verity_edit.specs.Seen.{GivesAt, Shows}
 use Rattle.verity_edit.specs.Slots.{AreSized}
-use Rattle.verity_edit.specs.Level.{Holds, Renews}
+use Rattle.verity_edit.specs.Level.{Holds, Renews, IsOldOf}
 use Rattle.verity_edit.specs.Plan.{numbers_of, places, ArePlanned, made_blocks, made_digests}
 use Rattle.verity_edit.proofs.level.make_level.Given as goal
 
@@ -23,5 +23,6 @@ invariant-loop-index g l = record {
   hashed : l.hasher.hashed ≡ l.initial.hasher.hashed + l.index-index;
   unfailed : g.H.BlockStore.failures l.hash_store ≡ g.H.BlockStore.failures l.initial.hash_store;
   reads : g.H.BlockStore.reads l.hash_store ≤ g.H.BlockStore.reads l.initial.hash_store + l.index-index;
+  gives : GivesAt (IsOldOf l.level l.numbers) (g.H.BlockStore.given l.initial.hash_store) (g.H.BlockStore.given l.hash_store);
   read_only : IsOnlyRead g.H.BlockStore l.initial.hash_store l.hash_store;
 }

@@ -7,7 +7,9 @@ use Rattle.verity_superblock.specs.Image.{superblock_block}
 use Rattle.verity_edit.specs.Draft.{Draft, edits_of}
 use Rattle.verity_edit.specs.Touched.{touched_count, bound}
 use Rattle.verity_edit.specs.Plan.{ArePlanned}
-use Rattle.verity_edit.specs.Making.{touched_blocks}
+use Rattle.verity_edit.specs.Seen.{GivesAt}
+use Rattle.verity_edit.specs.Making.{IsTouchedPlace, touched_blocks}
+use Rattle.verity_edit.specs.declared.tree.Change.{Change}
 use Rattle.verity_edit.specs.Carried.{AreInTree}
 use Rattle.verity_edit.specs.Standing.{BeginsWith}
 use Rattle.verity_edit.specs.Planning.{volume_shape, volume_hashing}
@@ -79,3 +81,27 @@ returns-clause-reads g c = λ image len stays.
     let most = c.in_ok-tree.ensures.reads image len same in
     let count = ap (λ s. touched_count (digests_per_block s) (edits_of image d)) new in
     omega arith
+
+pub returns-in_err-tree-clause-gives : goal.returns-in_err-tree-clause-gives
+returns-in_err-tree-clause-gives g c = λ image len.
+    let v : Volume = c.args.superblock.now in
+    let d : Draft = c.args.pending.now in
+    let old : c.geometry_over.result ≡ volume_shape v.params v.data_blocks = c.geometry_over.ensures.value
+    ∙ ap (volume_shape v.params) c.data_blocks.ensures.value in
+    let new : c.geometry_over-2.result ≡ volume_shape v.params d.working = c.geometry_over-2.ensures.value
+    ∙ ap (volume_shape v.params) c.blocks-blocks.ensures.value in
+    let P : Change → Type 0 = λ x. GivesAt (IsTouchedPlace x (edits_of image d)) (g.H.BlockStore.given c.args.hash_store.now)
+    (g.H.BlockStore.given c.plan_tree.new.hash_store) in
+    subst P (λ i. record { first = c.args.first; old = old i; new = new i; root = c.args.root }) (c.in_err-tree.ensures.gives image len)
+
+pub returns-clause-gives : goal.returns-clause-gives
+returns-clause-gives g c = λ image len.
+    let v : Volume = c.args.superblock.now in
+    let d : Draft = c.args.pending.now in
+    let old : c.geometry_over.result ≡ volume_shape v.params v.data_blocks = c.geometry_over.ensures.value
+    ∙ ap (volume_shape v.params) c.data_blocks.ensures.value in
+    let new : c.geometry_over-2.result ≡ volume_shape v.params d.working = c.geometry_over-2.ensures.value
+    ∙ ap (volume_shape v.params) c.blocks-blocks.ensures.value in
+    let P : Change → Type 0 = λ x. GivesAt (IsTouchedPlace x (edits_of image d)) (g.H.BlockStore.given c.args.hash_store.now)
+    (g.H.BlockStore.given c.plan_tree.new.hash_store) in
+    subst P (λ i. record { first = c.args.first; old = old i; new = new i; root = c.args.root }) (c.in_ok-tree.ensures.gives image len)

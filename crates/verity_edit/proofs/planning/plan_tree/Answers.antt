@@ -14,9 +14,11 @@ use Rattle.verity_edit.specs.Draft.{Draft, IsDraft, edits_of}
 use Rattle.verity_edit.specs.Touched.{changed_blocks}
 use Rattle.verity_edit.specs.Slots.{AreNamed}
 use Rattle.verity_edit.specs.Plan.{ArePlanned}
-use Rattle.verity_edit.specs.Making.{IsEdited, StandsFor, touched_blocks}
-use Rattle.verity_edit.specs.Last.{AreEdited}
-use Rattle.verity_edit.proofs.SeenLemmas.{shows_before}
+use Rattle.verity_edit.specs.Making.{IsChange, IsEdited, IsTouchedPlace, StandsFor, touched_blocks}
+use Rattle.verity_edit.specs.Last.{AreEdited, IsAboveLast}
+use Rattle.verity_edit.specs.Seen.{GivesAt}
+use Rattle.verity_edit.proofs.SeenLemmas.{shows_before, gives_then, gives_more}
+use Rattle.verity_edit.proofs.TouchedLemmas.{touched_last}
 use Rattle.verity_edit.proofs.Drafts.{length-working, KeepsUnchanged-draft}
 use Rattle.verity_edit.proofs.PlanLemmas.{AreInTree-from, length-plan, some_image, length-some_image}
 use Rattle.verity_edit.proofs.planning.plan_tree.Goals as goal
@@ -133,3 +135,36 @@ returns-clause-right g c = λ content shown image len stands is_root.
 
 pub returns-clause-read_only : goal.returns-clause-read_only
 returns-clause-read_only g c = only_read_then g.H.BlockStore _ _ _ c.in_ok-add_fallen.ensures.read_only c.in_ok-root.ensures.read_only
+
+-- what was given for the last block is above it
+given_last : (image : List (List ℕ)) (d : Draft) (c : Change) (blocks size digest : ℕ) (a b : List (ℕ × List ℕ))
+    → IsChange c blocks size digest → length image ≡ d.committed → d.committed ≡ c.old.blocks → d.working ≡ c.new.blocks
+    → GivesAt (IsAboveLast c) a b → GivesAt (IsTouchedPlace c (edits_of image d)) a b
+given_last image d c blocks size digest a b ok len committed working =
+    gives_more (IsAboveLast c) (IsTouchedPlace c (edits_of image d)) a b
+    (λ n is. touched_last c blocks size digest (edits_of image d) n ok (len ∙ committed) (length-working image d ∙ working) is)
+
+pub returns-in_err-add_fallen-clause-gives : goal.returns-in_err-add_fallen-clause-gives
+returns-in_err-add_fallen-clause-gives g c = λ image len.
+    given_last image c.args.pending.now c.args.change.now _ _ _ _ _ c.requires.change len c.requires.committed c.requires.working
+    c.in_err-add_fallen.ensures.gives
+
+pub returns-in_err-root-clause-gives : goal.returns-in_err-root-clause-gives
+returns-in_err-root-clause-gives g c = λ image len.
+    let d : Draft = c.args.pending.now in
+    let change : Change = c.args.change.now in
+    let ed = edited image d change.old change.new c.add_fallen.new.leaves.items c.facts.ensures c.requires.change.old_shape
+    c.requires.change.new_shape c.requires.committed c.requires.working c.in_ok-add_fallen.ensures.edited len in
+    gives_then (IsTouchedPlace change (edits_of image d)) _ _ _
+    (given_last image d change _ _ _ _ _ c.requires.change len c.requires.committed c.requires.working c.in_ok-add_fallen.ensures.gives)
+    (c.in_err-root.ensures.gives (edits_of image d) ed)
+
+pub returns-clause-gives : goal.returns-clause-gives
+returns-clause-gives g c = λ image len.
+    let d : Draft = c.args.pending.now in
+    let change : Change = c.args.change.now in
+    let ed = edited image d change.old change.new c.add_fallen.new.leaves.items c.facts.ensures c.requires.change.old_shape
+    c.requires.change.new_shape c.requires.committed c.requires.working c.in_ok-add_fallen.ensures.edited len in
+    gives_then (IsTouchedPlace change (edits_of image d)) _ _ _
+    (given_last image d change _ _ _ _ _ c.requires.change len c.requires.committed c.requires.working c.in_ok-add_fallen.ensures.gives)
+    (c.in_ok-root.ensures.gives (edits_of image d) ed)

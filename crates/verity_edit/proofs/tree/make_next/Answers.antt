@@ -8,7 +8,8 @@ use Rattle.verity_edit.specs.declared.level.Level.{Level}
 use Rattle.verity_edit.specs.Slots.{AreSized}
 use Rattle.verity_edit.specs.Parents.{parents}
 use Rattle.verity_edit.specs.Plan.{numbers_of, made_blocks, made_digests}
-use Rattle.verity_edit.specs.Level.{IsLevel, AreChildren, Holds, Renews}
+use Rattle.verity_edit.specs.Level.{IsLevel, AreChildren, Holds, Renews, IsOldOf}
+use Rattle.verity_edit.specs.Seen.{GivesAt}
 use Rattle.verity_edit.specs.Making.{level_of}
 use Rattle.verity_edit.proofs.ParentLemmas.{parents_within}
 use Rattle.verity_edit.proofs.MakingLemmas.{IsLevel-change, next_within, if_ok}
@@ -78,3 +79,13 @@ returns-clause-next_within g c =
     (λ next numbers. next_within k c.args.change.now.new.blocks c.args.level c.args.children.now next.items some
     c.requires.children_within (numbers ∙ is))
     c.make_level.ensures.numbers
+
+pub returns-clause-gives : goal.returns-clause-gives
+returns-clause-gives g c =
+    let H = g.H.BlockStore in
+    let is : c.deref.result.now ≡ parents (digests_per_block c.args.change.now.new) (numbers_of c.args.children.now) =
+    c.deref.ensures.value ∙ c.in-Ok.ensures ∙ ap (λ l. parents l.per_block (numbers_of c.args.children.now)) c.level-made.ensures in
+    let P : Level → List ℕ → Type 0 = λ l ns. GivesAt (IsOldOf l ns) (H.given c.args.hash_store.now)
+    (H.given c.make_level.new.hash_store) in
+    subst (P (level_of c.args.change.now c.args.level)) is
+    (subst (λ (l : Level). P l c.deref.result.now) c.level-made.ensures c.make_level.ensures.gives)

@@ -20,9 +20,10 @@ use Rattle.verity_edit.specs.Slots.{child_at, AreNamed, AreSized, AreWithin}
 use Rattle.verity_edit.specs.Parents.{parents}
 use Rattle.verity_edit.specs.Digests.{digests_of}
 use Rattle.verity_edit.specs.Plan.{numbers_of, places, ArePlanned, made_blocks, made_digests}
-use Rattle.verity_edit.specs.Level.{Holds, Renews}
-use Rattle.verity_edit.specs.Making.{IsChange, level_of, touched_below, touched_places, touched_blocks, IsEdited}
-use Rattle.verity_edit.proofs.SeenLemmas.{shows_before}
+use Rattle.verity_edit.specs.Level.{Holds, Renews, IsOldOf}
+use Rattle.verity_edit.specs.Making.{IsChange, level_of, touched_below, touched_places, touched_blocks, IsEdited, IsTouchedPlace}
+use Rattle.verity_edit.proofs.SeenLemmas.{shows_before, gives_same, gives_then, gives_more}
+use Rattle.verity_edit.proofs.TouchedLemmas.{touched_place}
 use Rattle.verity_edit.proofs.MakingLemmas.{parents-renewed, touched_below-more, touched_below-mono, ready_change, named_next}
 use Rattle.verity_edit.proofs.MakingLemmas.{named_leaves, finish, renewed-more, touched_blocks-more, touched_places-more}
 use Rattle.verity_edit.proofs.tree.make_tree.Goals as goal
@@ -74,6 +75,7 @@ loop-level-init g c =
       hashed = λ e ed. omega arith;
       unfailed = refl;
       reads = λ e ed. omega arith;
+      gives = λ e ed. gives_same (IsTouchedPlace c.args.change.now e) _ _ refl;
       read_only = only_read_same g.H.BlockStore c.args.hash_store.now;
     }
 
@@ -150,6 +152,9 @@ loop-level-preserved g c =
       unfailed = one.fails ∙ inv.unfailed;
       reads = λ e ed. let more = touched_below-more k e l (l + 1) refl in let now = ap length (up e ed) in let was =
           inv.reads e ed in let r = one.reads in omega arith;
+      gives = λ e ed. gives_then (IsTouchedPlace change e) _ _ _ (inv.gives e ed)
+          (gives_more (IsOldOf (level_of change l) (parents k (numbers_of c.deref.result.now))) (IsTouchedPlace change e) _ _
+          (λ m is. touched_place change _ _ _ e l m _ c.requires.change (up e ed) is) one.gives);
       read_only = only_read_then g.H.BlockStore _ _ _ inv.read_only one.read_only;
     }
 
@@ -168,6 +173,24 @@ returns-in_err-children-clause-reads g c = λ e ed.
     let most = touched_below-mono k e (l + 1) (level_count k (length e.working)) (omega arith) in
     let more = touched_below-more k e l (l + 1) refl in let now = ap length up in let was = inv.reads e ed in let r = one.reads in
     omega arith
+
+pub returns-in_err-children-clause-gives : goal.returns-in_err-children-clause-gives
+returns-in_err-children-clause-gives g c = λ e ed.
+    let inv = c.loop-level.invariant in
+    let one = c.in_err-children.ensures in
+    let change = c.args.change.now in
+    let k : ℕ = digests_per_block change.new in
+    let l : ℕ = c.loop-level.level in
+    let two = branching change.new c.requires.change.new_shape in
+    let left : 0 < length e.working = (let s = ed.left in let w = ed.working in omega arith) in
+    let up : parents k (numbers_of c.deref.result.now) ≡ touched k e l = ap (λ xs. parents k (numbers_of xs)) c.deref.ensures.value
+    ∙ ap (parents k) (inv.numbers e ed) ∙ parents-renewed k e l (omega arith) left in
+    gives_then (IsTouchedPlace change e) _ _ _ (inv.gives e ed)
+    (gives_more (IsOldOf (level_of change l) (parents k (numbers_of c.deref.result.now))) (IsTouchedPlace change e) _ _
+    (λ m is. touched_place change _ _ _ e l m _ c.requires.change up is) one.gives)
+
+pub returns-clause-gives : goal.returns-clause-gives
+returns-clause-gives g c = λ e ed. c.loop-level.invariant.gives e ed
 
 pub returns-clause-made : goal.returns-clause-made
 returns-clause-made g c = λ content shown e ed stands.

@@ -5,10 +5,10 @@ use Rattle.verity_geometry.specs.Geometry.{digests_per_block}
 use Rattle.verity_store.specs.Stores.{IsOnlyRead}
 use Rattle.verity_edit.specs.Edits.{Edits}
 use Rattle.verity_edit.specs.Digests.{digests_of}
-use Rattle.verity_edit.specs.Seen.{Shows}
+use Rattle.verity_edit.specs.Seen.{GivesAt, Shows}
 use Rattle.verity_edit.specs.Slots.{AreNamed, AreSized, AreWithin}
 use Rattle.verity_edit.specs.Plan.{numbers_of, places, ArePlanned}
-use Rattle.verity_edit.specs.Making.{renewed, touched_below, touched_places, touched_blocks, IsEdited, StandsFor}
+use Rattle.verity_edit.specs.Making.{renewed, touched_below, touched_places, touched_blocks, IsEdited, IsTouchedPlace, StandsFor}
 use Rattle.verity_edit.proofs.tree.make_tree.Given as goal
 
 abbrev pub invariant-loop-level : goal.invariant-loop-level
@@ -33,5 +33,7 @@ invariant-loop-level g l = record {
   reads : (e : Edits) → IsEdited e l.change.old.blocks l.change.new.blocks l.fn.leaves.items
       → g.H.BlockStore.reads l.hash_store ≤ g.H.BlockStore.reads l.initial.hash_store + touched_below
       (digests_per_block l.change.new) e l.level;
+  gives : (e : Edits) → IsEdited e l.change.old.blocks l.change.new.blocks l.fn.leaves.items
+      → GivesAt (IsTouchedPlace l.change e) (g.H.BlockStore.given l.initial.hash_store) (g.H.BlockStore.given l.hash_store);
   read_only : IsOnlyRead g.H.BlockStore l.initial.hash_store l.hash_store;
 }

@@ -1,15 +1,16 @@
-use Rattle.std.proofs.Common.{◌≡◌, ℕ, true, List, [], length, get_or, arith, subst, sym, ap, ◌∙◌}
+use Rattle.std.proofs.Common.{◌≡◌, ℕ, true≢false, true, List, [], length, get_or, arith, subst, sym, ap, ◌∙◌}
 use Rattle.verity_geometry.specs.Geometry.{total_of}
 use Rattle.verity_store.proofs.GivenLemmas.{goes_on_then}
 use Rattle.verity_chain.proofs.ChainLemmas.{ok_here}
 use Rattle.verity_superblock.specs.Superblock.{Volume}
 use Rattle.verity_edit.specs.declared.tree.Change.{Change}
 use Rattle.verity_edit.specs.Draft.{Draft}
-use Rattle.verity_edit.specs.Planning.{IsPlan, IsRight}
+use Rattle.verity_edit.specs.Planning.{IsPlan, IsRight, ReadsPaths}
 use Rattle.verity_edit.specs.Committing.{IsCarriedOut}
 use Rattle.verity_edit.specs.Under.{IsRightUnder}
 use Rattle.verity_edit.proofs.CommitLemmas.{carried_before}
 use Rattle.verity_edit.proofs.UnderLemmas.{from_ok, right_later}
+use Rattle.verity_edit.proofs.LineCommits.{at_ok}
 use Rattle.verity_edit.proofs.under.commit_under.Goals as goal
 
 pub carry_out-requires-clause-plan : goal.carry_out-requires-clause-plan
@@ -136,3 +137,24 @@ returns-in-Ok-carry_out-clause-told g c =
     subst (λ (r : List ℕ). H.tells c.args.hash_store ≡ true → IsRight v d t.hash_start_block r (H.content c.args.hash_store) plan)
     c.root-root.ensures
     (subst (λ (f : ℕ). H.tells c.args.hash_store ≡ true → IsRight v d f c.root-root.result (H.content c.args.hash_store) plan) first right)
+
+pub returns-in-Ok-carry_out-clause-reads : goal.returns-in-Ok-carry_out-clause-reads
+returns-in-Ok-carry_out-clause-reads g c = λ stays image len.
+    let H = g.H.BlockStore in
+    let v : Volume = c.args.superblock.now in
+    let d : Draft = c.args.pending.now in
+    let read = at_ok c.plan_under-tree.result.2 c.in-Ok-planned.plan (ReadsPaths v d 0 (H.reads c.args.hash_store)
+    (H.reads c.plan_under-tree.result.1)) c.in-Ok-planned.is c.plan_under-tree.ensures.reads in
+    let most = read image len in
+    let kept = c.reserve_both.ensures.hash_store.reads in
+    let same = c.carry_out.ensures.hash_reads stays in
+    omega arith
+
+pub returns-then-is_err-clause-most_reads : goal.returns-then-is_err-clause-most_reads
+returns-then-is_err-clause-most_reads g c = λ whole image len.
+    let most = c.plan_under-tree.ensures.most_reads image len in
+    let kept = c.reserve_both.ensures.hash_store.reads in
+    omega arith
+
+pub returns-in-Ok-carry_out-clause-most_reads : goal.returns-in-Ok-carry_out-clause-most_reads
+returns-in-Ok-carry_out-clause-most_reads g c = λ whole. absurd (true≢false (sym c.carry_out.ensures.raised ∙ whole))

@@ -3,8 +3,10 @@ use Rattle.verity_chain.specs.Checked.{bound_to}
 use Rattle.verity_edit.specs.declared.under.PlanRefused.{PlanRefused}
 use Rattle.verity_edit.specs.declared.planning.CommitPlan.{CommitPlan}
 use Rattle.verity_edit.specs.Faults.{PlansOrFails}
+use Rattle.verity_edit.specs.Planning.{GivesTouched}
 use Rattle.verity_edit.specs.Under.{ExplainsUnplanned, refusal_of}
 use Rattle.verity_edit.proofs.UnderLemmas.{read_then, explains_then, right_under, told_under}
+use Rattle.verity_edit.proofs.PathLemmas.{reads_paths, reads_most}
 use Rattle.verity_edit.proofs.under.plan_checked.Goals as goal
 
 pub returns-in-Ok-clause-right : goal.returns-in-Ok-clause-right
@@ -41,7 +43,7 @@ returns-in-Err-clause-refused g c =
     (sym (c.refused_for.ensures ∙ ap (λ o. refusal_of o c.in-Err.fault) c.refusal.ensures))
     (explains_then g.H.BlockStore old.table old.hash_store new c.table-facts.ensures.facts
     (c.in-Err.ensures.read_only.later.fixed ∙ ap (λ s. bound_to old.table s.origin) c.requires.unread) (CommitPlan g.row.A.Denot)
-    c.in-Err.fault
+    c.in-Err.fault c.requires.allowed
     (subst (λ (n : ℕ). PlansOrFails {T = CommitPlan g.row.A.Denot} (Err c.in-Err.fault) n new.refused)
     (ap (λ s. s.refused) c.requires.unread) c.in-Err.ensures.fails))
 
@@ -51,3 +53,37 @@ returns-in-Err-clause-read_only g c =
     let new = c.plan_commit-planned.new.hash_store in
     read_then g.H.BlockStore old.table old.hash_store new c.table-facts.ensures.facts
     (c.in-Err.ensures.read_only.later.fixed ∙ ap (λ s. bound_to old.table s.origin) c.requires.unread)
+
+pub returns-in-Ok-clause-most_reads : goal.returns-in-Ok-clause-most_reads
+returns-in-Ok-clause-most_reads g c =
+    let old = c.args.checked.now in
+    let new = c.plan_commit-planned.new.hash_store in
+    reads_most
+    g.H.BlockStore old.table old.hash_store new c.table-facts.ensures.facts
+    (c.in-Ok.ensures.read_only.later.fixed ∙ ap (λ s. bound_to old.table s.origin) c.requires.unread) c.args.superblock.now
+    c.args.pending.now c.args.first c.args.root c.requires.line (sym c.requires.committed) c.facts.ensures.some
+    (subst (λ rows. GivesTouched c.args.superblock.now c.args.pending.now c.args.first c.args.root rows new.given)
+    (ap (λ s. s.given) c.requires.unread) c.in-Ok.ensures.gives)
+
+pub returns-in-Err-clause-most_reads : goal.returns-in-Err-clause-most_reads
+returns-in-Err-clause-most_reads g c =
+    let old = c.args.checked.now in
+    let new = c.plan_commit-planned.new.hash_store in
+    reads_most
+    g.H.BlockStore old.table old.hash_store new c.table-facts.ensures.facts
+    (c.in-Err.ensures.read_only.later.fixed ∙ ap (λ s. bound_to old.table s.origin) c.requires.unread) c.args.superblock.now
+    c.args.pending.now c.args.first c.args.root c.requires.line (sym c.requires.committed) c.facts.ensures.some
+    (subst (λ rows. GivesTouched c.args.superblock.now c.args.pending.now c.args.first c.args.root rows new.given)
+    (ap (λ s. s.given) c.requires.unread) c.in-Err.ensures.gives)
+
+pub returns-in-Ok-clause-reads : goal.returns-in-Ok-clause-reads
+returns-in-Ok-clause-reads g c =
+    let old = c.args.checked.now in
+    let new = c.plan_commit-planned.new.hash_store in
+    reads_paths
+    g.H.BlockStore old.table old.hash_store new c.table-facts.ensures.facts
+    (c.in-Ok.ensures.read_only.later.fixed ∙ ap (λ s. bound_to old.table s.origin) c.requires.unread) c.args.superblock.now
+    c.args.pending.now c.args.first c.args.root c.requires.line (sym c.requires.committed) c.facts.ensures.some
+    (subst (λ rows. GivesTouched c.args.superblock.now c.args.pending.now c.args.first c.args.root rows new.given)
+    (ap (λ s. s.given) c.requires.unread) c.in-Ok.ensures.gives)
+    (c.table-facts.ensures.facts.counted (c.in-Ok.ensures.fails ∙ ap (λ s. s.refused) c.requires.unread))

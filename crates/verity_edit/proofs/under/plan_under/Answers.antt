@@ -1,6 +1,7 @@
-use Rattle.std.proofs.Common.{◌≡◌, true, length, IfOk, IfErr, sym, subst}
+use Rattle.std.proofs.Common.{◌≡◌, true, length, IfOk, IfErr, OnOk, sym, subst}
 use Rattle.verity_chain.specs.Checked.{Checking}
-use Rattle.verity_edit.specs.Planning.{IsRight}
+use Rattle.verity_chain.specs.Table.{height}
+use Rattle.verity_edit.specs.Planning.{IsRight, ReadsPaths}
 use Rattle.verity_edit.specs.Under.{ExplainsUnplanned}
 use Rattle.verity_edit.proofs.under.plan_under.Goals as goal
 
@@ -20,3 +21,22 @@ returns-clause-refused g c =
     c.plan_checked-planned.new.checked.hash_store)) c.new-checked.ensures c.plan_checked-planned.ensures.refused in
     subst (λ h. IfErr result (ExplainsUnplanned H c.args.tree (length (H.given c.args.hash_store)) c.args.hash_store h))
     (sym c.into_parts-tree.ensures.store) old
+
+pub returns-clause-reads : goal.returns-clause-reads
+returns-clause-reads g c =
+    let H = g.H.BlockStore in
+    let v = c.args.superblock.now in
+    let d = c.args.pending.now in
+    let result = c.plan_checked-planned.result in
+    let old = subst (λ (s : Checking g.row.H.Denot). OnOk result (ReadsPaths v d 0 (H.reads s.hash_store)
+    (H.reads c.plan_checked-planned.new.checked.hash_store))) c.new-checked.ensures c.plan_checked-planned.ensures.reads in
+    subst (λ h. OnOk result (ReadsPaths v d 0 (H.reads c.args.hash_store) (H.reads h))) (sym c.into_parts-tree.ensures.store) old
+
+pub returns-clause-most_reads : goal.returns-clause-most_reads
+returns-clause-most_reads g c =
+    let H = g.H.BlockStore in
+    let v = c.args.superblock.now in
+    let d = c.args.pending.now in
+    let old = subst (λ (s : Checking g.row.H.Denot). ReadsPaths v d (height s.table) (H.reads s.hash_store)
+    (H.reads c.plan_checked-planned.new.checked.hash_store)) c.new-checked.ensures c.plan_checked-planned.ensures.most_reads in
+    subst (λ h. ReadsPaths v d (height c.args.tree) (H.reads c.args.hash_store) (H.reads h)) (sym c.into_parts-tree.ensures.store) old

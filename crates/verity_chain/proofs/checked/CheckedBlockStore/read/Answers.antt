@@ -29,7 +29,8 @@ invariant_of-self-in-Ok g c =
       asked = c.step.new.self.steps;
     })) (sym e.same)
     (checking_answered g.H.BlockStore was c.look_up.new.store c.look_up.new.notes.items c.self.invariant e.keeps e.checked e.given
-    e.kept c.note.new.self.blocks c.step.new.self.steps c.args.n c.look_up.new.out c.note.ensures e.gave e.unfailed)
+    e.kept (not_some i.refusal (sym c.is_some.ensures ∙ c.if-is_some.false)) e.apart c.note.new.self.blocks c.step.new.self.steps
+    c.args.n c.look_up.new.out c.note.ensures e.gave e.unfailed e.within e.read)
 
 pub invariant_of-self-in-Err : goal.invariant_of-self-in-Err
 invariant_of-self-in-Err g c =
@@ -58,9 +59,8 @@ invariant_of-self-in-Err g c =
           Some c.in-Err.why;
     })) (sym e.same)
     (checking_refused g.H.BlockStore was c.look_up.new.store c.look_up.new.notes.items c.self.invariant e.keeps e.checked e.given
-    e.kept c.step.new.self.steps c.step-in-Err.new.self.steps c.in-Err.why
-    (not_some i.refusal (sym c.is_some.ensures ∙ c.if-is_some.false)) c.step-in-Err.ensures e.err
-    e.refused_unfailed)
+    e.kept (not_some i.refusal (sym c.is_some.ensures ∙ c.if-is_some.false)) e.apart c.step.new.self.steps
+    c.step-in-Err.new.self.steps c.in-Err.why c.step-in-Err.ensures e.err e.refused_unfailed e.few)
 
 pub invariant_of-self : goal.invariant_of-self
 invariant_of-self g c =

@@ -1,15 +1,15 @@
-use Rattle.std.proofs.Common.{◌≡◌, ℕ, ◌+◌, true, false, length, sym, ap, subst}
+use Rattle.std.proofs.Common.{◌≡◌, ℕ, ◌+◌, ◌≤◌, true, false, length, sym, ap, subst}
 use Rattle.verity_superblock.specs.Superblock.{Volume}
-use Rattle.verity_chain.specs.Table.{Table}
+use Rattle.verity_chain.specs.Table.{Table, height}
 use Rattle.verity_edit.specs.declared.command.Committed.{Committed}
 use Rattle.verity_edit.specs.declared.fault.EditFault.{EditFault}
 use Rattle.verity_edit.specs.declared.under.PlanUnder.{PlanUnder}
 use Rattle.verity_edit.specs.Draft.{Draft}
-use Rattle.verity_edit.specs.Planning.{IsPlan, IsRight}
+use Rattle.verity_edit.specs.Planning.{IsPlan, IsRight, ReadsPaths}
 use Rattle.verity_edit.specs.Committing.{IsCarriedOut}
 use Rattle.verity_edit.specs.Editing.{Stays}
 use Rattle.verity_edit.specs.Under.{ExplainsUncommitted, IsRightUnder, LeavesWhole}
-use Rattle.verity_edit.specs.Line.{LineEditing, CommitsUnder, IsRefusalUnder, editing_of}
+use Rattle.verity_edit.specs.Line.{LineEditing, CommitsUnder, IsRefusalUnder, editing_of, paths_in}
 use Rattle.verity_edit.proofs.Frames.{stays_of}
 use Rattle.verity_edit.proofs.UnderLemmas.{from_ok}
 use Rattle.verity_edit.proofs.LineCommits.{commits_under, refused_under, at_ok, at_err}
@@ -61,10 +61,11 @@ returns-in-Ok-clause-committed g c =
     let unfailed = at_ok r made ((D.failures new_data ≡ D.failures s.data_store) × (H.failures new_hash ≡ H.failures s.hash_store)) is
     told.unfailed in
     let counts = from_ok r made (λ m. hashed ≡ s.hasher.hashed + m.plan.hashed) is told.counts in
+    let reads = at_ok r made (d.working ≡ d.committed → ReadsPaths v d 0 (H.reads s.hash_store) (H.reads new_hash)) is told.reads in
     let P : LineEditing g.row.D.Denot g.row.H.Denot → Type 0 = λ e. CommitsUnder D H e new committed in
     subst P c.self.view_is
     (commits_under D H old made.plan new_data new_hash hashed c.facts.ensures invariant.line invariant.behind (invariant.fits sound)
-    done planned tells told.data_store.later.tells told.hash_store.tells sound right unfailed.0 unfailed.1 counts made.tree
+    done planned tells told.data_store.later.tells told.hash_store.tells sound right unfailed.0 unfailed.1 counts reads made.tree
     c.settle.new.self next c.settle.ensures)
 
 pub returns-in-Ok-clause-stays : goal.returns-in-Ok-clause-stays
@@ -137,3 +138,23 @@ returns-in-Err-clause-refused g c =
     subst P c.self.view_is
     (subst (λ (f : EditFault). IsRefusalUnder D H old new f) (sym c.fault_of_commit.ensures)
     (refused_under D H old new c.in-Err.why sound why whole))
+
+pub returns-in-Err-clause-refused_reads : goal.returns-in-Err-clause-refused_reads
+returns-in-Err-clause-refused_reads g c = λ whole.
+    let D = g.D.BlockStore in
+    let H = g.H.BlockStore in
+    let s = c.self.inside in
+    let sound : s.broken ≡ false = c.if-self.false in
+    let old : LineEditing g.row.D.Denot g.row.H.Denot = record {
+      data_store = s.data_store;
+      hash_store = s.hash_store;
+      table = s.tree;
+      volume = s.superblock;
+      draft = s.pending;
+      hashed = s.hasher.hashed;
+      broken = s.broken;
+    } in
+    let P : LineEditing g.row.D.Denot g.row.H.Denot → Type 0 = λ e. H.reads c.commit_under-tree.result.1
+    ≤ H.reads e.hash_store + paths_in D e + height e.table in
+    let here : P old = c.commit_under-tree.ensures.most_reads whole (D.content s.data_store) (c.self.invariant.fits sound).committed in
+    subst P c.self.view_is here
