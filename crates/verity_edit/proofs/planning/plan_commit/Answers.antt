@@ -45,7 +45,8 @@ returns-clause-plan g c =
       superblock = next;
       first_block = c.in_ok-first_block.ensures.value ∙ ap (λ w. superblock_block w.params w.data_blocks) next;
       first_size = c.in_ok-first_block.ensures.size ∙ ap (λ w. w.params.hash_block_size) next;
-      zero = c.in_ok-zero.ensures.items_if_clones_equal (λ _ e. e) ∙ ap (λ n. replicate n 0) (c.data_block_size.ensures.value ∙ c.requires.data_size);
+      zero = c.in_ok-zero.ensures.items_if_clones_equal (λ _ e. e)
+          ∙ ap (λ n. replicate n 0) (c.data_block_size.ensures.value ∙ c.requires.data_size);
       planned = subst (λ (n : ℕ). ArePlanned n c.in_ok-tree.tree.made.items) (c.requires.sized ∙ c.requires.hash_size) tree.planned;
       places = subst (λ (s : Shape). AreInTree c.args.first (total_of s) c.in_ok-tree.tree.made.items) new tree.places;
       root_size = tree.root_size ∙ ap (λ s. size_of s.algorithm) c.requires.salted;
