@@ -101,13 +101,12 @@ fn take<H: BlockStore, A: Allocator + Copy + Drop>(
     requires checked { AreChecked tree.old notes.old.items }
     requires given { WereGiven H.BlockStore since.now.steps store.old notes.old.items }
     requires names { Names tree.old (noted tree.old notes.old.items) (suc level) index named.now }
-    requires apart { AreApart notes.old.items }
     requires unnoted { ¬ (Contains (numbers notes.old.items) (hash_place tree.old level index)) }
     ensures found { IfOk result (λ c. IsNoteAt notes.new.items c (hash_place tree.old level index)) }
     ensures checked { AreChecked tree.old notes.new.items }
     ensures given { WereGiven H.BlockStore since.now.steps store.new notes.new.items }
     ensures kept { KeepsNotes notes.old.items notes.new.items }
-    ensures apart { AreApart notes.new.items }
+    ensures apart { AreApart notes.old.items → AreApart notes.new.items }
     ensures within { (set : ℕ → ℕ → Bool) → set level index ≡ true → NotesWithin tree.old set notes.old.items notes.new.items }
     ensures one { H.reads store.new ≤ H.reads store.old + 1 }
     ensures err { IfErr result (ExplainsUnread tree.old (hash_given H.BlockStore tree.old since.now.steps store.new)
@@ -158,12 +157,11 @@ pub fn fetch<H: BlockStore, A: Allocator + Copy + Drop>(
     requires since { since.now.steps ≤ length (H.given store.old) }
     requires checked { AreChecked tree.old notes.old.items }
     requires given { WereGiven H.BlockStore since.now.steps store.old notes.old.items }
-    requires apart { AreApart notes.old.items }
     ensures found { IfOk result (λ c. IsNoteAt notes.new.items c (hash_place tree.old level index)) }
     ensures checked { AreChecked tree.old notes.new.items }
     ensures given { WereGiven H.BlockStore since.now.steps store.new notes.new.items }
     ensures kept { KeepsNotes notes.old.items notes.new.items }
-    ensures apart { AreApart notes.new.items }
+    ensures apart { AreApart notes.old.items → AreApart notes.new.items }
     ensures within { (set : ℕ → ℕ → Bool) → IsUpward tree.old set → set level index ≡ true
         → NotesWithin tree.old set notes.old.items notes.new.items }
     ensures few { H.reads store.new + level ≤ H.reads store.old + height tree.old }

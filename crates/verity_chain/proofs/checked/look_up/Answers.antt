@@ -25,3 +25,9 @@ pub returns-clause-within : goal.returns-clause-within
 returns-clause-within g c = λ set upward asks.
     let at = c.locate-level.ensures in
     c.fetch.ensures.within set upward (asks c.locate-level.result.0 c.locate-level.result.1 at.level at.index at.value)
+
+pub returns-in_err-c-clause-apart : goal.returns-in_err-c-clause-apart
+returns-in_err-c-clause-apart g c = c.fetch.ensures.apart c.requires.apart
+
+pub returns-clause-apart : goal.returns-clause-apart
+returns-clause-apart g c = c.fetch.ensures.apart c.requires.apart

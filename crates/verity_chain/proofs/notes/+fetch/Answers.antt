@@ -125,3 +125,6 @@ pub returns-clause-read : goal.returns-clause-read
 returns-clause-read g t c =
     let r = c.in_ok-c.ensures in
     ok_weaker c.take-2.result _ _ (λ one. let before = r.read in omega arith) c.take-2.ensures.read
+
+pub returns-clause-apart : goal.returns-clause-apart
+returns-clause-apart g t c = λ apart. c.take-2.ensures.apart (c.fetch.ensures.apart apart)

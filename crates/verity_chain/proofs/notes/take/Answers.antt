@@ -171,11 +171,11 @@ returns-in_default-push-clause-given g c =
     }) c.requires.given)
 
 pub returns-clause-apart : goal.returns-clause-apart
-returns-clause-apart g c =
+returns-clause-apart g c = λ apart.
     let x : Note = record { number = c.hash_place-number.result; block = c.read.new.out } in
     let added : c.push.new.self.items ≡ c.args.notes.now.items ++ x ∷ [] = search rules in
     apart_push c.args.notes.now.items c.push.new.self.items x (hash_place c.args.tree.now c.args.level c.args.index) added
-    c.hash_place-number.ensures.value c.requires.apart c.requires.unnoted
+    c.hash_place-number.ensures.value apart c.requires.unnoted
 
 pub returns-clause-within : goal.returns-clause-within
 returns-clause-within g c = λ set among.
