@@ -22,6 +22,7 @@ use Rattle.verity_edit.specs.declared.fault.EditFault.TheVariants.{Line, Untrust
 use Rattle.verity_edit.specs.Edits.{unedited}
 use Rattle.verity_edit.specs.Draft.{Draft, edits_of}
 use Rattle.verity_edit.specs.Touched.{bound}
+use Rattle.verity_edit.specs.Leaves.{hashes}
 use Rattle.verity_edit.specs.Editing.{Editing, Commits, FitsStores, IsUnchanged, Stands, Stays, edits_in, fresh, width_in}
 use Rattle.verity_edit.specs.Opening.{IsVolume, RefusesStores}
 use Rattle.verity_edit.specs.Running.{IsEdit, IsFailed, IsMade, IsRuled, IsStarved}
@@ -151,6 +152,7 @@ pub record CommitsUnder {D H : Type 0} (data_facts : store.Ghosts D) (hash_facts
   pub volume : new.volume ≡ record old.volume { data_blocks = old.draft.working }
   pub counted : new.hashed ≡ old.hashed + committed.hashed
   pub bounded : committed.hashed ≤ bound (width_in (editing_of old)) (edits_in data_facts (editing_of old))
+  pub once : committed.hashed ≡ hashes (width_in (editing_of old)) old.draft (edits_in data_facts (editing_of old))
   -- No failure of a store, of a sync neither, is passed over.
   pub data_unfailed : data_facts.failures new.data_store ≡ data_facts.failures old.data_store
   pub hash_unfailed : hash_facts.failures new.hash_store ≡ hash_facts.failures old.hash_store
