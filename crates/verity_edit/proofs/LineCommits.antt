@@ -25,6 +25,8 @@ use Rattle.verity_edit.specs.declared.under.PlanRefused.TheVariants.{Untrusted, 
 use Rattle.verity_edit.specs.Under.{ExplainsUncommitted, IsRightUnder, LeavesWhole, fault_under}
 use Rattle.verity_edit.specs.Line.{LineEditing, CommitsUnder, HoldsImage, IsLineOf, IsRefusalUnder, editing_of}
 use Rattle.verity_edit.proofs.Drafts.{at_working, length-working}
+use Rattle.verity_edit.specs.Touched.{changed_blocks}
+use Rattle.verity_edit.proofs.LeafLemmas.{leaf_hashes_most}
 use Rattle.verity_edit.proofs.DeviceLemmas.{device_begins, device_bytes}
 
 -- what is true where something is answered
@@ -155,8 +157,10 @@ module _ {D H A : Type 0} (data_facts : store.Ghosts D) (hash_facts : store.Ghos
       draft = refl;
       volume = refl;
       counted = counts;
-      bounded = (let most = planned.hashed image fits.committed in omega arith);
+      bounded = (let most = planned.hashed image fits.committed in
+          let few = leaf_hashes_most old.draft.written (changed_blocks (edits_of image old.draft)) in omega arith);
       reads = λ stays. (let most = reads stays image fits.committed in omega arith);
+      once = planned.hashed image fits.committed;
       data_unfailed = data_unfailed;
       hash_unfailed = hash_unfailed;
       data_synced = done.data_synced;
@@ -176,7 +180,9 @@ module _ {D H A : Type 0} (data_facts : store.Ghosts D) (hash_facts : store.Ghos
         draft = refl;
         count = refl;
         counted = counts;
-        bounded = (let most = planned.hashed image fits.committed in omega arith);
+        bounded = (let most = planned.hashed image fits.committed in
+            let few = leaf_hashes_most old.draft.written (changed_blocks (edits_of image old.draft)) in omega arith);
+        once = planned.hashed image fits.committed;
         data_unfailed = data_unfailed;
         hash_unfailed = hash_unfailed;
         data_synced = done.data_synced;

@@ -21,6 +21,7 @@ use Rattle.verity_edit.specs.declared.fault.EditFault.TheVariants.{Line, Untrust
 use Rattle.verity_edit.specs.Edits.{unedited}
 use Rattle.verity_edit.specs.Draft.{Draft, edits_of}
 use Rattle.verity_edit.specs.Touched.{bound, old_touched_count}
+use Rattle.verity_edit.specs.Leaves.{hashes}
 use Rattle.verity_edit.specs.Editing.{Editing, Commits, FitsStores, IsUnchanged, Stands, Stays, edits_in, fresh, width_in}
 use Rattle.verity_edit.specs.Opening.{IsVolume, RefusesStores}
 use Rattle.verity_edit.specs.Running.{IsEdit, IsFailed, IsMade, IsRuled, IsStarved}
@@ -154,6 +155,7 @@ pub record CommitsUnder {D H : Type 0} (data_facts : store.Ghosts D) (hash_facts
   pub volume : new.volume ≡ record old.volume { data_blocks = old.draft.working }
   pub counted : new.hashed ≡ old.hashed + committed.hashed
   pub bounded : committed.hashed ≤ bound (width_in (editing_of old)) (edits_in data_facts (editing_of old))
+  pub once : committed.hashed ≡ hashes (width_in (editing_of old)) old.draft (edits_in data_facts (editing_of old))
   pub reads : old.draft.working ≡ old.draft.committed
       → hash_facts.reads new.hash_store ≤ hash_facts.reads old.hash_store + paths_in data_facts old
   -- No failure of a store, of a sync neither, is passed over.

@@ -10,7 +10,8 @@ ghost use Rattle.verity_store.specs.Stores.{IsOnlyRead};
 ghost use Rattle.verity_edit.specs.Faults.{PlansOrFails};
 ghost use Rattle.verity_edit.specs.Seen.{GivesAt, Shows};
 ghost use Rattle.verity_edit.specs.Draft.{edits_of};
-ghost use Rattle.verity_edit.specs.Touched.{bound, touched_count};
+ghost use Rattle.verity_edit.specs.Leaves.{hashes};
+ghost use Rattle.verity_edit.specs.Touched.{touched_count};
 ghost use Rattle.verity_edit.specs.Plan.{ArePlanned};
 ghost use Rattle.verity_edit.specs.Making.{IsChange, IsTouchedPlace, touched_blocks};
 ghost use Rattle.verity_edit.specs.Carried.{AreInTree};
@@ -119,8 +120,8 @@ struct NewTree<A: Allocator> {
     hashed: u64,
 }
 
-/// Makes the tree of the working image again: hashes each changed block that is still there and each touched hash block
-/// once, and reads the old block of each touched place that has one.
+/// Makes the tree of the working image again: hashes each written block that is still there and each touched hash block
+/// once, and one block of zeros where others were added, and reads the old block of each touched place that has one.
 fn plan_tree<H: BlockStore, A: Allocator + Copy>(
     alloc: A,
     hash_store: &mut H,
@@ -147,7 +148,7 @@ fn plan_tree<H: BlockStore, A: Allocator + Copy>(
     ensures places { IfOk result (λ plan. AreInTree change.now.first (total_of change.now.new) plan.made.items) }
     ensures root_size { IfOk result (λ plan. length plan.root ≡ size_of hasher.old.salted.algorithm) }
     ensures hashed { IfOk result (λ plan. (image : List (List ℕ)) → length image ≡ pending.now.committed
-        → plan.hashed ≡ bound (digests_per_block change.now.new) (edits_of image pending.now)) }
+        → plan.hashed ≡ hashes (digests_per_block change.now.new) pending.now (edits_of image pending.now)) }
     ensures counted { IfOk result (λ plan. hasher.new.hashed ≡ hasher.old.hashed + plan.hashed) }
     ensures salted { hasher.new.salted ≡ hasher.old.salted }
     ensures fails { PlansOrFails result (H.failures hash_store.old) (H.failures hash_store.new) }
@@ -159,14 +160,14 @@ fn plan_tree<H: BlockStore, A: Allocator + Copy>(
 {
     pending.facts();
     let algorithm = hasher.algorithm();
-    let Ok(mut leaves) = pending.leaves(hasher, zero) else {
+    let Ok(changed) = pending.leaves(hasher, zero) else {
         return Err(EditFault::NoMemory);
     };
-    let changed = leaves.len() as u64;
+    let (mut leaves, leaf_hashes) = changed;
     add_fallen(pending, hash_store, change, algorithm, block, &mut leaves)?;
     let mut made = Vec::new(alloc);
     let root = make_tree(alloc, hash_store, hasher, change, leaves, block, &mut made)?;
-    let hashed = changed + made.len() as u64;
+    let hashed = leaf_hashes + made.len() as u64;
     Ok(NewTree { made, root, hashed })
 }
 

@@ -5,7 +5,8 @@ use Rattle.verity_geometry.specs.Geometry.{Shape, digests_per_block, levels_of, 
 use Rattle.verity_superblock.specs.Superblock.{Volume}
 use Rattle.verity_superblock.specs.Image.{superblock_block}
 use Rattle.verity_edit.specs.Draft.{Draft, edits_of}
-use Rattle.verity_edit.specs.Touched.{touched_count, bound}
+use Rattle.verity_edit.specs.Touched.{touched_count}
+use Rattle.verity_edit.specs.Leaves.{hashes}
 use Rattle.verity_edit.specs.Plan.{ArePlanned}
 use Rattle.verity_edit.specs.Seen.{GivesAt}
 use Rattle.verity_edit.specs.Making.{IsTouchedPlace, touched_blocks}
@@ -50,7 +51,7 @@ returns-clause-plan g c =
       planned = subst (λ (n : ℕ). ArePlanned n c.in_ok-tree.tree.made.items) (c.requires.sized ∙ c.requires.hash_size) tree.planned;
       places = subst (λ (s : Shape). AreInTree c.args.first (total_of s) c.in_ok-tree.tree.made.items) new tree.places;
       root_size = tree.root_size ∙ ap (λ s. size_of s.algorithm) c.requires.salted;
-      hashed = λ image len. tree.hashed image len ∙ ap (λ s. bound (digests_per_block s) (edits_of image d)) new;
+      hashed = λ image len. tree.hashed image len ∙ ap (λ s. hashes (digests_per_block s) d (edits_of image d)) new;
     }
 
 pub returns-clause-right : goal.returns-clause-right

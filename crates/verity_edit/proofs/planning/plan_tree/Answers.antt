@@ -56,6 +56,12 @@ returns-clause-reads g c = λ image len same.
     let after = c.in_ok-root.ensures.reads (edits_of image d) ed in
     omega arith
 
+pub overflow_add-hashed : goal.overflow_add-hashed
+overflow_add-hashed g c =
+    let most = c.in-Ok.ensures.most in
+    let small = c.in-Ok.changed.0.small in
+    omega arith
+
 pub returns-clause-planned : goal.returns-clause-planned
 returns-clause-planned g c = subst (λ (n : ℕ). ArePlanned n c.make_tree.new.plan.items) c.add_fallen.auto.block c.in_ok-root.ensures.planned
 
@@ -79,9 +85,7 @@ returns-clause-hashed g c = λ image len.
     c.requires.change.new_shape c.requires.committed c.requires.working c.in_ok-add_fallen.ensures.edited len in
     let made = length-plan (digests_per_block change.new) e change.first change.new.blocks c.make_tree.new.plan.items ed.working
     (c.in_ok-root.ensures.places e ed) in
-    let changed : length c.in-Ok.leaves.items ≡ length (changed_blocks e) =
-    sym (length-map c.in-Ok.leaves.items (λ child. child.number)) ∙ ap length (c.in-Ok.ensures.numbers image) in
-    let a = c.len-changed.ensures in
+    let leaves = c.in-Ok.ensures.count image in
     let b = c.len.ensures in
     omega arith
 
@@ -98,7 +102,6 @@ returns-clause-counted g c =
     (c.in_ok-root.ensures.places e ed) in
     let first = c.in-Ok.ensures.hashed in
     let then = c.in_ok-root.ensures.hashed e ed in
-    let a = c.len-changed.ensures in
     let b = c.len.ensures in
     omega arith
 
