@@ -1,5 +1,5 @@
 -- A verifier that was made over two stores, and what clients of its hub are told.
-use Rattle.std.proofs.Common.{◌≡◌, ◌*◌, ◌≤◌, ◌++◌, ◌⊎◌, inl, inr, ℕ, List, [], length, refl, sym, ap, ◌∙◌, subst}
+use Rattle.std.proofs.Common.{◌≡◌, ◌*◌, ◌++◌, ℕ, List, [], refl, sym, ap, ◌∙◌, subst}
 use Rattle.std.specs.Prelude.{Result, Ok, Err, IsErrOf, ◌↔◌}
 use Rattle.nbd_session.specs.declared.offer.Offer.{Offer}
 use Rattle.nbd_hub.specs.declared.events.Event.{Event}
@@ -15,7 +15,7 @@ use Rattle.verity_check.specs.declared.fault.CheckFault.TheVariants as check
 use Rattle.verity_hub.specs.Volume.{facts_of, IsRightFor}
 use Rattle.verity_promise.specs.declared.answers.AnswerFault.{AnswerFault}
 use Rattle.verity_promise.specs.declared.answers.AnswerFault.TheVariants.{Check, Memory}
-use Rattle.verity_promise.specs.Answers.{IsMadeOver, AreRightAnswers, ExplainsUnanswered, offer_of}
+use Rattle.verity_promise.specs.Answers.{IsMadeOver, AreRightAnswers, offer_of}
 
 nothing : {X : Type 0} (xs : List X) → xs ≡ xs
 nothing xs = refl

@@ -30,7 +30,7 @@ use Rattle.verity_promise.specs.Closing.{IsLine}
 use Rattle.verity_promise.specs.Scratch.{IsFromScratch, IsEdited}
 
 -- what is said of a value follows
-if_some : {X : Type 0} (o : Option X) (P Q : X → Type 0) → ((x : X) → P x → Q x) → IfSome o P → IfSome o Q
+pub if_some : {X : Type 0} (o : Option X) (P Q : X → Type 0) → ((x : X) → P x → Q x) → IfSome o P → IfSome o Q
 if_some (Some x) P Q f h = f x h
 if_some None P Q f h = tt
 

@@ -1,3 +1,5 @@
 pub mod Answered
 pub mod Closed
 pub mod Served
+pub mod UnderLemmas
+pub mod WayLemmas

@@ -23,7 +23,7 @@ use Rattle.verity_promise.specs.Delivery.{Delivers, ExplainsUnmade, ExplainsUnse
 use Rattle.verity_promise.proofs.Answered.{same_offer}
 
 -- what is said of a value follows
-if_ok : {X E : Type 0} (r : Result X E) (P Q : X → Type 0) → ((x : X) → P x → Q x) → IfOk r P → IfOk r Q
+pub if_ok : {X E : Type 0} (r : Result X E) (P Q : X → Type 0) → ((x : X) → P x → Q x) → IfOk r P → IfOk r Q
 if_ok (Ok x) P Q f h = f x h
 if_ok (Err e) P Q f h = tt
 
@@ -31,7 +31,7 @@ pub done_ok : {E : Type 0} (r : Result (Unit {0}) E) → is_err r ≡ false → 
 done_ok (Ok x) e = refl
 done_ok (Err x) e = absurd (true≢false e)
 
-if_err : {X E : Type 0} (r : Result X E) (P Q : E → Type 0) → ((e : E) → P e → Q e) → IfErr r P → IfErr r Q
+pub if_err : {X E : Type 0} (r : Result X E) (P Q : E → Type 0) → ((e : E) → P e → Q e) → IfErr r P → IfErr r Q
 if_err (Ok x) P Q f h = tt
 if_err (Err e) P Q f h = f e h
 

@@ -60,8 +60,8 @@ pub fn edit_and_serve<D: BlockStore + Drop, H: BlockStore + Drop, R: Read, W: Wr
     }
 }
 
-// Serves one client over the stores of an edited volume.
-fn serve_edited<D: BlockStore + Drop, H: BlockStore + Drop, R: Read, W: Write>(
+/// Serves one client over the stores of an edited volume.
+pub fn serve_edited<D: BlockStore + Drop, H: BlockStore + Drop, R: Read, W: Write>(
     alloc: Global,
     edited: Edited<D, H>,
     name: ExportName,

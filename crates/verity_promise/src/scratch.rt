@@ -64,11 +64,11 @@ fn close<D: BlockStore, H: BlockStore, A: Allocator + Copy>(
     editor.facts();
     let root = editor.root();
     let broken = editor.broken();
-    let salt = Salt::new(alloc, editor.superblock().salt().bytes());
+    let salt = editor.superblock().salt().copy(alloc);
     let (data_store, hash_store) = editor.close();
     let table = match salt {
         Ok(salt) => line_of(alloc, &data_store, &hash_store, broken, start, root, salt),
-        Err(_fault) => None,
+        Err(_) => None,
     };
     Edited {
         data_store,

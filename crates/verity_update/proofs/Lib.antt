@@ -1,3 +1,4 @@
 mod NameLemmas
 mod WalkLemmas
 mod DraftLemmas
+mod LineLaw

@@ -1,7 +1,7 @@
 -- Blocks of NEW, one after the other.
-use Rattle.std.proofs.Common.{ℕ, ◌+◌, ◌<◌, ◌≤◌, ◌≡◌, ◌⊎◌, ◌++◌, List, [], ◌∷◌, length, map, get_or, set}
+use Rattle.std.proofs.Common.{Bool, false, ℕ, ◌+◌, ◌<◌, ◌≤◌, ◌≡◌, ◌⊎◌, ◌++◌, List, [], ◌∷◌, length, map, get_or, set}
 use Rattle.std.proofs.Common.{refl, sym, ap, ◌∙◌, subst, inl, inr, ⊎_elim, arith}
-use Rattle.std.proofs.lemmas.Bool.{cases_eq}
+use Rattle.std.proofs.lemmas.Bool.{cases_eq, cases_lt}
 use Rattle.std.proofs.lemmas.List.{length-set, get_or-set_other, get_or-set_same, ext_get_or, get_or_append_left, get_or_push}
 use Rattle.std.proofs.lemmas.List.{length-append, length-map, get_or-map}
 use Rattle.verity_digest.specs.Tree.{Hashing}
@@ -18,7 +18,7 @@ use Rattle.verity_chain.proofs.NoteLaws.{noted_sized}
 use Rattle.verity_chain.proofs.NoteLemmas.{noted_given}
 use Rattle.verity_chain.proofs.TableLaws.{row_len-first}
 use Rattle.verity_update.specs.Update.{IsUpdateOf, GaveAll, Updates}
-use Rattle.verity_update.specs.Walk.{Keeps, IsTaken, Takes, IsTakenTo, TakesTo}
+use Rattle.verity_update.specs.Walk.{Keeps, IsTaken, NamesOther, Spares, Takes, IsTakenTo, TakesTo}
 use Rattle.verity_update.proofs.NameLemmas.{names_own}
 
 -- a clash among more blocks
@@ -53,6 +53,22 @@ taken_same hash t mark h notes image old n x ok fits checked given below names o
     (λ clash. inr (clash_grows t image (noted t notes) (hash_given hash t mark h) (noted_given hash t mark h notes given) clash))
     (names_own t image ok fits (noted t notes) (noted_sized t notes (λ note has. (checked note has).2.sized)) 0 n
     ((hashing_of t).digest x) (omega (arith, row_len-first t)) names)
+
+-- a block of which another digest is named isn't the image's own
+pub spared_other : {H : Type 0} (hash : store.Ghosts H) (t : Table) (mark : ℕ) (h : H) (notes : List Note) (n : ℕ) (x : List ℕ)
+    (old new : ℕ → Bool) → IsTable t → AreChecked t notes → WereGiven hash mark h notes
+    → (n < t.data_blocks → NamesOther t (noted t notes) n ((hashing_of t).digest x)) → Spares t (hash_given hash t mark h) n x old new
+spared_other hash t mark h notes n x old new ok checked given others image fits =
+    ⊎_elim
+    (λ below.
+    let o = others below in
+    ⊎_elim
+    (λ is. inl (λ low same. absurd (o.other (is ∙ same))))
+    (λ clash. inr (clash_grows t image (noted t notes) (hash_given hash t mark h) (noted_given hash t mark h notes given) clash))
+    (names_own t image ok fits (noted t notes) (noted_sized t notes (λ note has. (checked note has).2.sized)) 0 n
+    o.named (omega (arith, row_len-first t, below)) o.names))
+    (λ behind. inl (λ low same. absurd (omega (arith, low, behind))))
+    (cases_lt n t.data_blocks)
 
 -- and a block that is written has its own
 pub taken_written : (h : Hashing) (old new : List (List ℕ)) (n : ℕ) (x : List ℕ) → n < length old → new ≡ set old n x
@@ -93,31 +109,53 @@ gave_next news mark s' s'' seen n x len read before here i below =
     (cases_eq i n)
 
 pub takes_none : {N : Type 0} (news : store.Ghosts N) (t : Table) (given : Given) (s : N) (old : List (List ℕ) → List (List ℕ))
-    → TakesTo news t given s s 0 old old
-takes_none news t given s old = record {
+    (changed : ℕ → Bool) → TakesTo news t given s s 0 old old changed changed
+takes_none news t given s old changed = record {
   seen = [];
   all = refl;
   gave = λ i below. absurd (omega arith);
   taken = λ image fits. inl (record { count = refl; here = λ i below. absurd (omega arith); others = λ i high. refl });
+  spared = λ image fits. inl (λ i below low same. refl);
+  rest = λ i high. refl;
 }
 
 pub takes_next : {N : Type 0} (news : store.Ghosts N) (t : Table) (given more : Given) (s s' s'' : N) (n count : ℕ) (x : List ℕ)
-    (old mid new : List (List ℕ) → List (List ℕ)) → Grows given more → IsOnlyRead news s' s'' → Gave news (length (news.given s)) s'' n x
+    (old mid new : List (List ℕ) → List (List ℕ)) (old_changed mid_changed new_changed : ℕ → Bool) → Grows given more
+    → IsOnlyRead news s' s'' → Gave news (length (news.given s)) s'' n x
     → Keeps t old → ((image : List (List ℕ)) → length (old image) ≡ count) → n < count → Takes t more n x mid new
-    → TakesTo news t given s s' n old mid → TakesTo news t more s s'' (n + 1) old new
-takes_next news t given more s s' s'' n count x old mid new grows read here keeps wide below takes p = record {
-  seen = p.seen ++ x ∷ [];
-  all = length-append p.seen (x ∷ []) ∙ ap (λ m. m + 1) p.all;
-  gave = gave_next news (length (news.given s)) s' s'' p.seen n x p.all read p.gave here;
-  taken = λ image fits. ⊎_elim
-      (λ before. ⊎_elim
-      (λ one. inl (taken_next (hashing_of t) p.seen (old image) (mid image) (new image) n x p.all before one))
-      inr
-      (takes image fits (omega (arith, before.count, wide image))
-      (λ low. before.others n (omega (arith, p.all)) ∙ keeps image fits n low (omega (arith, wide image)))))
-      (λ clash. inr (clash_grows t image given more grows clash))
-      (p.taken image fits);
-}
+    → Spares t more n x mid_changed new_changed → ((i : ℕ) → (i ≡ n → ⊥) → new_changed i ≡ mid_changed i)
+    → TakesTo news t given s s' n old mid old_changed mid_changed → TakesTo news t more s s'' (n + 1) old new old_changed new_changed
+takes_next news t given more s s' s'' n count x old mid new old_changed mid_changed new_changed grows read here keeps wide below takes
+    spares others p = record {
+      seen = p.seen ++ x ∷ [];
+      all = length-append p.seen (x ∷ []) ∙ ap (λ m. m + 1) p.all;
+      gave = gave_next news (length (news.given s)) s' s'' p.seen n x p.all read p.gave here;
+      taken = λ image fits. ⊎_elim
+          (λ before. ⊎_elim
+          (λ one. inl (taken_next (hashing_of t) p.seen (old image) (mid image) (new image) n x p.all before one))
+          inr
+          (takes image fits (omega (arith, before.count, wide image))
+          (λ low. before.others n (omega (arith, p.all)) ∙ keeps image fits n low (omega (arith, wide image)))))
+          (λ clash. inr (clash_grows t image given more grows clash))
+          (p.taken image fits);
+      spared = λ image fits. ⊎_elim
+          (λ before. ⊎_elim
+          (λ one. inl (λ i low inside same. ⊎_elim
+          (λ is. subst (λ j. new_changed j ≡ old_changed j) (sym is)
+          (one (subst (λ j. j < t.data_blocks) is inside)
+          (subst (λ j. (hashing_of t).digest (get_or image j []) ≡ (hashing_of t).digest x) is
+          (same ∙ ap (hashing_of t).digest (ap (λ j. get_or (p.seen ++ x ∷ []) j []) is ∙ get_or_push p.seen x [] n p.all)))
+          ∙ p.rest n (omega arith)))
+          (λ ne. let less : i < length p.seen = omega (arith, p.all, low, ne) in
+          others i ne ∙ before i (omega (arith, less, p.all)) inside
+          (same ∙ ap (hashing_of t).digest (get_or_append_left p.seen (x ∷ []) [] i less)))
+          (cases_eq i n)))
+          inr
+          (spares image fits))
+          (λ clash. inr (clash_grows t image given more grows clash))
+          (p.spared image fits);
+      rest = λ i high. others i (λ e. absurd (omega (arith, e, high))) ∙ p.rest i (omega (arith, high));
+    }
 
 -- all blocks
 same_leaves : (h : Hashing) (seen image : List (List ℕ)) → length image ≡ length seen
@@ -128,15 +166,20 @@ same_leaves h seen image len same =
     get_or-map h.digest image i [] [] low ∙ same i (omega (arith, len)) ∙ sym (get_or-map h.digest seen i [] [] (omega (arith, len))))
 
 pub updates_all : {H N : Type 0} (hash : store.Ghosts H) (news : store.Ghosts N) (t : Table) (h h' : H) (s s' : N) (count : ℕ)
-    (old new : List (List ℕ) → List (List ℕ)) → count ≡ length (news.content s)
-    → ((image : List (List ℕ)) → length (old image) ≡ count)
-    → TakesTo news t (hash_given hash t (length (hash.given h)) h') s s' count old new → Updates hash news t h h' s s' new
-updates_all hash news t h h' s s' count old new all wide p = record {
+    (old new : List (List ℕ) → List (List ℕ)) (old_changed new_changed : ℕ → Bool) → count ≡ length (news.content s)
+    → ((image : List (List ℕ)) → length (old image) ≡ count) → ((i : ℕ) → i < t.data_blocks → i < count → old_changed i ≡ false)
+    → TakesTo news t (hash_given hash t (length (hash.given h)) h') s s' count old new old_changed new_changed
+    → Updates hash news t h h' s s' new new_changed
+updates_all hash news t h h' s s' count old new old_changed new_changed all wide none p = record {
   new = p.seen;
   whole = p.all ∙ all;
   gave = p.gave;
   updated = λ image fits. ⊎_elim
       (λ to. inl (same_leaves (hashing_of t) p.seen (new image) (to.count ∙ wide image ∙ sym p.all) to.here)) inr (p.taken image fits);
+  spared = λ image fits. ⊎_elim
+      (λ spared. inl (λ i inside low same. let within : i < count = omega (arith, low, p.all) in
+      let own : i < t.data_blocks = omega (arith, inside, fits.blocks) in spared i within own same ∙ none i own within))
+      inr (p.spared image fits);
 }
 
 -- what is only read, and read once more

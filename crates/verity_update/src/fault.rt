@@ -1,5 +1,6 @@
 //! Why an update is refused.
 
+use std::alloc::AllocError;
 use thiserror::Error;
 use verity_edit::EditFault;
 
@@ -22,5 +23,17 @@ impl From<EditFault> for UpdateFault {
 
     fn from(fault: EditFault) -> UpdateFault {
         UpdateFault::Edit(fault)
+    }
+}
+
+impl From<AllocError> for UpdateFault {
+    ghost use Rattle.std.specs.Prelude.{◌≡◌};
+    ghost use Rattle.verity_update.specs.declared.fault.UpdateFault.TheVariants.{Edit};
+    ghost use Rattle.verity_edit.specs.declared.fault.EditFault.TheVariants as fault;
+
+    ghost from_gives = { λ _ f. f ≡ Edit fault.NoMemory };
+
+    fn from(_refused: AllocError) -> UpdateFault {
+        UpdateFault::Edit(EditFault::NoMemory)
     }
 }

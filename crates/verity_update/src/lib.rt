@@ -8,7 +8,8 @@
 //! # The contract
 //!
 //! Over any stores, for each image that fits the table line: the working image then has, block for block, the digests of the
-//! blocks that NEW gave, or the hash store gave a clash (`Updates`). So the root of its tree is the root of NEW's ([`laws`]).
+//! blocks that NEW gave, and no block is written or added that had its digest already, or the hash store gave a clash (`Updates`). So
+//! the root of its tree is the root of NEW's, and the line that is committed is NEW's ([`laws`]).
 //!
 //! # Errors
 //!

@@ -1,10 +1,11 @@
 //! The digests that a volume's tree names for its data blocks, by checked paths.
-ghost use Rattle.std.specs.Prelude.{◌≡◌, ◌<◌, ◌≤◌, ◌⊎◌, [], IsTrue, length, OnOk, IfOk, IfErr};
+ghost use Rattle.std.specs.Prelude.{false, ◌≡◌, ◌<◌, ◌≤◌, ◌⊎◌, [], IsTrue, length, OnOk, IfOk, IfErr};
 ghost use Rattle.verity_store.specs.Stores.{IsOnlyRead};
 ghost use Rattle.verity_chain.specs.Table.{IsTable, hashing_of};
 ghost use Rattle.verity_chain.specs.Chain.{Names};
 ghost use Rattle.verity_chain.specs.Stores.{hash_given, IsHashStoreOf};
 ghost use Rattle.verity_chain.specs.Notes.{noted, AreChecked, WereGiven, ExplainsUnread};
+ghost use Rattle.verity_update.specs.Walk.{NamesOther};
 
 use std::alloc::Allocator;
 use verity_chain::{Noted, ReadRefused, Tree, fetch};
@@ -81,6 +82,8 @@ pub fn is_named<H: BlockStore, A: Allocator + Copy + Drop>(
     requires given { WereGiven H.BlockStore since.now.steps store.old notes.old.items }
     ensures names { IfOk result (λ same. IsTrue same
         → (n < tree.old.data_blocks) × Names tree.old (noted tree.old notes.new.items) 0 n ((hashing_of tree.old).digest bytes.now)) }
+    ensures other { IfOk result (λ same. same ≡ false → n < tree.old.data_blocks
+        → NamesOther tree.old (noted tree.old notes.new.items) n ((hashing_of tree.old).digest bytes.now)) }
     ensures checked { AreChecked tree.old notes.new.items }
     ensures given { WereGiven H.BlockStore since.now.steps store.new notes.new.items }
     ensures err { IfErr result (ExplainsUnread tree.old (hash_given H.BlockStore tree.old since.now.steps store.new)

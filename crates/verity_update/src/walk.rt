@@ -1,10 +1,10 @@
 //! The walk of an update, along the blocks of NEW.
-ghost use Rattle.std.specs.Prelude.{◌≡◌, ℕ, ◌+◌, ◌<◌, ◌≤◌, ◌++◌, ◌∷◌, List, [], true, length, replicate, slice_index_or, OnOk, IfOk};
+ghost use Rattle.std.specs.Prelude.{◌≡◌, ◌≢◌, false, ℕ, ◌+◌, ◌<◌, ◌≤◌, ◌++◌, ◌∷◌, List, [], true, length, replicate, slice_index_or, OnOk, IfOk};
 ghost use Rattle.verity_store.specs.Stores.{IsOnlyRead};
 ghost use Rattle.verity_chain.specs.Stores.{hash_given, IsHashStoreOf};
 ghost use Rattle.verity_chain.specs.Notes.{AreChecked, WereGiven};
 ghost use Rattle.verity_update.specs.Update.{Updates};
-ghost use Rattle.verity_update.specs.Walk.{Keeps, Takes, TakesTo};
+ghost use Rattle.verity_update.specs.Walk.{Keeps, Spares, Takes, TakesTo};
 
 use crate::UpdateFault;
 use crate::edited::Edited;
@@ -49,6 +49,9 @@ fn take_block<E: Edited, H: BlockStore, N: BlockStore, A: Allocator + Copy + Dro
     ensures right { OnOk result (N.tells new_store.old ≡ true → slice_index_or (N.content new_store.old) n [] ≡ bytes.new) }
     ensures takes { OnOk result (Takes tree.old (hash_given H.BlockStore tree.old since.now.steps hash_store.new) n bytes.new
         (E.working edited.old) (E.working edited.new)) }
+    ensures spares { OnOk result (Spares tree.old (hash_given H.BlockStore tree.old since.now.steps hash_store.new) n bytes.new
+        (E.changed edited.old) (E.changed edited.new)) }
+    ensures others { OnOk result ((i : ℕ) → i ≢ n → E.changed edited.new i ≡ E.changed edited.old i) }
     ensures checked { AreChecked tree.old notes.new.items }
     ensures given { WereGiven H.BlockStore since.now.steps hash_store.new notes.new.items }
     ensures unfailed { OnOk result (H.failures hash_store.new ≡ H.failures hash_store.old) }
@@ -97,7 +100,8 @@ fn take_blocks<E: Edited, H: BlockStore, N: BlockStore, A: Allocator + Copy + Dr
     requires wide { (image : List (List ℕ)) → length (E.working edited.old image) ≡ count }
     requires kept { Keeps tree.old (E.working edited.old) }
     ensures taken { OnOk result (TakesTo N.BlockStore tree.old (hash_given H.BlockStore tree.old since.now.steps hash_store.new)
-        new_store.old new_store.new count (E.working edited.old) (E.working edited.new)) }
+        new_store.old new_store.new count (E.working edited.old) (E.working edited.new) (E.changed edited.old)
+        (E.changed edited.new)) }
     ensures most { IfOk result (λ changed. changed ≤ count) }
     ensures unfailed { OnOk result (H.failures hash_store.new ≡ H.failures hash_store.old) }
     ensures new_unfailed { OnOk result (N.failures new_store.new ≡ N.failures new_store.old) }
@@ -124,6 +128,7 @@ fn resize<E: Edited>(edited: &mut E, count: u64) -> Result<(), EditFault>
     ensures wide { OnOk result ((image : List (List ℕ)) → length (E.working edited.new image) ≡ count) }
     ensures kept { OnOk result ((image : List (List ℕ)) (i : ℕ) → i < length (E.working edited.old image) → i < count
         → slice_index_or (E.working edited.new image) i [] ≡ slice_index_or (E.working edited.old image) i []) }
+    ensures spared { OnOk result ((i : ℕ) → i < E.count edited.old → E.changed edited.old i ≡ false → E.changed edited.new i ≡ false) }
     ensures content { E.content edited.new ≡ E.content edited.old }
     ensures data_reads { E.data_reads edited.new ≡ E.data_reads edited.old }
 {
@@ -142,6 +147,7 @@ fn prepare<E: Edited>(edited: &mut E, blocks: u64, count: u64) -> Result<(), Edi
     ensures wide { OnOk result ((image : List (List ℕ)) → length (E.working edited.new image) ≡ count) }
     ensures kept { OnOk result ((image : List (List ℕ)) → length image ≡ blocks → (i : ℕ) → i < blocks → i < count
         → slice_index_or (E.working edited.new image) i [] ≡ slice_index_or image i []) }
+    ensures spared { OnOk result ((i : ℕ) → i < blocks → E.changed edited.new i ≡ false) }
     ensures content { E.content edited.new ≡ E.content edited.old }
     ensures data_reads { E.data_reads edited.new ≡ E.data_reads edited.old }
 {
@@ -181,16 +187,6 @@ fn end_of<S: BlockStore>(_store: &S) -> Mark
     Mark::at()
 }
 
-/// So many zero bytes.
-fn zeros<A: Allocator>(alloc: A, len: usize) -> Result<Vec<u8, A>, EditFault>
-    ensures value { IfOk result (λ bytes. bytes.items ≡ replicate len 0) }
-{
-    match Vec::from_elem(alloc, 0u8, len) {
-        Ok(bytes) => Ok(bytes),
-        Err(_) => Err(EditFault::NoMemory),
-    }
-}
-
 /// Makes the working image that of NEW, by what differs, and answers how many blocks were written. What was pending is dropped.
 ///
 /// The first that applies: E2 where NEW's blocks haven't the bytes of the line's data blocks; E11 where the hash store's haven't those
@@ -210,7 +206,7 @@ pub fn update<E: Edited, H: BlockStore, N: BlockStore, A: Allocator + Copy + Dro
     edited: &mut E,
 ) -> Result<u64, UpdateFault>
     ensures updated { OnOk result (Updates H.BlockStore N.BlockStore tree.old hash_store.old hash_store.new new_store.old new_store.new
-        (E.working edited.new)) }
+        (E.working edited.new) (E.changed edited.new)) }
     ensures most { IfOk result (λ changed. changed ≤ length (N.content new_store.old)) }
     ensures unfailed { OnOk result (H.failures hash_store.new ≡ H.failures hash_store.old) }
     ensures new_unfailed { OnOk result (N.failures new_store.new ≡ N.failures new_store.old) }
@@ -224,8 +220,8 @@ pub fn update<E: Edited, H: BlockStore, N: BlockStore, A: Allocator + Copy + Dro
     check_stores(tree, hash_store, new_store)?;
     let count = new_store.len();
     let blocks = tree.table().data_blocks();
-    let mut bytes = zeros(alloc, new_store.block_size())?;
-    let mut block = zeros(alloc, hash_store.block_size())?;
+    let mut bytes = Vec::from_elem(alloc, 0u8, new_store.block_size())?;
+    let mut block = Vec::from_elem(alloc, 0u8, hash_store.block_size())?;
     prepare(edited, blocks, count)?;
     let mut notes = Vec::new(alloc);
     let since = end_of(hash_store);

@@ -3,7 +3,7 @@ use Rattle.verity_store.proofs.GivenLemmas.{goes_on_len}
 use Rattle.verity_chain.specs.Stores.{Gave, hash_given}
 use Rattle.verity_chain.specs.Notes.{AreChecked}
 use Rattle.verity_chain.proofs.ChainLemmas.{gave_here, hash_given-grows}
-use Rattle.verity_update.specs.Walk.{Takes, TakesTo}
+use Rattle.verity_update.specs.Walk.{Spares, Takes, TakesTo}
 use Rattle.verity_update.proofs.WalkLemmas.{takes_next, read_on, store_on}
 use Rattle.verity_update.proofs.walk.take_blocks.Goals as goal
 
@@ -34,6 +34,10 @@ loop-n-preserved g c =
     (g.E.Edited.working mid.edited) =
     subst (λ tr. Takes tr (hash_given H tr mark mid.hash_store) n mid.bytes (g.E.Edited.working c.loop-n.edited)
     (g.E.Edited.working mid.edited)) inv.same one.takes in
+    let spares : Spares t (hash_given H t mark mid.hash_store) n mid.bytes (g.E.Edited.changed c.loop-n.edited)
+    (g.E.Edited.changed mid.edited) =
+    subst (λ tr. Spares tr (hash_given H tr mark mid.hash_store) n mid.bytes (g.E.Edited.changed c.loop-n.edited)
+    (g.E.Edited.changed mid.edited)) inv.same one.spares in
     record {
       same = same;
       store = store_on H t c.loop-n.hash_store mid.hash_store one.keeps inv.store;
@@ -45,8 +49,9 @@ loop-n-preserved g c =
       given = one.given;
       taken = takes_next N t (hash_given H t mark c.loop-n.hash_store) (hash_given H t mark mid.hash_store) c.args.new_store.now
           c.loop-n.new_store mid.new_store n c.args.count mid.bytes (g.E.Edited.working c.args.edited.now)
-          (g.E.Edited.working c.loop-n.edited) (g.E.Edited.working mid.edited) grows one.keeps_new here c.requires.kept c.requires.wide
-          less takes inv.taken;
+          (g.E.Edited.working c.loop-n.edited) (g.E.Edited.working mid.edited) (g.E.Edited.changed c.args.edited.now)
+          (g.E.Edited.changed c.loop-n.edited) (g.E.Edited.changed mid.edited) grows one.keeps_new here c.requires.kept
+          c.requires.wide less takes spares one.others inv.taken;
       unfailed = one.unfailed ∙ inv.unfailed;
       new_unfailed = one.new_unfailed ∙ inv.new_unfailed;
       reads = omega (arith, one.reads, inv.reads);
@@ -60,5 +65,6 @@ returns-clause-taken g c =
     let H = g.H.BlockStore in
     let end : c.loop-n.n ≡ c.args.count = omega (arith, c.loop-n.auto.n-end, c.loop-n-test.false) in
     subst (λ n. TakesTo g.N.BlockStore c.args.tree.now (hash_given H c.args.tree.now c.args.since.now.steps c.loop-n.hash_store)
-    c.args.new_store.now c.loop-n.new_store n (g.E.Edited.working c.args.edited.now) (g.E.Edited.working c.loop-n.edited)) end
+    c.args.new_store.now c.loop-n.new_store n (g.E.Edited.working c.args.edited.now) (g.E.Edited.working c.loop-n.edited)
+    (g.E.Edited.changed c.args.edited.now) (g.E.Edited.changed c.loop-n.edited)) end
     c.loop-n.invariant.taken

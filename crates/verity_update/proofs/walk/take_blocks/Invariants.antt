@@ -16,7 +16,8 @@ invariant-loop-n g l = let H = g.H.BlockStore in let N = g.N.BlockStore in recor
   checked : AreChecked l.initial.tree l.notes.items;
   given : WereGiven H l.since.steps l.hash_store l.notes.items;
   taken : TakesTo N l.initial.tree (hash_given H l.initial.tree l.since.steps l.hash_store) l.initial.new_store l.new_store l.n
-      (g.E.Edited.working l.initial.edited) (g.E.Edited.working l.edited);
+      (g.E.Edited.working l.initial.edited) (g.E.Edited.working l.edited) (g.E.Edited.changed l.initial.edited)
+      (g.E.Edited.changed l.edited);
   unfailed : H.failures l.hash_store ≡ H.failures l.initial.hash_store;
   new_unfailed : N.failures l.new_store ≡ N.failures l.initial.new_store;
   reads : N.reads l.new_store ≡ N.reads l.initial.new_store + l.n;
