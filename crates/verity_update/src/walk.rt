@@ -1,5 +1,5 @@
 //! The walk of an update, along the blocks of NEW.
-ghost use Rattle.std.specs.Prelude.{◌≡◌, ◌≢◌, false, ℕ, ◌+◌, ◌<◌, ◌≤◌, ◌++◌, ◌∷◌, List, [], true, length, replicate, slice_index_or, OnOk, IfOk};
+ghost use Rattle.std.specs.Prelude.{◌≡◌, ◌≢◌, false, ℕ, ◌+◌, ◌<◌, ◌≤◌, ◌++◌, ◌∷◌, List, [], true, length, slice_index_or, OnOk, IfOk};
 ghost use Rattle.verity_store.specs.Stores.{IsOnlyRead};
 ghost use Rattle.verity_chain.specs.Stores.{hash_given, IsHashStoreOf};
 ghost use Rattle.verity_chain.specs.Notes.{AreChecked, WereGiven};
