@@ -66,7 +66,7 @@ runs-preserved-then-count-eq0 g c =
     let same : child_at ys done ≡ child_at xs done =
     subst (λ m. child_at ys m ≡ child_at xs m) (add-zero done) (left_at make xs ys done 0 kept.within kept.made) in
     let room : 0 < c.min-most.result =
-        (let some = c.requires.some (omega arith) in omega (arith, c.min-most.ensures, c.runs.auto.leaves)) in
+    (let some = c.requires.some (omega arith) in omega (arith, c.min-most.ensures, c.runs.auto.leaves)) in
     let stops : p (child_at ys (done + c.written_run-count.result)) ≡ false = c.written_run-count.ensures.stops (omega arith) in
     let here : done + c.written_run-count.result ≡ done = omega arith in
     let not : p (child_at xs done) ≡ false = ap p (sym same ∙ ap (child_at ys) (sym here)) ∙ stops in

@@ -19,7 +19,7 @@ returns-clause-made g c =
     (λ j below.
     let inside : j < length old = omega (arith, c.put_digests.auto.leaves) in
     let digest = c.digest_many.ensures.digests j (below_take _ (length old) j c.requires.few inside)
-        ∙ ap (salted_digest salted) (c.gather.ensures j inside) in
+    ∙ ap (salted_digest salted) (c.gather.ensures j inside) in
     c.put_digests.ensures j inside
     ∙ (λ i. record { number = (child_at old j).number; digest = digest i })
     ∙ sym (get_or-map f old j nobody nobody inside))
