@@ -1,7 +1,6 @@
-use Rattle.std.proofs.Common.{◌≡◌, ℕ, ◌+◌, ◌-◌, ◌<◌, ◌≤◌, Bool, false, Option, List, [], length, take, drop, map, get_or, Some, None, sym, ap, ◌∙◌, subst, refl, add-zero, arith}
+use Rattle.std.proofs.Common.{◌≡◌, ℕ, ◌+◌, ◌-◌, ◌<◌, ◌≤◌, Bool, false, Option, List, length, take, drop, map, get_or, Some, None, sym, ap, ◌∙◌, subst, refl, add-zero, arith}
 use Rattle.std.specs.Prelude.{IsSome, IfSome}
-use Rattle.std.specs.List.{count_by}
-use Rattle.std.proofs.lemmas.List.{length-take-le, length-drop, take_all, get_or_default}
+use Rattle.std.proofs.lemmas.List.{length-take-le, length-drop, get_or_default}
 use Rattle.std.proofs.lemmas.List.Sums.{count_by_more_no}
 use Rattle.verity_digest.specs.Hash.{Salted, salted_digest}
 use Rattle.verity_edit.specs.declared.plan.Child.{Child}
