@@ -18,7 +18,8 @@ returns-clause-made g c =
     ext_get_or nobody new (map f old) (c.put_digests.auto.leaves ∙ sym (length-map old f))
     (λ j below.
     let inside : j < length old = omega (arith, c.put_digests.auto.leaves) in
-    let digest = c.digest_many.ensures.digests j (below_take _ (length old) j c.requires.few inside) ∙ ap (salted_digest salted) (c.gather.ensures j inside) in
+    let digest = c.digest_many.ensures.digests j (below_take _ (length old) j c.requires.few inside)
+    ∙ ap (salted_digest salted) (c.gather.ensures j inside) in
     c.put_digests.ensures j inside
     ∙ (λ i. record { number = (child_at old j).number; digest = digest i })
     ∙ sym (get_or-map f old j nobody nobody inside))
