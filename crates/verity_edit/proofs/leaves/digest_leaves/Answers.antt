@@ -1,8 +1,7 @@
-use Rattle.std.proofs.Common.{◌≡◌, ℕ, ◌+◌, ◌-◌, ◌<◌, ◌≤◌, Bool, false, Option, List, []}
-use Rattle.std.proofs.Common.{length, take, drop, map, get_or, Some, None, sym, ap, ◌∙◌, subst, refl, add-zero, arith}
+use Rattle.std.proofs.Common.{◌≡◌, ℕ, ◌+◌, ◌-◌, ◌<◌, ◌≤◌, Bool, false, Option, List, length, take, drop, map}
+use Rattle.std.proofs.Common.{get_or, Some, None, sym, ap, ◌∙◌, subst, refl, add-zero, arith}
 use Rattle.std.specs.Prelude.{IsSome, IfSome}
-use Rattle.std.specs.List.{count_by}
-use Rattle.std.proofs.lemmas.List.{length-take-le, length-drop, take_all, get_or_default}
+use Rattle.std.proofs.lemmas.List.{length-take-le, length-drop, get_or_default}
 use Rattle.std.proofs.lemmas.List.Sums.{count_by_more_no}
 use Rattle.verity_digest.specs.Hash.{Salted, salted_digest}
 use Rattle.verity_edit.specs.declared.plan.Child.{Child}
@@ -12,8 +11,8 @@ use Rattle.verity_edit.proofs.LeafLemmas.{run_made, one_made, left_at, unwritten
 use Rattle.verity_edit.proofs.leaves.digest_leaves.Goals as goal
 
 -- a block of zeros is hashed where none was before
-hashes_more : {X : Type 0} (known : Option X) (old new first done hashed : ℕ) → (known ≡ None → new ≡ old + 1)
-    → (IsSome known → new ≡ old) →
+hashes_more : {X : Type 0} (known : Option X) (old new first done hashed : ℕ) → (known ≡ None → new ≡ old + 1) → (IsSome known →
+    new ≡ old) →
     hashed ≤ done → (known ≡ None → done ≤ hashed) → (IsSome known → hashed < done) → old ≡ first + hashes_for done hashed →
     new ≡ first + hashes_for (done + 1) hashed
 hashes_more None old new first done hashed one same few none some is = let a = one refl in let b = none refl in omega arith
@@ -65,8 +64,8 @@ runs-preserved-then-count-eq0 g c =
     let none : c.written_run-count.result ≡ 0 = c.if-count-eq0.true in
     let same : child_at ys done ≡ child_at xs done =
     subst (λ m. child_at ys m ≡ child_at xs m) (add-zero done) (left_at make xs ys done 0 kept.within kept.made) in
-    let room : 0 < c.min-most.result =
-    (let some = c.requires.some (omega arith) in omega (arith, c.min-most.ensures, c.runs.auto.leaves)) in
+    let room : 0 < c.min-most.result = (let some = c.requires.some (omega arith) in omega
+    (arith, c.min-most.ensures, c.runs.auto.leaves)) in
     let stops : p (child_at ys (done + c.written_run-count.result)) ≡ false = c.written_run-count.ensures.stops (omega arith) in
     let here : done + c.written_run-count.result ≡ done = omega arith in
     let not : p (child_at xs done) ≡ false = ap p (sym same ∙ ap (child_at ys) (sym here)) ∙ stops in

@@ -1,7 +1,7 @@
-use Rattle.std.proofs.Common.{◌≡◌, ℕ, ◌+◌, ◌<◌, true, false, sym, ap, ◌∙◌, arith, below_more}
+use Rattle.std.proofs.Common.{ℕ, ◌+◌, sym, ap, ◌∙◌, arith, below_more}
 use Rattle.std.proofs.lemmas.List.{get_or_default}
 use Rattle.verity_edit.specs.Leaves.{is_written}
-use Rattle.verity_edit.specs.Slots.{nobody, child_at}
+use Rattle.verity_edit.specs.Slots.{nobody}
 use Rattle.verity_edit.proofs.leaves.written_run.Goals as goal
 
 pub returns-then-not-contains_key-clause-stops : goal.returns-then-not-contains_key-clause-stops

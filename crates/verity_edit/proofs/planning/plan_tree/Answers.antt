@@ -1,5 +1,4 @@
 use Rattle.std.proofs.Common.{◌≡◌, ℕ, ◌≤◌, List, [], length, get_or, arith, subst, sym, ap, ◌∙◌}
-use Rattle.std.proofs.lemmas.List.{length-map}
 use Rattle.verity_digest.specs.Hash.{hashing}
 use Rattle.verity_digest.specs.Tree.{Hashing, IsHashing, root}
 use Rattle.verity_digest.proofs.Sha.{IsHashing-hashing}
@@ -11,7 +10,6 @@ use Rattle.verity_edit.specs.declared.plan.Child.{Child}
 use Rattle.verity_edit.specs.declared.tree.Change.{Change}
 use Rattle.verity_edit.specs.Edits.{Edits}
 use Rattle.verity_edit.specs.Draft.{Draft, IsDraft, edits_of}
-use Rattle.verity_edit.specs.Touched.{changed_blocks}
 use Rattle.verity_edit.specs.Slots.{AreNamed}
 use Rattle.verity_edit.specs.Plan.{ArePlanned}
 use Rattle.verity_edit.specs.Making.{IsChange, IsEdited, IsTouchedPlace, StandsFor, touched_blocks}
