@@ -10,7 +10,6 @@ use crate::edited::Edited;
 use nbd_session::ExportName;
 use std::alloc::{AllocError, Allocator, Global};
 use std::io::{Read, Write};
-use verity_digest::Salt;
 use verity_edit::{Command, LineEditor, OpenRefused, Reply};
 use verity_hub::ServeFault;
 use verity_store::BlockStore;
@@ -131,7 +130,7 @@ fn copy_of<A: Allocator + Copy>(alloc: A, table: &Table<A>) -> Option<Table<A>>
     ensures { IfSome result (λ line. line ≡ table.now) }
 {
     table.facts();
-    let Ok(salt) = Salt::new(alloc, table.salt().bytes()) else {
+    let Ok(salt) = table.salt().copy(alloc) else {
         return None;
     };
     match Table::new(
