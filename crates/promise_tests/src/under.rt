@@ -78,8 +78,8 @@ fn edits_under_a_line_are_from_scratch(rt: HostRuntime) -> Result<(), Fail> {
 fn a_changed_data_block_is_refused_under_the_new_line(rt: HostRuntime) -> Result<(), Fail> {
     let alloc = rt.alloc();
     let (_, hash) = volume(alloc, sixteen(alloc)?)?;
-    let mut bytes = sixteen(alloc)?;
-    bytes[0] = 0;
+    let mut bytes = Vec::from_elem(alloc, 0x5b, 512)?;
+    bytes.extend_from_slice(&[0x5a; 7_680])?;
     let data = MemStore::new(bytes, 512)?;
     let mut want = Vec::from_slice(alloc, GREETING)?;
     want.extend_from_slice(SAID_OF_TWO)?;
@@ -102,6 +102,7 @@ fn a_changed_data_block_is_refused_under_the_new_line(rt: HostRuntime) -> Result
         100,
     );
     assert_eq!(rt; matches!(&served, Ok(Ok(()))), true);
+    assert_eq!(rt; replies.len(), 3);
     let rooted = match &replies[2] {
         Reply::Committed(committed) => committed.root == Digest::from_bytes(ROOT),
         Reply::Done | Reply::Refused(_) => false,
@@ -117,7 +118,9 @@ fn a_changed_hash_block_is_not_trusted(rt: HostRuntime) -> Result<(), Fail> {
     let alloc = rt.alloc();
     let (data, hash) = volume(alloc, sixteen(alloc)?)?;
     let mut changed = Vec::from_slice(alloc, hash.bytes())?;
-    changed[1024] ^= 1;
+    if let Some(byte) = changed.get_mut(1024) {
+        *byte = 0;
+    }
     let hash = MemStore::new(Vec::from_slice(alloc, &changed)?, 512)?;
     let mut commands = Vec::new(alloc);
     let block = Block::new(Vec::from_elem(alloc, 0x11, 512)?);
