@@ -14,7 +14,7 @@ const STEP: u64 = 1 << 16;
 const CLEARED: &str = "\r                                                                \r";
 
 /// How much of so many bytes was read by now, on standard error: `dalgovuun: 45 %, 512 MB/s, 0:03 left`, over and over in one
-/// line, from the first second on and at most five times a second. It takes memory for a line; what can't be printed is passed
+/// line, from the first second on and at most five times a second, until all of it was. It takes memory for a line; what can't be printed is passed
 /// over.
 #[derive(Drop)]
 pub struct Progress<'a, R: Clock + Eprint> {
@@ -41,10 +41,11 @@ impl<'a, R: Clock + Eprint + AllocGlobal> Progress<'a, R> {
         }
     }
 
-    /// Clears the line, if one was printed, and prints no more.
+    /// Clears the line, if one is there, and prints no more.
     pub fn end(&self) {
         self.is_over.set(true);
         if self.last.get() > 0 {
+            self.last.set(0);
             let _ = self.rt.eprint(CLEARED);
         }
     }
@@ -92,7 +93,12 @@ impl<'a, R: Clock + Eprint + AllocGlobal> Meter for Progress<'a, R> {
     fn note(&self, bytes: u64) {
         let done = self.done.get().saturating_add(bytes);
         self.done.set(done);
-        if !self.is_over.get() && done.saturating_sub(self.looked.get()) >= STEP {
+        if self.is_over.get() {
+            return;
+        }
+        if done >= self.total {
+            self.end();
+        } else if done.saturating_sub(self.looked.get()) >= STEP {
             self.looked.set(done);
             self.show(done);
         }
