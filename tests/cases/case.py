@@ -15,7 +15,7 @@ class Case:
     as it was; None is for a file that must not be there, and no file may come that `leaves` doesn't name. `sink` is a
     path that the output goes to instead. `before` are functions that are called with the folder once its files are
     there. FOLDER in a word is the folder's path. `errors` are the lines on standard error; where they aren't written out,
-    nothing stands there at status 0, and else each refusal that was printed is told there in words.
+    nothing stands there at status 0, and else each refusal that was printed, and each fault of a session, is told there in words.
     """
 
     def __init__(self, name, words, output, status=0, files=None, leaves=None, input=b"", sink=None, before=(), errors=None):
@@ -50,6 +50,9 @@ class Case:
         for fault in refused:
             if not any(f"({fault})" in line for line in lines):
                 yield f"didn't tell {fault} on standard error: {lines!r}"
+        for number, fault in re.findall(r"^session (\d+) ([A-Z].*)$", output.decode(errors="replace"), re.M):
+            if not any(line.startswith(f"dalgovuun: session {number}: ") and f"({fault})" in line for line in lines):
+                yield f"didn't tell the fault {fault} of session {number} on standard error: {lines!r}"
 
     def run(self, tool, folder):
         """The status, and what went to standard output and to standard error."""

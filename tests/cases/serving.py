@@ -30,7 +30,8 @@ class Served(Case):
     def differences(self, tool, folder):
         port = free_port()
         words = ["dalgovuun", *self.words, "--listen", f"127.0.0.1:{port}", "--sessions", str(self.sessions)]
-        with subprocess.Popen(words, executable=tool, cwd=folder, stdout=subprocess.PIPE, preexec_fn=self.setup) as server:
+        with subprocess.Popen(words, executable=tool, cwd=folder, stdout=subprocess.PIPE, stderr=subprocess.PIPE,
+                              preexec_fn=self.setup) as server:
             watch = threading.Timer(60, server.kill)
             watch.start()
             try:
@@ -40,6 +41,7 @@ class Served(Case):
                     if seen != heard:
                         yield f"connection {number} heard {seen!r}, not {heard!r}"
                 output = first + server.stdout.read()
+                errors = server.stderr.read().decode()
                 server.wait(timeout=30)
             finally:
                 watch.cancel()
@@ -48,6 +50,7 @@ class Served(Case):
             yield f"the status is {server.returncode}, not {self.status}"
         if not self.prints(output):
             yield f"printed {output!r}, not {self.output!r}"
+        yield from self.wrong_errors(output, errors)
 
 
 class Crowded(Case):
@@ -114,7 +117,7 @@ def before():
     yield Cramped()
     yield Case("serve: no address", SERVE, ["error: ", "--listen <listen>"], 2, FILES)
     yield Case("serve: an output that can't be written", [*SERVE, "--listen", "127.0.0.1:0"], "", 1, FILES,
-               sink="/dev/full")
+               sink="/dev/full", errors=["dalgovuun: standard output can't be written"])
 
 
 def cases():

@@ -5,9 +5,11 @@ use crate::edits::Edits;
 use crate::lines::Devices;
 use crate::over::{Words, Work, do_over, offset_of};
 use crate::script::{Script, read_script, run_script};
+use crate::watching::is_watched;
 use std::fs::File;
-use std::io::Write;
+use std::io::{Eprint, IsTerminal, Write};
 use std::rt::Files;
+use std::time::Clock;
 use verity_files::{Command, Failure, Opened, check_paths, fault_of};
 use verity_update::Edited;
 use verity_words::EditWords;
@@ -16,8 +18,9 @@ use verity_words::EditWords;
 ///
 /// The words are read first, then both files opened and told apart, what stands in the journal is made whole, the superblock
 /// read, the volume opened, and the script read. Commits go through a journal, but where none is asked for, and where HASH is a
-/// device and none is named, which `errors` is told.
-pub fn edit<R: Files<File = File> + AllocGlobal, W: Write, E: Write>(
+/// device and none is named, which `errors` is told. Where `errors` is a terminal, the opening without a
+/// journal shows how much of DATA was read.
+pub fn edit<R: Files<File = File> + Clock + Eprint + AllocGlobal, W: Write, E: Write + IsTerminal>(
     rt: &R,
     words: &EditWords<'_>,
     output: &mut W,
@@ -31,6 +34,7 @@ pub fn edit<R: Files<File = File> + AllocGlobal, W: Write, E: Write>(
         offset: offset_of(words.table, words.hash_offset)?,
         table: words.table,
         journal: words.journal,
+        is_watched: is_watched(words.is_quiet, errors),
     };
     let mut lines = Lines {
         path: words.script_path,
@@ -59,7 +63,7 @@ impl<'a> Work for Lines<'a> {
     }
 
     fn run<
-        R: Files<File = File> + AllocGlobal,
+        R: Files<File = File> + Clock + Eprint + AllocGlobal,
         V: Edits + Edited,
         C: Commits<V>,
         W: Write,

@@ -2,10 +2,12 @@
 
 use crate::journal::check_gate;
 use crate::lines::{Volume, table_line};
+use crate::watching::{end_progress, is_watched, progress_of};
 use std::alloc::Global;
 use std::fs::File;
-use std::io::Write;
+use std::io::{Eprint, IsTerminal, Write};
 use std::rt::Files;
+use std::time::Clock;
 use uuid::Uuid;
 use verity_build::{Params, build_at};
 use verity_digest::{Algorithm, Digest};
@@ -17,6 +19,7 @@ use verity_files::{
 };
 use verity_store::{BlockStore, StoreFault, Which};
 use verity_superblock::tree_start;
+use verity_watch::Watched;
 use verity_words::FormatWords;
 
 /// The numbers and names among the words.
@@ -42,16 +45,23 @@ struct Made {
 ///
 /// The words are read first, then the salt is made, DATA opened and locked, HASH opened or created, told apart from DATA and
 /// locked, and the device built. What stands in HASH stays until the first block is written. A HASH that was created is
-/// removed where none was.
-pub fn format<R: Files<File = File> + AllocGlobal, W: Write>(
+/// removed where none was. Where `errors` is a terminal, it shows how much of DATA was read.
+pub fn format<R: Files<File = File> + Clock + Eprint + AllocGlobal, W: Write, E: IsTerminal>(
     rt: &R,
     words: &FormatWords<'_>,
     output: &mut W,
+    errors: &E,
 ) -> Result<(), Failure> {
     check_paths(words.data_path, words.hash_path)?;
     let shape = read_shape(words)?;
     let bytes = salt_bytes(rt.alloc(), words.salt)?;
-    let made = make(rt, words, &shape, &bytes)?;
+    let made = make(
+        rt,
+        words,
+        &shape,
+        &bytes,
+        is_watched(words.is_quiet, errors),
+    )?;
     let line = made_line(rt.alloc(), words, &shape, &made, &bytes)?;
     writeln!(output, "{line}")?;
     Ok(())
@@ -88,24 +98,29 @@ fn read_shape(words: &FormatWords<'_>) -> Result<Shape, Failure> {
     })
 }
 
-fn make<R: Files<File = File> + AllocGlobal>(
+fn make<R: Files<File = File> + Clock + Eprint + AllocGlobal>(
     rt: &R,
     words: &FormatWords<'_>,
     shape: &Shape,
     salt_bytes: &[u8],
+    is_watched: bool,
 ) -> Result<Made, Failure> {
     let params = Params::new(salt(rt.alloc(), salt_bytes)?, shape.uuid, shape.algorithm);
-    let (mut data_store, data) = open_data(rt, words.data_path, shape)?;
+    let (data_store, data) = open_data(rt, words.data_path, shape)?;
     check_gate(rt, words.hash_path)?;
     let (mut hash_store, is_new) = open_hash(rt, words.hash_path, shape, data)?;
     let hash_size = hash_store.block_size();
-    match build_at(
+    let progress = progress_of(rt, is_watched, &data_store);
+    let mut data_store = Watched::new(data_store, progress.as_ref());
+    let built = build_at(
         rt.alloc(),
         &mut data_store,
         &mut hash_store,
         &params,
         shape.hash_offset,
-    ) {
+    );
+    end_progress(progress.as_ref());
+    match built {
         Ok(root) => Ok(Made {
             data_blocks: data_store.len(),
             hash_start_block: tree_start(shape.hash_offset, hash_size)?,

@@ -19,8 +19,10 @@ mod scratch;
 mod script;
 mod serve;
 mod talk;
+mod told;
 mod update;
 mod verify;
+mod watching;
 
 pub use program::run;
 pub use serve::serve_on;

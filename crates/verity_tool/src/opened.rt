@@ -10,27 +10,22 @@ use verity_hub::Hub;
 use verity_store::Which;
 use verity_superblock::Table;
 
-/// A verifier over two files.
-pub type FileVerifier = Verifier<VolumeStore, VolumeStore>;
-
 /// A hub over two files.
 pub type FileHub = Hub<VolumeStore, VolumeStore>;
 
-/// Opens the two files that a table line names for a command, the data device first, and makes their verifier. S6 where a
-/// commit is under way in the journal beside the hash device.
-pub fn open_verifier<R: Files<File = File> + AllocGlobal>(
+/// Opens the two files that a table line names for a command, the data device first. S6 where a commit is under way in the
+/// journal beside the hash device.
+pub fn open_stores<R: Files<File = File> + AllocGlobal>(
     rt: &R,
-    table: Table,
-    cache: usize,
+    table: &Table,
     command: Command,
-) -> Result<FileVerifier, Failure> {
+) -> Result<(VolumeStore, VolumeStore), Failure> {
     let data = open_locked(rt, table.dev(), command, Which::Data)?;
     check_gate(rt, table.hash_dev())?;
     let data_store = store_of_most(data, table.data_block_size(), table.data_blocks())?;
     let hash = open_locked(rt, table.hash_dev(), command, Which::Hash)?;
     let hash_store = store_of_most(hash, table.hash_block_size(), u64::MAX)?;
-    let verifier = Verifier::new(rt.alloc(), table, data_store, hash_store, cache)?;
-    Ok(verifier)
+    Ok((data_store, hash_store))
 }
 
 /// A hub of no session over the volume that a table line names, under an export's name. The line is read first, then the
@@ -44,6 +39,7 @@ pub fn open_hub<R: Files<File = File> + AllocGlobal>(
 ) -> Result<FileHub, Failure> {
     let table = Table::parse(rt.alloc(), line)?;
     let name = ExportName::new(name.as_bytes())?;
-    let verifier = open_verifier(rt, table, cache, command)?;
+    let (data_store, hash_store) = open_stores(rt, &table, command)?;
+    let verifier = Verifier::new(rt.alloc(), table, data_store, hash_store, cache)?;
     Ok(Hub::new(rt.alloc(), verifier, name))
 }

@@ -2,22 +2,25 @@
 
 use crate::commits::{Commits, Direct, Journalled};
 use crate::dump::read_superblock;
-use crate::edits::Edits;
-use crate::journal::{check_other_gate, journal_path, recover_files, volume_names};
+use crate::edits::{Edits, StagedFile};
+use crate::journal::{FileKeeper, check_other_gate, journal_path, recover_files, volume_names};
 use crate::lines::Devices;
+use crate::watching::{end_progress, progress_of};
 use std::alloc::Global;
 use std::fs::File;
-use std::io::Write;
+use std::io::{Eprint, Write};
 use std::rt::Files;
+use std::time::Clock;
 use verity_edit::{EditFault, Editor, LineEditor};
 use verity_files::{
     Command, Failure, Fault, Opened, VolumeStore, Word, check_apart, number, open_there, room_of,
     store_of_most, take_lock,
 };
 use verity_stage::Staged;
-use verity_store::{StoreFault, Which};
+use verity_store::{BlockStore, StoreFault, Which};
 use verity_superblock::{SuperFault, Table};
 use verity_update::Edited;
+use verity_watch::Watched;
 use verity_words::{explain_no_journal, explain_recovered};
 
 /// The words that say which volume, and how it is committed to.
@@ -29,6 +32,8 @@ pub struct Words<'a> {
     pub offset: u64,
     pub table: Option<&'a str>,
     pub journal: Option<&'a str>,
+    /// Whether someone looks on.
+    pub is_watched: bool,
 }
 
 /// What is done over a volume.
@@ -46,7 +51,7 @@ pub trait Work {
 
     /// Does it. `hash` is HASH, to be read once more.
     fn run<
-        R: Files<File = File> + AllocGlobal,
+        R: Files<File = File> + Clock + Eprint + AllocGlobal,
         V: Edits + Edited,
         C: Commits<V>,
         W: Write,
@@ -64,7 +69,7 @@ pub trait Work {
 }
 
 /// Opens both files and tells them apart, makes whole what stands in the journal, opens the volume, and does the work.
-pub fn do_over<R: Files<File = File> + AllocGlobal, T: Work, W: Write, E: Write>(
+pub fn do_over<R: Files<File = File> + Clock + Eprint + AllocGlobal, T: Work, W: Write, E: Write>(
     rt: &R,
     words: &Words<'_>,
     work: &mut T,
@@ -77,10 +82,7 @@ pub fn do_over<R: Files<File = File> + AllocGlobal, T: Work, W: Write, E: Write>
     };
     let (data, hash) = open_both(rt, words.data_path, words.hash_path, words.command)?;
     work.begin(rt, data.as_ref().ok(), &hash)?;
-    if let Some(named) = words.journal {
-        check_other_gate(rt, words.hash_path, named)?;
-    }
-    match journal_path(rt, words.journal, hash.identity, words.hash_path)? {
+    match journal_of(rt, words, &hash)? {
         Some(path) => do_through(rt, words, line, work, &path, data, hash, output, errors),
         None => {
             if words.journal.is_none() {
@@ -91,8 +93,20 @@ pub fn do_over<R: Files<File = File> + AllocGlobal, T: Work, W: Write, E: Write>
     }
 }
 
+/// The path of the journal, if there is to be one. S6 where one is named, and a commit is under way in another.
+fn journal_of<R: Files<File = File> + AllocGlobal>(
+    rt: &R,
+    words: &Words<'_>,
+    hash: &Opened,
+) -> Result<Option<String>, Failure> {
+    if let Some(named) = words.journal {
+        check_other_gate(rt, words.hash_path, named)?;
+    }
+    journal_path(rt, words.journal, hash.identity, words.hash_path)
+}
+
 /// Works on the files themselves.
-fn do_in_place<R: Files<File = File> + AllocGlobal, T: Work, W: Write, E: Write>(
+fn do_in_place<R: Files<File = File> + Clock + Eprint + AllocGlobal, T: Work, W: Write, E: Write>(
     rt: &R,
     words: &Words<'_>,
     line: Option<Table>,
@@ -102,25 +116,36 @@ fn do_in_place<R: Files<File = File> + AllocGlobal, T: Work, W: Write, E: Write>
     output: &mut W,
     errors: &mut E,
 ) -> Result<u8, Failure> {
-    let again = hash.again()?;
-    let sizes = sizes_of(rt.alloc(), &line, &hash, words.offset)?;
-    let (data_store, hash_store, sizes) = open_stores(data, hash, sizes)?;
-    work.see(sizes.data_block_size)?;
-    let devices = devices_of(words, sizes);
-    if let Some(table) = line {
-        return match LineEditor::open_under(rt.alloc(), data_store, hash_store, table) {
-            Ok(editor) => work.run(rt, editor, &mut Direct, again, devices, output, errors),
-            Err(refused) => Err(refused.fault.into()),
-        };
-    }
-    match Editor::open_at(rt.alloc(), data_store, hash_store, words.offset) {
-        Ok(editor) => work.run(rt, editor, &mut Direct, again, devices, output, errors),
-        Err(refused) => Err(refused.fault.into()),
+    let volume = open_volume(rt.alloc(), words, &line, work, data, hash)?;
+    let rest = rest_of(words, volume.again, volume.sizes);
+    let hash_store = volume.hash_store;
+    match line {
+        Some(table) => {
+            let data_store = volume.data_store;
+            run_under(
+                rt,
+                work,
+                table,
+                data_store,
+                hash_store,
+                &mut Direct,
+                rest,
+                output,
+                errors,
+            )
+        }
+        None => {
+            let progress = progress_of(rt, words.is_watched, &volume.data_store);
+            let data_store = Watched::new(volume.data_store, progress.as_ref());
+            let opened = open_whole(rt.alloc(), data_store, hash_store, words.offset);
+            end_progress(progress.as_ref());
+            run_whole(rt, work, opened, &mut Direct, rest, output, errors)
+        }
     }
 }
 
 /// Works through a journal, which is removed at the end where its gate is closed.
-fn do_through<R: Files<File = File> + AllocGlobal, T: Work, W: Write, E: Write>(
+fn do_through<R: Files<File = File> + Clock + Eprint + AllocGlobal, T: Work, W: Write, E: Write>(
     rt: &R,
     words: &Words<'_>,
     line: Option<Table>,
@@ -135,15 +160,7 @@ fn do_through<R: Files<File = File> + AllocGlobal, T: Work, W: Write, E: Write>(
         return do_in_place(rt, words, line, work, data, hash, output, errors);
     };
     let names = volume_names(rt, &data, words.data_path, &hash, words.hash_path)?;
-    let keeper = match recover_files(rt, path, &data, &hash, &names)? {
-        Some(found) => {
-            if found.is_recovered {
-                explain_recovered(words.hash_path, errors);
-            }
-            Some(found.keeper)
-        }
-        None => None,
-    };
+    let keeper = make_whole(rt, words, path, &data, &hash, &names, errors)?;
     let data = data.seen_again()?;
     let hash = hash.seen_again()?;
     let mut commits = Journalled::new(rt, path, &names, data, hash, keeper);
@@ -152,8 +169,27 @@ fn do_through<R: Files<File = File> + AllocGlobal, T: Work, W: Write, E: Write>(
     done
 }
 
+/// Makes whole what stands in the journal, which `errors` is told, and answers the journal where it is there.
+fn make_whole<R: Files<File = File> + AllocGlobal, E: Write>(
+    rt: &R,
+    words: &Words<'_>,
+    path: &str,
+    data: &Opened,
+    hash: &Opened,
+    names: &str,
+    errors: &mut E,
+) -> Result<Option<FileKeeper>, Failure> {
+    let Some(found) = recover_files(rt, path, data, hash, names)? else {
+        return Ok(None);
+    };
+    if found.is_recovered {
+        explain_recovered(words.hash_path, errors);
+    }
+    Ok(Some(found.keeper))
+}
+
 /// Works on stores that are staged over the files.
-fn do_staged<R: Files<File = File> + AllocGlobal, T: Work, W: Write, E: Write>(
+fn do_staged<R: Files<File = File> + Clock + Eprint + AllocGlobal, T: Work, W: Write, E: Write>(
     rt: &R,
     words: &Words<'_>,
     line: Option<Table>,
@@ -162,25 +198,153 @@ fn do_staged<R: Files<File = File> + AllocGlobal, T: Work, W: Write, E: Write>(
     output: &mut W,
     errors: &mut E,
 ) -> Result<u8, Failure> {
-    let alloc = rt.alloc();
     let (data, hash) = commits.files()?;
-    let again = hash.again()?;
-    let sizes = sizes_of(alloc, &line, &hash, words.offset)?;
-    let (data_store, hash_store, sizes) = open_stores(Ok(data), hash, sizes)?;
-    work.see(sizes.data_block_size)?;
-    let staged_data = Staged::new(alloc, data_store)?;
-    let staged_hash = Staged::new(alloc, hash_store)?;
-    let devices = devices_of(words, sizes);
-    if let Some(table) = line {
-        return match LineEditor::open_under(alloc, staged_data, staged_hash, table) {
-            Ok(editor) => work.run(rt, editor, commits, again, devices, output, errors),
-            Err(refused) => Err(refused.fault.into()),
-        };
+    let volume = open_volume(rt.alloc(), words, &line, work, Ok(data), hash)?;
+    let rest = rest_of(words, volume.again, volume.sizes);
+    let (data, hash) = stage(rt.alloc(), volume.data_store, volume.hash_store)?;
+    match line {
+        Some(table) => run_under(rt, work, table, data, hash, commits, rest, output, errors),
+        None => {
+            let opened = open_whole(rt.alloc(), data, hash, words.offset);
+            run_whole(rt, work, opened, commits, rest, output, errors)
+        }
     }
-    match Editor::open_at(alloc, staged_data, staged_hash, words.offset) {
-        Ok(editor) => work.run(rt, editor, commits, again, devices, output, errors),
+}
+
+/// A volume's stores, with nothing staged over them.
+fn stage(
+    alloc: Global,
+    data_store: VolumeStore,
+    hash_store: VolumeStore,
+) -> Result<(StagedFile, StagedFile), Failure> {
+    let data = Staged::new(alloc, data_store)?;
+    let hash = Staged::new(alloc, hash_store)?;
+    Ok((data, hash))
+}
+
+/// What the work takes beside an editor and its commits.
+#[derive(Drop)]
+struct Rest<'a> {
+    /// HASH, to be read once more.
+    again: Opened,
+    devices: Devices<'a>,
+}
+
+fn rest_of<'a>(words: &Words<'a>, again: Opened, sizes: Sizes) -> Rest<'a> {
+    Rest {
+        again,
+        devices: devices_of(words, sizes),
+    }
+}
+
+/// Does the work under a table line. The opening reads no data block.
+fn run_under<
+    R: Files<File = File> + Clock + Eprint + AllocGlobal,
+    T: Work,
+    D: BlockStore + Drop,
+    H: BlockStore + Drop,
+    C: Commits<LineEditor<D, H>>,
+    W: Write,
+    E: Write,
+>(
+    rt: &R,
+    work: &mut T,
+    table: Table,
+    data_store: D,
+    hash_store: H,
+    commits: &mut C,
+    rest: Rest<'_>,
+    output: &mut W,
+    errors: &mut E,
+) -> Result<u8, Failure> {
+    match LineEditor::open_under(rt.alloc(), data_store, hash_store, table) {
+        Ok(editor) => work.run(
+            rt,
+            editor,
+            commits,
+            rest.again,
+            rest.devices,
+            output,
+            errors,
+        ),
         Err(refused) => Err(refused.fault.into()),
     }
+}
+
+/// Does the work over a volume that was read whole, where it was opened.
+fn run_whole<
+    R: Files<File = File> + Clock + Eprint + AllocGlobal,
+    T: Work,
+    D: BlockStore + Drop,
+    H: BlockStore + Drop,
+    C: Commits<Editor<D, H>>,
+    W: Write,
+    E: Write,
+>(
+    rt: &R,
+    work: &mut T,
+    opened: Result<Editor<D, H>, EditFault>,
+    commits: &mut C,
+    rest: Rest<'_>,
+    output: &mut W,
+    errors: &mut E,
+) -> Result<u8, Failure> {
+    match opened {
+        Ok(editor) => work.run(
+            rt,
+            editor,
+            commits,
+            rest.again,
+            rest.devices,
+            output,
+            errors,
+        ),
+        Err(fault) => Err(fault.into()),
+    }
+}
+
+/// Opens the volume whose superblock stands at an offset, which reads it whole.
+fn open_whole<D: BlockStore + Drop, H: BlockStore + Drop>(
+    alloc: Global,
+    data_store: D,
+    hash_store: H,
+    offset: u64,
+) -> Result<Editor<D, H>, EditFault> {
+    match Editor::open_at(alloc, data_store, hash_store, offset) {
+        Ok(editor) => Ok(editor),
+        Err(refused) => Err(refused.fault),
+    }
+}
+
+/// A volume's files, opened to be edited.
+#[derive(Drop)]
+struct Volume {
+    data_store: VolumeStore,
+    hash_store: VolumeStore,
+    /// HASH, to be read once more.
+    again: Opened,
+    sizes: Sizes,
+}
+
+/// Opens a volume's stores, and lets what is done over it look at it.
+fn open_volume<T: Work>(
+    alloc: Global,
+    words: &Words<'_>,
+    line: &Option<Table>,
+    work: &mut T,
+    data: Result<Opened, StoreFault>,
+    hash: Opened,
+) -> Result<Volume, Failure> {
+    let again = hash.again()?;
+    let sizes = sizes_of(alloc, line, &hash, words.offset)?;
+    let (data_store, hash_store, sizes) = open_stores(data, hash, sizes)?;
+    work.see(sizes.data_block_size)?;
+    Ok(Volume {
+        data_store,
+        hash_store,
+        again,
+        sizes,
+    })
 }
 
 /// Where the volume's devices are, and how far they can grow.

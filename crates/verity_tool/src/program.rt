@@ -12,7 +12,7 @@ use crate::verify::verify;
 use clap::Error;
 use clap::error::ErrorKind;
 use std::fs::File;
-use std::io::{Read, Write};
+use std::io::{Eprint, IsTerminal, Read, Write};
 use std::net::{Net, TcpListener, TcpStream};
 use std::rt::Files;
 use std::time::Clock;
@@ -22,12 +22,17 @@ use verity_words::{Request, explain, explain_corrupt, explain_usage, explain_wor
 /// Does what the words ask for, of which the first is the program's own name, and answers the status that the process
 /// ends with: 0 done; 1 refused, corrupt, or a fault of a file, a socket or the output; 2 words that were not
 /// understood; 3 want of memory. What the program has to say goes to `output`; to `errors` goes why it refused, in words for
-/// a person; where the status is 0 nothing, but for what `edit` and `update` say of a journal.
+/// a person; where the status is 0 nothing, but for what `edit` and `update` say of a journal. Where `errors` is a terminal, `format`,
+/// `verify`, `edit` and `update` show on the system's standard error how far they are, unless they are asked not to.
 pub fn run<
-    R: Files<File = File> + Net<Stream = TcpStream, Listener = TcpListener> + Clock + AllocGlobal,
+    R: Files<File = File>
+        + Net<Stream = TcpStream, Listener = TcpListener>
+        + Clock
+        + Eprint
+        + AllocGlobal,
     I: Read,
     W: Write,
-    E: Write,
+    E: Write + IsTerminal,
 >(rt: &R, words: &[String], input: &mut I, output: &mut W, errors: &mut E) -> u8 {
     match read_words(rt.alloc(), words) {
         Ok(Some(request)) => do_request(rt, request, input, output, errors),
@@ -37,10 +42,14 @@ pub fn run<
 }
 
 fn do_request<
-    R: Files<File = File> + Net<Stream = TcpStream, Listener = TcpListener> + Clock + AllocGlobal,
+    R: Files<File = File>
+        + Net<Stream = TcpStream, Listener = TcpListener>
+        + Clock
+        + Eprint
+        + AllocGlobal,
     I: Read,
     W: Write,
-    E: Write,
+    E: Write + IsTerminal,
 >(rt: &R, request: Request<'_>, input: &mut I, output: &mut W, errors: &mut E) -> u8 {
     match answer(rt, request, input, output, errors) {
         Ok(status) => {
@@ -58,10 +67,14 @@ fn do_request<
 }
 
 fn answer<
-    R: Files<File = File> + Net<Stream = TcpStream, Listener = TcpListener> + Clock + AllocGlobal,
+    R: Files<File = File>
+        + Net<Stream = TcpStream, Listener = TcpListener>
+        + Clock
+        + Eprint
+        + AllocGlobal,
     I: Read,
     W: Write,
-    E: Write,
+    E: Write + IsTerminal,
 >(
     rt: &R,
     request: Request<'_>,
@@ -71,11 +84,11 @@ fn answer<
 ) -> Result<u8, Failure> {
     match request {
         Request::Scratch => scratch(rt.alloc(), input, output, errors),
-        Request::Format(words) => format(rt, &words, output).map(|()| DONE),
+        Request::Format(words) => format(rt, &words, output, errors).map(|()| DONE),
         Request::Dump(words) => dump(rt, &words, output).map(|()| DONE),
         Request::Edit(words) => edit(rt, &words, output, errors),
-        Request::Verify(words) => verify(rt, &words, output),
-        Request::Serve(words) => serve(rt, &words, output),
+        Request::Verify(words) => verify(rt, &words, output, errors),
+        Request::Serve(words) => serve(rt, &words, output, errors),
         Request::Talk(words) => talk(rt, &words, input, output),
         Request::Recover(words) => recover(rt, &words, output).map(|()| DONE),
         Request::Update(words) => update(rt, &words, output, errors),

@@ -1,6 +1,7 @@
 //! The command `serve`: serves a volume over NBD.
 
 use crate::opened::open_hub;
+use crate::told::Told;
 use nbd_serve::{Door, Limits, Stop, Watched};
 use std::fs::File;
 use std::io::{ErrorKind, Write};
@@ -22,27 +23,29 @@ const MEBIBYTE: u64 = 1 << 20;
 /// Serves the volume that a table line names to so many connections.
 ///
 /// Faults are found in this order: the words, the line, the name, the two files (data first), the verifier, the listener.
-/// The file of a Unix socket, which is made here, is removed at the end.
+/// The file of a Unix socket, which is made here, is removed at the end. Each fault of a session is told to `errors` in words.
 pub fn serve<
     R: Files<File = File> + Net<Stream = TcpStream, Listener = TcpListener> + Clock + AllocGlobal,
     W: Write,
->(rt: &R, words: &ServeWords<'_>, output: &mut W) -> Result<u8, Failure> {
+    E: Write,
+>(rt: &R, words: &ServeWords<'_>, output: &mut W, errors: &mut E) -> Result<u8, Failure> {
     let cache = number(Word::Cache, words.cache)? as usize;
     let count = sessions(words.sessions)?;
     let limits = limits(words)?;
     let mut hub = open_hub(rt, words.table, words.name, cache, Command::Serve)?;
+    let mut told = Told::new(output, errors, words.listen);
     match words.listen.strip_prefix(UNIX) {
         // The system would find a name of its own for an empty path.
         Some("") => Err(Fault::Socket.into()),
         Some(path) => {
             let door = UnixListener::bind(rt, path).map_err(socket)?;
-            let status = serve_on(&mut hub, &watched(rt, door, limits), count, output);
+            let status = serve_on(&mut hub, &watched(rt, door, limits), count, &mut told);
             let _ = rt.remove_file(path);
             Ok(status)
         }
         None => {
             let door = TcpListener::bind(rt, words.listen).map_err(socket)?;
-            Ok(serve_on(&mut hub, &watched(rt, door, limits), count, output))
+            Ok(serve_on(&mut hub, &watched(rt, door, limits), count, &mut told))
         }
     }
 }

@@ -5,32 +5,36 @@ use crate::edits::Edits;
 use crate::lines::{Devices, Volume, committed_line, table_of};
 use crate::over::{Words, Work, do_over, offset_of};
 use crate::script::commit;
+use crate::watching::{end_progress, is_watched, progress_of};
 use std::alloc::Global;
 use std::fs::File;
-use std::io::Write;
+use std::io::{Eprint, IsTerminal, Write};
 use std::rt::Files;
+use std::time::Clock;
 use verity_chain::{Tree, geometry_of};
 use verity_edit::EditFault;
 use verity_files::{
     Command, DONE, Failure, Fault, Opened, VolumeStore, Word, check_paths, open_there,
     store_of_most, take_lock, whole_store,
 };
-use verity_store::{StoreFault, Which};
+use verity_store::{BlockStore, StoreFault, Which};
 use verity_update::{Edited, UpdateFault};
+use verity_watch::Watched;
 use verity_words::UpdateWords;
 
 /// Makes the volume in DATA and HASH that of the image NEW, with one commit of what differs, and prints how many blocks that was and
 /// the new table line.
 ///
 /// The words are read first, then all three files opened and told apart, what stands in the journal is made whole, the superblock
-/// and NEW's length looked at, the volume opened, and then each block of NEW read. The journal is that of `edit`.
-pub fn update<R: Files<File = File> + AllocGlobal, W: Write, E: Write>(
-    rt: &R,
-    words: &UpdateWords<'_>,
-    output: &mut W,
-    errors: &mut E,
-) -> Result<u8, Failure> {
+/// and NEW's length looked at, the volume opened, and then each block of NEW read. The journal is that of `edit`. Where `errors` is a
+/// terminal, the opening without a journal shows how much of DATA was read, and then it is shown how much of NEW was.
+pub fn update<
+    R: Files<File = File> + Clock + Eprint + AllocGlobal,
+    W: Write,
+    E: Write + IsTerminal,
+>(rt: &R, words: &UpdateWords<'_>, output: &mut W, errors: &mut E) -> Result<u8, Failure> {
     check_paths(words.data_path, words.hash_path)?;
+    let is_watched = is_watched(words.is_quiet, errors);
     let over = Words {
         command: Command::Update,
         data_path: words.data_path,
@@ -38,10 +42,12 @@ pub fn update<R: Files<File = File> + AllocGlobal, W: Write, E: Write>(
         offset: offset_of(words.table, words.hash_offset)?,
         table: words.table,
         journal: words.journal,
+        is_watched,
     };
     let mut taking = Taking {
         path: words.new_path,
         is_trusted: words.table.is_some(),
+        is_watched,
         opened: None,
         store: None,
     };
@@ -54,6 +60,8 @@ struct Taking<'a> {
     path: &'a str,
     /// Whether the volume is opened under a table line.
     is_trusted: bool,
+    /// Whether someone looks on.
+    is_watched: bool,
     opened: Option<Opened>,
     store: Option<VolumeStore>,
 }
@@ -88,7 +96,7 @@ impl<'a> Work for Taking<'a> {
     }
 
     fn run<
-        R: Files<File = File> + AllocGlobal,
+        R: Files<File = File> + Clock + Eprint + AllocGlobal,
         V: Edits + Edited,
         C: Commits<V>,
         W: Write,
@@ -103,18 +111,15 @@ impl<'a> Work for Taking<'a> {
         output: &mut W,
         _errors: &mut E,
     ) -> Result<u8, Failure> {
-        let Some(new_store) = &mut self.store else {
+        let Some(new_store) = self.store.take() else {
             return Err(StoreFault::Device.into());
         };
-        let alloc = rt.alloc();
         let mut editor = editor;
-        let changed = match take(alloc, &mut editor, new_store, hash, devices)? {
-            Ok(changed) => changed,
-            Err(fault) => return Err(failure_of(fault, self.is_trusted)),
-        };
+        let taken = take_watched(rt, self.is_watched, &mut editor, new_store, hash, devices)?;
+        let changed = taken.map_err(|fault| failure_of(fault, self.is_trusted))?;
         let (editor, done) = commit(editor, commits, devices);
         let committed = done?;
-        let line = committed_line(alloc, devices, editor.superblock(), committed.root)?;
+        let line = committed_line(rt.alloc(), devices, editor.superblock(), committed.root)?;
         writeln!(output, "changed {changed}")?;
         writeln!(output, "committed {line}")?;
         Ok(DONE)
@@ -134,11 +139,28 @@ fn lock_new(opened: &Opened) -> Result<(), Fault> {
     }
 }
 
-/// Writes to an editor that was opened what differs in NEW, and answers how many blocks that was.
-fn take<V: Edits + Edited>(
+/// Writes to an editor that was opened what differs in NEW, and answers how many blocks that was. Where someone looks on, it shows
+/// how much of NEW was read.
+fn take_watched<R: Clock + Eprint + AllocGlobal, V: Edits + Edited>(
+    rt: &R,
+    is_watched: bool,
+    editor: &mut V,
+    new_store: VolumeStore,
+    hash: Opened,
+    devices: Devices<'_>,
+) -> Result<Result<u64, UpdateFault>, Failure> {
+    let progress = progress_of(rt, is_watched, &new_store);
+    let mut watched = Watched::new(new_store, progress.as_ref());
+    let taken = take(rt.alloc(), editor, &mut watched, hash, devices);
+    end_progress(progress.as_ref());
+    taken
+}
+
+/// Writes to an editor that was opened what differs in a store, and answers how many blocks that was.
+fn take<V: Edits + Edited, N: BlockStore>(
     alloc: Global,
     editor: &mut V,
-    new_store: &mut VolumeStore,
+    new_store: &mut N,
     hash: Opened,
     devices: Devices<'_>,
 ) -> Result<Result<u64, UpdateFault>, Failure> {

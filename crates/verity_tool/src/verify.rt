@@ -1,27 +1,36 @@
 //! The command `verify`: reports what is wrong in a volume.
 
-use crate::opened::open_verifier;
+use crate::opened::open_stores;
+use crate::watching::{end_progress, is_watched, progress_of};
 use std::fs::File;
-use std::io::Write;
+use std::io::{Eprint, IsTerminal, Write};
 use std::rt::Files;
-use verity_check::{Place, Report, Verdict};
+use std::time::Clock;
+use verity_check::{Place, Report, Verdict, Verifier};
 use verity_files::{Command, DONE, Failure, REFUSED};
 use verity_superblock::Table;
+use verity_watch::Watched;
 use verity_words::VerifyWords;
 
 /// How many checked hash blocks the verifier may keep. A report keeps none.
 const CACHE: usize = 1024;
 
-/// Reads each block of the volume that a table line names, and prints which are bad or can't be read.
-pub fn verify<R: Files<File = File> + AllocGlobal, W: Write>(
+/// Reads each block of the volume that a table line names, and prints which are bad or can't be read. Where `errors` is a
+/// terminal, it shows how much of the data device was read.
+pub fn verify<R: Files<File = File> + Clock + Eprint + AllocGlobal, W: Write, E: IsTerminal>(
     rt: &R,
     words: &VerifyWords<'_>,
     output: &mut W,
+    errors: &E,
 ) -> Result<u8, Failure> {
     let table = Table::parse(rt.alloc(), words.table)?;
-    let mut verifier = open_verifier(rt, table, CACHE, Command::Verify)?;
-    let report = verifier.report()?;
-    print_report(&report, output)
+    let (data_store, hash_store) = open_stores(rt, &table, Command::Verify)?;
+    let progress = progress_of(rt, is_watched(words.is_quiet, errors), &data_store);
+    let watched = Watched::new(data_store, progress.as_ref());
+    let mut verifier = Verifier::new(rt.alloc(), table, watched, hash_store, CACHE)?;
+    let report = verifier.report();
+    end_progress(progress.as_ref());
+    print_report(&report?, output)
 }
 
 fn print_report<W: Write>(report: &Report, output: &mut W) -> Result<u8, Failure> {

@@ -5,12 +5,14 @@
 mod explaining;
 mod looking;
 mod parts;
+mod serving;
 mod words;
 
 pub use explaining::{
     Refusal, Where, explain, explain_corrupt, explain_line, explain_no_journal, explain_recovered,
     explain_usage, explain_words,
 };
+pub use serving::explain_served;
 pub use words::{
     DumpWords, EditWords, FormatWords, RecoverWords, Request, ServeWords, TalkWords, UpdateWords,
     VerifyWords, read_words,

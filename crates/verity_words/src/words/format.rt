@@ -1,6 +1,6 @@
 //! The words of `format`.
 
-use super::parts::{hash_offset, option, path};
+use super::parts::{hash_offset, option, path, quiet};
 use clap::{ArgMatches, Command};
 use std::alloc::{AllocError, Global};
 
@@ -21,6 +21,7 @@ pub struct FormatWords<'a> {
     pub hash_block_size: &'a str,
     pub algorithm: &'a str,
     pub hash_offset: &'a str,
+    pub is_quiet: bool,
 }
 
 pub fn format_command<'a>(alloc: Global) -> Result<Command<'a>, AllocError> {
@@ -39,7 +40,8 @@ pub fn format_command<'a>(alloc: Global) -> Result<Command<'a>, AllocError> {
         .arg(option(alloc, "data-block-size", "Bytes in a data block").default_value("4096"))?
         .arg(option(alloc, "hash-block-size", "Bytes in a hash block").default_value("4096"))?
         .arg(option(alloc, "algorithm", "sha256 or sha512").default_value("sha256"))?
-        .arg(hash_offset(alloc))
+        .arg(hash_offset(alloc))?
+        .arg(quiet(alloc))
 }
 
 pub fn format_words<'a>(matches: &ArgMatches<'a>) -> Option<FormatWords<'a>> {
@@ -53,5 +55,6 @@ pub fn format_words<'a>(matches: &ArgMatches<'a>) -> Option<FormatWords<'a>> {
         hash_block_size: matches.get_str("hash-block-size")?,
         algorithm: matches.get_str("algorithm")?,
         hash_offset: matches.get_str("hash-offset")?,
+        is_quiet: matches.get_flag("quiet"),
     })
 }

@@ -1,6 +1,6 @@
 //! The arguments and options of which commands are made.
 
-use clap::Arg;
+use clap::{Arg, ArgAction};
 use std::alloc::Global;
 
 /// A required argument.
@@ -63,4 +63,12 @@ pub fn name<'a>(alloc: Global) -> Arg<'a> {
 /// `--cache`, of the commands that serve.
 pub fn cache<'a>(alloc: Global) -> Arg<'a> {
     option(alloc, "cache", "How many checked hash blocks are kept").default_value("1024")
+}
+
+/// `--quiet`, of the commands that read a volume whole.
+pub fn quiet<'a>(alloc: Global) -> Arg<'a> {
+    Arg::new(alloc, "quiet")
+        .long("quiet")
+        .action(ArgAction::SetTrue)
+        .help("Shows no progress")
 }

@@ -1,6 +1,6 @@
 //! The words of `update`.
 
-use super::parts::{journal, own_offset, own_table, path};
+use super::parts::{journal, own_offset, own_table, path, quiet};
 use clap::{ArgMatches, Command};
 use std::alloc::{AllocError, Global};
 
@@ -19,6 +19,7 @@ pub struct UpdateWords<'a> {
     pub hash_offset: Option<&'a str>,
     pub table: Option<&'a str>,
     pub journal: Option<&'a str>,
+    pub is_quiet: bool,
 }
 
 pub fn update_command<'a>(alloc: Global) -> Result<Command<'a>, AllocError> {
@@ -30,7 +31,8 @@ pub fn update_command<'a>(alloc: Global) -> Result<Command<'a>, AllocError> {
         .arg(path(alloc, "NEW", "The image to be held"))?
         .arg(own_offset(alloc))?
         .arg(own_table(alloc))?
-        .arg(journal(alloc))
+        .arg(journal(alloc))?
+        .arg(quiet(alloc))
 }
 
 pub fn update_words<'a>(matches: &ArgMatches<'a>) -> Option<UpdateWords<'a>> {
@@ -41,5 +43,6 @@ pub fn update_words<'a>(matches: &ArgMatches<'a>) -> Option<UpdateWords<'a>> {
         hash_offset: matches.get_str("hash-offset"),
         table: matches.get_str("table"),
         journal: matches.get_str("journal"),
+        is_quiet: matches.get_flag("quiet"),
     })
 }

@@ -1,0 +1,35 @@
+//! A volume's files, as a person watches them being read.
+
+use std::io::{Eprint, IsTerminal};
+use std::time::Clock;
+use verity_files::VolumeStore;
+use verity_store::BlockStore;
+use verity_watch::{Progress, Watched};
+
+/// A store in a file, of which a meter may be told.
+pub type WatchedFile<'a, M> = Watched<'a, VolumeStore, M>;
+
+/// Whether someone looks on: standard error is a terminal, and nothing else was asked for.
+pub fn is_watched<E: IsTerminal>(is_quiet: bool, errors: &E) -> bool {
+    !is_quiet && errors.is_terminal()
+}
+
+/// A meter of the bytes of a store that is read whole, where someone looks on.
+pub fn progress_of<'a, R: Clock + Eprint + AllocGlobal>(
+    rt: &'a R,
+    is_watched: bool,
+    store: &VolumeStore,
+) -> Option<Progress<'a, R>> {
+    if !is_watched {
+        return None;
+    }
+    let bytes = store.len().saturating_mul(store.block_size() as u64);
+    Some(Progress::new(rt, bytes))
+}
+
+/// Clears the line of a meter, which prints no more.
+pub fn end_progress<'a, R: Clock + Eprint + AllocGlobal>(progress: Option<&Progress<'a, R>>) {
+    if let Some(progress) = progress {
+        progress.end();
+    }
+}
