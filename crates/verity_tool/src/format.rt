@@ -1,7 +1,7 @@
 //! The command `format`: makes the hash device of a block image.
 
 use crate::journal::check_gate;
-use crate::lines::{Volume, table_line};
+use crate::lines::{LineParts, table_line};
 use crate::watching::{end_progress, is_watched, progress_of};
 use std::alloc::Global;
 use std::fs::File;
@@ -75,7 +75,7 @@ fn made_line(
     made: &Made,
     salt: &[u8],
 ) -> Result<String, Failure> {
-    let volume = Volume {
+    let volume = LineParts {
         data_path: words.data_path,
         hash_path: words.hash_path,
         data_block_size: shape.data_block_size,

@@ -9,7 +9,7 @@ use verity_superblock::{Superblock, Table, spell_salt};
 
 /// What a table line names but for the root hash.
 #[derive(Clone, Copy)]
-pub struct Volume<'a> {
+pub struct LineParts<'a> {
     pub data_path: &'a str,
     pub hash_path: &'a str,
     pub data_block_size: usize,
@@ -20,12 +20,12 @@ pub struct Volume<'a> {
 }
 
 /// The table line of a volume with this root hash, as it is printed.
-pub fn table_line(alloc: Global, volume: &Volume<'_>, root: Digest) -> Result<String, Failure> {
+pub fn table_line(alloc: Global, volume: &LineParts<'_>, root: Digest) -> Result<String, Failure> {
     Ok(table_of(alloc, volume, root)?.text()?)
 }
 
 /// The table line of a volume with this root hash.
-pub fn table_of(alloc: Global, volume: &Volume<'_>, root: Digest) -> Result<Table, Failure> {
+pub fn table_of(alloc: Global, volume: &LineParts<'_>, root: Digest) -> Result<Table, Failure> {
     Ok(Table::new(
         alloc,
         volume.data_path,
@@ -58,7 +58,7 @@ pub fn committed_line(
     superblock: &Superblock,
     root: Digest,
 ) -> Result<String, Failure> {
-    let volume = Volume {
+    let volume = LineParts {
         data_path: devices.data_path,
         hash_path: devices.hash_path,
         data_block_size: superblock.data_block_size(),

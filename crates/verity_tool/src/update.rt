@@ -2,7 +2,7 @@
 
 use crate::commits::Commits;
 use crate::edits::Edits;
-use crate::lines::{Devices, Volume, committed_line, table_of};
+use crate::lines::{Devices, LineParts, committed_line, table_of};
 use crate::over::{Words, Work, do_over, offset_of};
 use crate::script::commit;
 use crate::watching::{end_progress, is_watched, progress_of};
@@ -166,7 +166,7 @@ fn take<V: Edits + Edited, N: BlockStore>(
 ) -> Result<Result<u64, UpdateFault>, Failure> {
     let superblock = editor.superblock();
     let mut hash_store = store_of_most(hash, superblock.hash_block_size(), u64::MAX)?;
-    let volume = Volume {
+    let volume = LineParts {
         data_path: devices.data_path,
         hash_path: devices.hash_path,
         data_block_size: superblock.data_block_size(),

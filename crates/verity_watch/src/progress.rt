@@ -14,8 +14,8 @@ const STEP: u64 = 1 << 16;
 const CLEARED: &str = "\r                                                                \r";
 
 /// How much of so many bytes was read by now, on standard error: `dalgovuun: 45 %, 512 MB/s, 0:03 left`, over and over in one
-/// line, from the first second on and at most five times a second, until all of it was. It takes memory for a line; what can't be printed is passed
-/// over.
+/// line, from the first second on and at most five times a second, until all of it was. It takes memory for a line; what can't be
+/// printed is passed over.
 #[derive(Drop)]
 pub struct Progress<'a, R: Clock + Eprint> {
     rt: &'a R,
