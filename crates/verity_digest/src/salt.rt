@@ -61,7 +61,7 @@ impl<A: Allocator> Salt<A> {
         }
     }
 
-    /// The same salt, in memory of its own. It takes one request for memory, of as many bytes as it has.
+    /// The same salt, in memory of its own: one request, of as many bytes as it has. `AllocError` where that was refused.
     pub fn copy<B: Allocator>(&self, alloc: B) -> Result<Salt<B>, AllocError>
         ensures { IfOk result (λ salt. salt ≡ self.now) }
     {

@@ -311,7 +311,8 @@ fn join_numbers<A: Allocator>(alloc: A, numbers: Numbers) -> Result<String<A>, A
     format!(in alloc; "{data_size} {hash_size} {blocks} {start}")
 }
 
-/// A salt as a table line spells it: `-` where it is empty, else its hexadecimal digits in lower case. It takes memory for them.
+/// A salt as a table line spells it: `-` where it is empty, else its hexadecimal digits in lower case. It takes memory for them;
+/// `AllocError` where that was refused.
 pub fn spell_salt<A: Allocator + Copy>(alloc: A, salt: &Salt<A>) -> Result<String<A>, AllocError>
     ensures { IfOk result (λ s. string_bytes s ≡ salt_text salt.now) }
 {
