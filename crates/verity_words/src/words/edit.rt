@@ -8,7 +8,8 @@ use std::alloc::{AllocError, Global};
 const EXAMPLE: &str = "Example:
   printf 'grow 310\\nfill 309 5a\\ncommit\\n' > script
   dalgovuun edit image image.hash script > answers
-  sed -n 's/^committed //p' answers > image.table";
+  grep -q '^committed ' answers &&
+      sed -n 's/^committed //p' answers | tail -n 1 > image.table";
 
 /// The words of `edit`.
 #[derive(Clone, Copy, Debug)]

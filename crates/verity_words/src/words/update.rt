@@ -7,8 +7,8 @@ use std::alloc::{AllocError, Global};
 /// What `--help` shows.
 const EXAMPLE: &str = "Example:
   cp image image.new; printf 'new bytes' | dd of=image.new conv=notrunc status=none
-  dalgovuun update image image.hash image.new > answers
-  sed -n 's/^committed //p' answers > image.table";
+  dalgovuun update image image.hash image.new > answers &&
+      sed -n 's/^committed //p' answers > image.table";
 
 /// The words of `update`.
 #[derive(Clone, Copy, Debug)]
