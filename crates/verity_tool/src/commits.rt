@@ -1,7 +1,8 @@
 //! How the commits of an editor reach a volume's files.
 
-use crate::edits::{Edits, StagedEdits};
+use crate::edits::Edits;
 use crate::journal::{FileKeeper, fault_of_disks, make_journal, remove_journal};
+use crate::staging::StagedEdits;
 use std::fs::File;
 use std::rt::Files;
 use verity_commit::CommitFault;

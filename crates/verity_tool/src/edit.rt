@@ -3,8 +3,9 @@
 use crate::commits::Commits;
 use crate::edits::Edits;
 use crate::lines::Devices;
-use crate::over::{Words, Work, do_over, offset_of};
+use crate::over::{Words, Work, do_over};
 use crate::script::{Script, read_script, run_script};
+use crate::volume::offset_of;
 use crate::watching::is_watched;
 use std::fs::File;
 use std::io::{Eprint, IsTerminal, Write};
@@ -18,8 +19,7 @@ use verity_words::EditWords;
 ///
 /// The words are read first, then both files opened and told apart, what stands in the journal is made whole, the superblock
 /// read, the volume opened, and the script read. Commits go through a journal, but where none is asked for, and where HASH is a
-/// device and none is named, which `errors` is told. Where `errors` is a terminal, the opening without a
-/// journal shows how much of DATA was read.
+/// device and none is named, which `errors` is told. Where `errors` is a terminal, the opening shows how much of DATA was read.
 pub fn edit<R: Files<File = File> + Clock + Eprint + AllocGlobal, W: Write, E: Write + IsTerminal>(
     rt: &R,
     words: &EditWords<'_>,

@@ -18,10 +18,12 @@ mod recover;
 mod scratch;
 mod script;
 mod serve;
+mod staging;
 mod talk;
 mod told;
 mod update;
 mod verify;
+mod volume;
 mod watching;
 
 pub use program::run;

@@ -1,10 +1,11 @@
 //! What `edit` and `update` have in common: a volume, opened to be edited, and its journal.
 
 use crate::commits::{Commits, Direct, Journalled};
-use crate::dump::read_superblock;
-use crate::edits::{Edits, StagedFile};
+use crate::edits::Edits;
 use crate::journal::{FileKeeper, check_other_gate, journal_path, recover_files, volume_names};
 use crate::lines::Devices;
+use crate::staging::OverFile;
+use crate::volume::{Sizes, Volume, open_both, open_volume};
 use crate::watching::{end_progress, progress_of};
 use std::alloc::Global;
 use std::fs::File;
@@ -12,15 +13,12 @@ use std::io::{Eprint, Write};
 use std::rt::Files;
 use std::time::Clock;
 use verity_edit::{EditFault, Editor, LineEditor};
-use verity_files::{
-    Command, Failure, Fault, Opened, VolumeStore, Word, check_apart, number, open_there, room_of,
-    store_of_most, take_lock,
-};
+use verity_files::{Command, Failure, Opened};
 use verity_stage::Staged;
-use verity_store::{BlockStore, StoreFault, Which};
-use verity_superblock::{SuperFault, Table};
+use verity_store::{BlockStore, StoreFault};
+use verity_superblock::Table;
 use verity_update::Edited;
-use verity_watch::Watched;
+use verity_watch::{Progress, Watched};
 use verity_words::{explain_no_journal, explain_recovered};
 
 /// The words that say which volume, and how it is committed to.
@@ -116,7 +114,8 @@ fn do_in_place<R: Files<File = File> + Clock + Eprint + AllocGlobal, T: Work, W:
     output: &mut W,
     errors: &mut E,
 ) -> Result<u8, Failure> {
-    let volume = open_volume(rt.alloc(), words, &line, work, data, hash)?;
+    let volume = open_volume(rt.alloc(), &line, words.offset, data, hash)?;
+    work.see(volume.sizes.data_block_size)?;
     let rest = rest_of(words, volume.again, volume.sizes);
     let hash_store = volume.hash_store;
     match line {
@@ -199,27 +198,60 @@ fn do_staged<R: Files<File = File> + Clock + Eprint + AllocGlobal, T: Work, W: W
     errors: &mut E,
 ) -> Result<u8, Failure> {
     let (data, hash) = commits.files()?;
-    let volume = open_volume(rt.alloc(), words, &line, work, Ok(data), hash)?;
+    let volume = open_volume(rt.alloc(), &line, words.offset, Ok(data), hash)?;
+    work.see(volume.sizes.data_block_size)?;
     let rest = rest_of(words, volume.again, volume.sizes);
-    let (data, hash) = stage(rt.alloc(), volume.data_store, volume.hash_store)?;
+    let hash_store = volume.hash_store;
     match line {
-        Some(table) => run_under(rt, work, table, data, hash, commits, rest, output, errors),
+        Some(table) => {
+            let data = Staged::new(rt.alloc(), volume.data_store)?;
+            let hash = Staged::new(rt.alloc(), hash_store)?;
+            run_under(rt, work, table, data, hash, commits, rest, output, errors)
+        }
         None => {
-            let opened = open_whole(rt.alloc(), data, hash, words.offset);
-            run_whole(rt, work, opened, commits, rest, output, errors)
+            let progress = progress_of(rt, words.is_watched, &volume.data_store);
+            let data_store = Watched::new(volume.data_store, progress.as_ref());
+            run_staged(
+                rt,
+                work,
+                data_store,
+                hash_store,
+                words.offset,
+                progress.as_ref(),
+                commits,
+                rest,
+                output,
+                errors,
+            )
         }
     }
 }
 
-/// A volume's stores, with nothing staged over them.
-fn stage(
-    alloc: Global,
-    data_store: VolumeStore,
-    hash_store: VolumeStore,
-) -> Result<(StagedFile, StagedFile), Failure> {
-    let data = Staged::new(alloc, data_store)?;
-    let hash = Staged::new(alloc, hash_store)?;
-    Ok((data, hash))
+/// Opens what is staged over two stores, which reads them whole, and does the work. The meter's line is cleared in between.
+fn run_staged<
+    R: Files<File = File> + Clock + Eprint + AllocGlobal,
+    T: Work,
+    D: OverFile,
+    H: OverFile,
+    W: Write,
+    E: Write,
+>(
+    rt: &R,
+    work: &mut T,
+    data_store: D,
+    hash_store: H,
+    offset: u64,
+    progress: Option<&Progress<'_, R>>,
+    commits: &mut Journalled<'_, R>,
+    rest: Rest<'_>,
+    output: &mut W,
+    errors: &mut E,
+) -> Result<u8, Failure> {
+    let data = Staged::new(rt.alloc(), data_store)?;
+    let hash = Staged::new(rt.alloc(), hash_store)?;
+    let opened = open_whole(rt.alloc(), data, hash, offset);
+    end_progress(progress);
+    run_whole(rt, work, opened, commits, rest, output, errors)
 }
 
 /// What the work takes beside an editor and its commits.
@@ -316,37 +348,6 @@ fn open_whole<D: BlockStore + Drop, H: BlockStore + Drop>(
     }
 }
 
-/// A volume's files, opened to be edited.
-#[derive(Drop)]
-struct Volume {
-    data_store: VolumeStore,
-    hash_store: VolumeStore,
-    /// HASH, to be read once more.
-    again: Opened,
-    sizes: Sizes,
-}
-
-/// Opens a volume's stores, and lets what is done over it look at it.
-fn open_volume<T: Work>(
-    alloc: Global,
-    words: &Words<'_>,
-    line: &Option<Table>,
-    work: &mut T,
-    data: Result<Opened, StoreFault>,
-    hash: Opened,
-) -> Result<Volume, Failure> {
-    let again = hash.again()?;
-    let sizes = sizes_of(alloc, line, &hash, words.offset)?;
-    let (data_store, hash_store, sizes) = open_stores(data, hash, sizes)?;
-    work.see(sizes.data_block_size)?;
-    Ok(Volume {
-        data_store,
-        hash_store,
-        again,
-        sizes,
-    })
-}
-
 /// Where the volume's devices are, and how far they can grow.
 fn devices_of<'a>(words: &Words<'a>, sizes: Sizes) -> Devices<'a> {
     Devices {
@@ -355,101 +356,5 @@ fn devices_of<'a>(words: &Words<'a>, sizes: Sizes) -> Devices<'a> {
         hash_start_block: sizes.hash_start_block,
         data_room: sizes.data_room,
         hash_room: sizes.hash_room,
-    }
-}
-
-/// The stores of a volume of these sizes, and what they were opened with.
-fn open_stores(
-    data: Result<Opened, StoreFault>,
-    hash: Opened,
-    sizes: Sizes,
-) -> Result<(VolumeStore, VolumeStore, Sizes), Failure> {
-    let mut sizes = sizes;
-    let data = data?;
-    sizes.data_room = room_of(&data, sizes.data_block_size);
-    let data_store = store_of_most(data, sizes.data_block_size, sizes.data_blocks)?;
-    let hash_store = store_of_most(hash, sizes.hash_block_size, u64::MAX)?;
-    Ok((data_store, hash_store, sizes))
-}
-
-/// What a table line says of the files; or else the superblock at an offset of HASH.
-fn sizes_of(
-    alloc: Global,
-    line: &Option<Table>,
-    hash: &Opened,
-    offset: u64,
-) -> Result<Sizes, Failure> {
-    match line {
-        Some(table) => Ok(Sizes {
-            data_block_size: table.data_block_size(),
-            hash_block_size: table.hash_block_size(),
-            data_blocks: table.data_blocks(),
-            hash_start_block: table.hash_start_block(),
-            data_room: 0,
-            hash_room: room_of(hash, table.hash_block_size()),
-        }),
-        None => read_sizes(alloc, hash, offset),
-    }
-}
-
-/// Where the superblock stands: at the offset that is named, at byte 0 where none is, and not to be named beside a table line, which
-/// says where its tree begins.
-pub fn offset_of(table: Option<&str>, offset: Option<&str>) -> Result<u64, Failure> {
-    match (table, offset) {
-        (_, None) => Ok(0),
-        (Some(_), Some(_)) => Err(Failure::Word(Word::HashOffset)),
-        (None, Some(text)) => number(Word::HashOffset, text),
-    }
-}
-
-/// Opens both files and takes their locks. That there is no DATA is told only once HASH was found to hold a superblock.
-pub fn open_both<R: Files<File = File>>(
-    rt: &R,
-    data_path: &str,
-    hash_path: &str,
-    command: Command,
-) -> Result<(Result<Opened, StoreFault>, Opened), Failure> {
-    let hash = open_there(rt, hash_path, command, Which::Hash)?;
-    let data = open_there(rt, data_path, command, Which::Data);
-    if let Ok(data) = &data {
-        check_apart(data.identity, hash.identity)?;
-        take_lock(&data.file, command.lock(), Which::Data)?;
-    }
-    take_lock(&hash.file, command.lock(), Which::Hash)?;
-    Ok((data, hash))
-}
-
-/// What a volume's files are opened with.
-#[derive(Clone, Copy)]
-struct Sizes {
-    data_block_size: usize,
-    hash_block_size: usize,
-    data_blocks: u64,
-    hash_start_block: u64,
-    data_room: u64,
-    hash_room: u64,
-}
-
-/// What the superblock at an offset of HASH says of them.
-fn read_sizes(alloc: Global, hash: &Opened, offset: u64) -> Result<Sizes, Failure> {
-    match read_superblock(alloc, hash.again()?, offset) {
-        Ok((superblock, hash_start_block)) => Ok(Sizes {
-            data_block_size: superblock.data_block_size(),
-            hash_block_size: superblock.hash_block_size(),
-            data_blocks: superblock.data_blocks(),
-            hash_start_block,
-            data_room: 0,
-            hash_room: room_of(hash, superblock.hash_block_size()),
-        }),
-        Err(fault) => Err(not_a_volume(fault).into()),
-    }
-}
-
-/// E12 where no superblock can stand at the offset, E9 where there is none.
-fn not_a_volume(fault: Fault) -> Fault {
-    match fault {
-        Fault::Superblock(SuperFault::Offset) => Fault::Edit(EditFault::Offset),
-        Fault::Superblock(fault) => Fault::Edit(EditFault::Superblock(fault)),
-        fault => fault,
     }
 }

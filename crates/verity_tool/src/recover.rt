@@ -1,7 +1,7 @@
 //! The command `recover`: makes whole a commit that a stop cut short.
 
 use crate::journal::{journal_path, recover_files, remove_journal, volume_names};
-use crate::over::open_both;
+use crate::volume::open_both;
 use std::fs::File;
 use std::io::Write;
 use std::rt::Files;

@@ -3,8 +3,9 @@
 use crate::commits::Commits;
 use crate::edits::Edits;
 use crate::lines::{Devices, LineParts, committed_line, table_of};
-use crate::over::{Words, Work, do_over, offset_of};
+use crate::over::{Words, Work, do_over};
 use crate::script::commit;
+use crate::volume::offset_of;
 use crate::watching::{end_progress, is_watched, progress_of};
 use std::alloc::Global;
 use std::fs::File;
@@ -27,7 +28,7 @@ use verity_words::UpdateWords;
 ///
 /// The words are read first, then all three files opened and told apart, what stands in the journal is made whole, the superblock
 /// and NEW's length looked at, the volume opened, and then each block of NEW read. The journal is that of `edit`. Where `errors` is a
-/// terminal, the opening without a journal shows how much of DATA was read, and then it is shown how much of NEW was.
+/// terminal, the opening shows how much of DATA was read, and then it is shown how much of NEW was.
 pub fn update<
     R: Files<File = File> + Clock + Eprint + AllocGlobal,
     W: Write,

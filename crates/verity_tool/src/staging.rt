@@ -1,0 +1,121 @@
+//! The editors whose commits go through a journal: over stores whose changes are kept beside a volume's files until then.
+ghost use Rattle.std.specs.Prelude.{◌≡◌, false, length, IfOk};
+
+use crate::edits::Edits;
+use crate::journal::FileKeeper;
+use std::alloc::Global;
+use verity_commit::{CommitFault, commit_editor, commit_line_editor};
+use verity_edit::{Committed, EditFault, Editor, LineEditor};
+use verity_files::{Fault, Opened, VolumeStore, store_of_most};
+use verity_stage::Staged;
+use verity_store::{BlockStore, StoreFault, Which};
+use verity_watch::{Meter, Watched};
+
+/// A store over one of a volume's files.
+pub trait OverFile: BlockStore + Drop {
+    /// A store over a file as it stands, of whose bytes nothing is known, or over the first blocks of a device, at most so many.
+    fn over_file(opened: Opened, size: usize, blocks: u64) -> Result<Self, StoreFault>
+        ensures unknown { IfOk result (λ s. Self.tells s ≡ false) };
+}
+
+impl OverFile for VolumeStore {
+    fn over_file(opened: Opened, size: usize, blocks: u64) -> Result<VolumeStore, StoreFault> {
+        store_of_most(opened, size, blocks)
+    }
+}
+
+/// Nobody watches it any more.
+impl<'a, M: Meter> OverFile for Watched<'a, VolumeStore, M> {
+    fn over_file(
+        opened: Opened,
+        size: usize,
+        blocks: u64,
+    ) -> Result<Watched<'a, VolumeStore, M>, StoreFault> {
+        let store = store_of_most(opened, size, blocks)?;
+        Ok(Watched::new(store, None))
+    }
+}
+
+/// An editor over two staged stores.
+pub trait StagedEdits: Edits {
+    /// Goes on over files that hold by now what its stores do, with nothing staged. E6 where one hasn't its store's length.
+    fn restage(&mut self, alloc: Global, data: Opened, hash: Opened) -> Result<(), Fault>;
+
+    /// Commits, and brings what is staged through a journal, which has these names of the files, to them. The editor comes back.
+    fn commit_through(
+        self,
+        alloc: Global,
+        keeper: &mut FileKeeper,
+        names: &[u8],
+    ) -> (Self, Result<Committed, CommitFault>);
+
+    /// Whether a commit failed since memory for what is staged was refused.
+    fn is_starved(&self) -> bool;
+}
+
+impl<D: OverFile, H: OverFile> StagedEdits for Editor<Staged<D>, Staged<H>> {
+    fn restage(&mut self, alloc: Global, data: Opened, hash: Opened) -> Result<(), Fault> {
+        let data = restaged(alloc, data, self.data_store(), Which::Data)?;
+        let hash = restaged(alloc, hash, self.hash_store(), Which::Hash)?;
+        let _old = self.change_stores(data, hash);
+        Ok(())
+    }
+
+    fn commit_through(
+        self,
+        alloc: Global,
+        keeper: &mut FileKeeper,
+        names: &[u8],
+    ) -> (Self, Result<Committed, CommitFault>) {
+        let mut editor = self;
+        let done = commit_editor(alloc, keeper, names, &mut editor);
+        (editor, done)
+    }
+
+    fn is_starved(&self) -> bool {
+        self.data_store().is_starved() || self.hash_store().is_starved()
+    }
+}
+
+impl<D: OverFile, H: OverFile> StagedEdits for LineEditor<Staged<D>, Staged<H>> {
+    fn restage(&mut self, alloc: Global, data: Opened, hash: Opened) -> Result<(), Fault> {
+        let data = restaged(alloc, data, self.data_store(), Which::Data)?;
+        let hash = restaged(alloc, hash, self.hash_store(), Which::Hash)?;
+        let _old = self.change_stores(data, hash);
+        Ok(())
+    }
+
+    fn commit_through(
+        self,
+        alloc: Global,
+        keeper: &mut FileKeeper,
+        names: &[u8],
+    ) -> (Self, Result<Committed, CommitFault>) {
+        commit_line_editor(alloc, keeper, names, self)
+    }
+
+    fn is_starved(&self) -> bool {
+        self.data_store().is_starved() || self.hash_store().is_starved()
+    }
+}
+
+/// A store with nothing staged over a file that holds by now what a staged store does. E6 where it hasn't its length.
+fn restaged<S: OverFile>(
+    alloc: Global,
+    opened: Opened,
+    old: &Staged<S>,
+    which: Which,
+) -> Result<Staged<S>, Fault>
+    ensures size { IfOk result (λ s. ⟦<Staged<S> as BlockStore>⟧.size s ≡ ⟦<Staged<S> as BlockStore>⟧.size old.now) }
+    ensures len { IfOk result (λ s. length (⟦<Staged<S> as BlockStore>⟧.content s)
+        ≡ length (⟦<Staged<S> as BlockStore>⟧.content old.now)) }
+    ensures unknown { IfOk result (λ s. ⟦<Staged<S> as BlockStore>⟧.tells s ≡ false) }
+{
+    let size = old.block_size();
+    let blocks = old.len();
+    let store = S::over_file(opened, size, blocks)?;
+    match Staged::new(alloc, store) {
+        Ok(staged) if staged.len() == blocks && staged.block_size() == size => Ok(staged),
+        _ => Err(Fault::Edit(EditFault::Store(which))),
+    }
+}

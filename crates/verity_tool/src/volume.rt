@@ -1,0 +1,138 @@
+//! A volume's files, opened to be edited.
+
+use crate::dump::read_superblock;
+use std::alloc::Global;
+use std::fs::File;
+use std::rt::Files;
+use verity_edit::EditFault;
+use verity_files::{
+    Command, Failure, Fault, Opened, VolumeStore, Word, check_apart, number, open_there, room_of,
+    store_of_most, take_lock,
+};
+use verity_store::{StoreFault, Which};
+use verity_superblock::{SuperFault, Table};
+
+/// A volume's stores, and what they were opened with.
+#[derive(Drop)]
+pub struct Volume {
+    pub data_store: VolumeStore,
+    pub hash_store: VolumeStore,
+    /// HASH, to be read once more.
+    pub again: Opened,
+    pub sizes: Sizes,
+}
+
+/// What a volume's files are opened with.
+#[derive(Clone, Copy)]
+pub struct Sizes {
+    pub data_block_size: usize,
+    pub hash_block_size: usize,
+    pub data_blocks: u64,
+    pub hash_start_block: u64,
+    pub data_room: u64,
+    pub hash_room: u64,
+}
+
+/// Opens both files and takes their locks. That there is no DATA is told only once HASH was found to hold a superblock.
+pub fn open_both<R: Files<File = File>>(
+    rt: &R,
+    data_path: &str,
+    hash_path: &str,
+    command: Command,
+) -> Result<(Result<Opened, StoreFault>, Opened), Failure> {
+    let hash = open_there(rt, hash_path, command, Which::Hash)?;
+    let data = open_there(rt, data_path, command, Which::Data);
+    if let Ok(data) = &data {
+        check_apart(data.identity, hash.identity)?;
+        take_lock(&data.file, command.lock(), Which::Data)?;
+    }
+    take_lock(&hash.file, command.lock(), Which::Hash)?;
+    Ok((data, hash))
+}
+
+/// Where the superblock stands: at the offset that is named, at byte 0 where none is, and not to be named beside a table line, which
+/// says where its tree begins.
+pub fn offset_of(table: Option<&str>, offset: Option<&str>) -> Result<u64, Failure> {
+    match (table, offset) {
+        (_, None) => Ok(0),
+        (Some(_), Some(_)) => Err(Failure::Word(Word::HashOffset)),
+        (None, Some(text)) => number(Word::HashOffset, text),
+    }
+}
+
+/// Opens a volume's stores: of what a table line says; or else the superblock at an offset of HASH.
+pub fn open_volume(
+    alloc: Global,
+    line: &Option<Table>,
+    offset: u64,
+    data: Result<Opened, StoreFault>,
+    hash: Opened,
+) -> Result<Volume, Failure> {
+    let again = hash.again()?;
+    let sizes = sizes_of(alloc, line, &hash, offset)?;
+    let (data_store, hash_store, sizes) = open_stores(data, hash, sizes)?;
+    Ok(Volume {
+        data_store,
+        hash_store,
+        again,
+        sizes,
+    })
+}
+
+/// What a table line says of the files; or else the superblock at an offset of HASH.
+fn sizes_of(
+    alloc: Global,
+    line: &Option<Table>,
+    hash: &Opened,
+    offset: u64,
+) -> Result<Sizes, Failure> {
+    match line {
+        Some(table) => Ok(Sizes {
+            data_block_size: table.data_block_size(),
+            hash_block_size: table.hash_block_size(),
+            data_blocks: table.data_blocks(),
+            hash_start_block: table.hash_start_block(),
+            data_room: 0,
+            hash_room: room_of(hash, table.hash_block_size()),
+        }),
+        None => read_sizes(alloc, hash, offset),
+    }
+}
+
+/// What the superblock at an offset of HASH says of them.
+fn read_sizes(alloc: Global, hash: &Opened, offset: u64) -> Result<Sizes, Failure> {
+    match read_superblock(alloc, hash.again()?, offset) {
+        Ok((superblock, hash_start_block)) => Ok(Sizes {
+            data_block_size: superblock.data_block_size(),
+            hash_block_size: superblock.hash_block_size(),
+            data_blocks: superblock.data_blocks(),
+            hash_start_block,
+            data_room: 0,
+            hash_room: room_of(hash, superblock.hash_block_size()),
+        }),
+        Err(fault) => Err(not_a_volume(fault).into()),
+    }
+}
+
+/// E12 where no superblock can stand at the offset, E9 where there is none.
+fn not_a_volume(fault: Fault) -> Fault {
+    match fault {
+        Fault::Superblock(SuperFault::Offset) => Fault::Edit(EditFault::Offset),
+        Fault::Superblock(fault) => Fault::Edit(EditFault::Superblock(fault)),
+        fault => fault,
+    }
+}
+
+/// The stores of a volume of these sizes, and what they were opened with.
+fn open_stores(
+    data: Result<Opened, StoreFault>,
+    hash: Opened,
+    sizes: Sizes,
+) -> Result<(VolumeStore, VolumeStore, Sizes), Failure> {
+    let mut sizes = sizes;
+    let data = data?;
+    sizes.data_room = room_of(&data, sizes.data_block_size);
+    let data_store = store_of_most(data, sizes.data_block_size, sizes.data_blocks)?;
+    let hash_store = store_of_most(hash, sizes.hash_block_size, u64::MAX)?;
+    Ok((data_store, hash_store, sizes))
+}
