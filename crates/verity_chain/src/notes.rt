@@ -122,7 +122,8 @@ fn take<H: BlockStore, A: Allocator + Copy + Drop>(
     if store.read(number, block).is_err() {
         return Err(ReadRefused::Store);
     }
-    if !tree.matches(block, named) {
+    let right = tree.matches(block, named);
+    if !right {
         return Err(ReadRefused::Mismatch { level, index });
     }
     let Ok(bytes) = block.to_vec(alloc) else {

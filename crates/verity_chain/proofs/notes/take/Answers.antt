@@ -8,8 +8,8 @@ use Rattle.verity_chain.proofs.NoteLemmas.{given_later, given_push, checked_push
 use Rattle.verity_chain.proofs.FewLemmas.{apart_push, within_push}
 use Rattle.verity_chain.proofs.notes.take.Goals as goal
 
-pub returns-then-not-matches-clause-err : goal.returns-then-not-matches-clause-err
-returns-then-not-matches-clause-err g c =
+pub returns-then-not-right-clause-err : goal.returns-then-not-right-clause-err
+returns-then-not-right-clause-err g c =
     let H = g.H.BlockStore in
     let e = c.read.ensures in
     let t = c.args.tree.now in
@@ -38,7 +38,7 @@ returns-then-not-matches-clause-err g c =
     let gave : Gave H mark c.read.new.self (hash_place t l i) y =
     subst (λ n. Gave H mark c.read.new.self n y) c.hash_place-number.ensures.value here in
     let differs : (hashing_of t).digest y ≢ c.args.named.now =
-    λ same. differs_here c.matches.result _ c.matches.ensures.value c.if-not-matches.true same in (
+    λ same. differs_here c.matches-right.result _ c.matches-right.ensures.value c.if-not-right.true same in (
       c.requires.level,
       c.requires.index,
       wrong_noted H t mark c.args.store.now c.read.new.self c.args.notes.now.items l i
@@ -60,7 +60,7 @@ returns-clause-checked g c =
       number = c.hash_place-number.ensures.value;
       sized = long;
     } in
-    let same : (hashing_of t).digest y ≡ c.args.named.now = same_here c.matches.result _ c.matches.ensures.value c.if-not-matches.false in
+    let same : (hashing_of t).digest y ≡ c.args.named.now = same_here c.matches-right.result _ c.matches-right.ensures.value c.if-not-right.false in
     checked_push t c.args.notes.now.items c.push.new.self.items l i x c.args.named.now added at c.requires.names same c.requires.checked
 
 pub returns-clause-given : goal.returns-clause-given
@@ -114,8 +114,8 @@ returns-then-is_err-clause-given g c =
       };
     }) c.requires.given
 
-pub returns-then-not-matches-clause-given : goal.returns-then-not-matches-clause-given
-returns-then-not-matches-clause-given g c =
+pub returns-then-not-right-clause-given : goal.returns-then-not-right-clause-given
+returns-then-not-right-clause-given g c =
     let e = c.read.ensures in
     given_later g.H.BlockStore c.args.since.now.steps c.args.store.now c.read.new.self c.args.notes.now.items
     (record {
