@@ -10,6 +10,7 @@ pub mod Applied
 pub mod Levels
 pub mod Texts
 pub mod Faults
+pub mod Children
 pub mod Slots
 pub mod Remade
 pub mod Plan

@@ -4,13 +4,14 @@ ghost use Rattle.verity_digest.specs.Hash.{size_of};
 ghost use Rattle.verity_store.specs.Stores.{IsOnlyRead};
 ghost use Rattle.verity_edit.specs.Faults.{PlansOrFails};
 ghost use Rattle.verity_edit.specs.Seen.{GivesAt, Shows};
+ghost use Rattle.verity_edit.specs.Children.{children_of};
 ghost use Rattle.verity_edit.specs.Slots.{AreSized, AreWithin};
 ghost use Rattle.verity_edit.specs.Making.{IsChange};
 ghost use Rattle.verity_edit.specs.Last.{AddsLast, NamesLast, IsAboveLast, AreChanged, AreEdited, NamesEdited};
 
 use crate::EditFault;
 use crate::pending::Pending;
-use crate::plan::Child;
+use crate::plan::Run;
 use crate::tree::Change;
 use std::alloc::Allocator;
 use verity_digest::{Algorithm, Digest};
@@ -23,14 +24,14 @@ pub fn add_last<H: BlockStore, A: Allocator>(
     change: &Change,
     algorithm: Algorithm,
     block: &mut [u8],
-    leaves: &mut Vec<Child, A>,
+    leaves: &mut Vec<Run, A>,
 ) -> Result<(), EditFault>
     requires change { IsChange change.now (length (H.content hash_store.old)) (H.size hash_store.old) (size_of algorithm) }
     requires sized { length block.old ≡ H.size hash_store.old }
     requires fell { change.now.new.blocks < change.now.old.blocks }
-    ensures added { OnOk result (AddsLast (size_of algorithm) (change.now.new.blocks - 1) leaves.old.items leaves.new.items) }
+    ensures added { OnOk result (AddsLast (size_of algorithm) (change.now.new.blocks - 1) (children_of leaves.old.items) (children_of leaves.new.items)) }
     ensures named { OnOk result ((content : List (List ℕ)) → Shows H.BlockStore hash_store.new content →
-        NamesLast change.now content leaves.old.items leaves.new.items) }
+        NamesLast change.now content (children_of leaves.old.items) (children_of leaves.new.items)) }
     ensures fails { PlansOrFails result (H.failures hash_store.old) (H.failures hash_store.new) }
     ensures reads { H.reads hash_store.new ≤ H.reads hash_store.old + 1 }
     ensures gives { GivesAt (IsAboveLast change.now) (H.given hash_store.old) (H.given hash_store.new) }
@@ -44,11 +45,12 @@ pub fn add_last<H: BlockStore, A: Allocator>(
     let Ok(()) = hash_store.read(at, block) else {
         return Err(EditFault::Store(Which::Hash));
     };
-    let child = Child {
+    let run = Run {
         number: last,
+        more: 0,
         digest: Digest::in_block(block, slot, algorithm),
     };
-    match leaves.push(child) {
+    match leaves.push(run) {
         Ok(()) => Ok(()),
         Err(_) => Err(EditFault::NoMemory),
     }
@@ -62,20 +64,20 @@ pub fn add_fallen<H: BlockStore, A: Allocator + Copy>(
     change: &Change,
     algorithm: Algorithm,
     block: &mut [u8],
-    leaves: &mut Vec<Child, A>,
+    leaves: &mut Vec<Run, A>,
 ) -> Result<(), EditFault>
     requires change { IsChange change.now (length (H.content hash_store.old)) (H.size hash_store.old) (size_of algorithm) }
     requires sized { length block.old ≡ H.size hash_store.old }
     requires committed { pending.now.committed ≡ change.now.old.blocks }
     requires working { pending.now.working ≡ change.now.new.blocks }
-    requires leaves { AreChanged pending.now leaves.old.items }
-    requires leaves_sized { AreSized (size_of algorithm) leaves.old.items }
-    requires leaves_within { AreWithin change.now.new.blocks leaves.old.items }
-    ensures edited { OnOk result (AreEdited pending.now leaves.new.items) }
+    requires leaves { AreChanged pending.now (children_of leaves.old.items) }
+    requires leaves_sized { AreSized (size_of algorithm) (children_of leaves.old.items) }
+    requires leaves_within { AreWithin change.now.new.blocks (children_of leaves.old.items) }
+    ensures edited { OnOk result (AreEdited pending.now (children_of leaves.new.items)) }
     ensures named { OnOk result ((content : List (List ℕ)) → Shows H.BlockStore hash_store.new content →
-        NamesEdited change.now content pending.now leaves.old.items leaves.new.items) }
-    ensures edited_sized { OnOk result (AreSized (size_of algorithm) leaves.new.items) }
-    ensures edited_within { OnOk result (AreWithin change.now.new.blocks leaves.new.items) }
+        NamesEdited change.now content pending.now (children_of leaves.old.items) (children_of leaves.new.items)) }
+    ensures edited_sized { OnOk result (AreSized (size_of algorithm) (children_of leaves.new.items)) }
+    ensures edited_within { OnOk result (AreWithin change.now.new.blocks (children_of leaves.new.items)) }
     ensures fails { PlansOrFails result (H.failures hash_store.old) (H.failures hash_store.new) }
     ensures reads { change.now.new.blocks ≡ change.now.old.blocks → H.reads hash_store.new ≡ H.reads hash_store.old }
     ensures gives { GivesAt (IsAboveLast change.now) (H.given hash_store.old) (H.given hash_store.new) }

@@ -6,12 +6,13 @@ ghost use Rattle.verity_digest.specs.Hash.{hashing, size_of};
 ghost use Rattle.verity_store.specs.Stores.{IsOnlyRead, TellsFailure};
 ghost use Rattle.verity_edit.specs.Faults.{PlansOrFails};
 ghost use Rattle.verity_edit.specs.Seen.{GivesAt, Shows};
+ghost use Rattle.verity_edit.specs.Children.{children_of};
 ghost use Rattle.verity_edit.specs.Slots.{slots, AreSized};
 ghost use Rattle.verity_edit.specs.Plan.{numbers_of, places, ArePlanned, AddsPlanned, AddsChild, made_blocks, made_digests};
 
 use crate::EditFault;
 use crate::made::Made;
-use crate::plan::{Child, remake, set_slot};
+use crate::plan::{Run, remake, set_slot};
 use std::alloc::Allocator;
 use verity_digest::{Digest, Hasher};
 use verity_store::{Block, BlockStore, StoreFault, Which};
@@ -80,18 +81,18 @@ fn make_again<H: BlockStore, A: Allocator>(
     hash_store: &mut H,
     hasher: &mut Hasher<A>,
     level: &Level,
-    children: &[Child],
+    children: &[Run],
     index: u64,
     block: &mut [u8],
 ) -> Result<Digest, StoreFault>
     requires level { IsLevel level.now (length (H.content hash_store.old)) (H.size hash_store.old) (size_of hasher.old.salted.algorithm) }
-    requires children { AreChildren level.now children.now }
+    requires children { AreChildren level.now (children_of children.now) }
     requires sized { length block.old ≡ H.size hash_store.old }
     requires index { index * level.now.per_block < level.now.digests }
     ensures made { IfOk result (λ digest. (content : List (List ℕ)) → Shows H.BlockStore hash_store.new content → (old new : List (List ℕ))
         → let h = hashing hasher.old.salted (length block.old) in
         length new ≡ level.now.digests → Holds h old level.now.old content
-        → Renews level.now.digest_size old new children.now
+        → Renews level.now.digest_size old new (children_of children.now)
         → (block.new ≡ slice_index_or (pack h new) index []) × (digest ≡ h.digest (slice_index_or (pack h new) index []))) }
     ensures digest_size { IfOk result (λ digest. length digest ≡ level.now.digest_size) }
     ensures salted { hasher.new.salted ≡ hasher.old.salted }
@@ -115,24 +116,24 @@ fn make_block<H: BlockStore, A: Allocator + Copy>(
     hash_store: &mut H,
     hasher: &mut Hasher<A>,
     level: &Level,
-    children: &[Child],
+    children: &[Run],
     index: u64,
     block: &mut [u8],
     plan: &mut Vec<Made<A>, A>,
-    next: &mut Vec<Child, A>,
+    next: &mut Vec<Run, A>,
 ) -> Result<(), EditFault>
     requires level { IsLevel level.now (length (H.content hash_store.old)) (H.size hash_store.old) (size_of hasher.old.salted.algorithm) }
-    requires children { AreChildren level.now children.now }
+    requires children { AreChildren level.now (children_of children.now) }
     requires sized { length block.old ≡ H.size hash_store.old }
     requires index { index * level.now.per_block < level.now.digests }
     ensures made { OnOk result ((content : List (List ℕ)) → Shows H.BlockStore hash_store.new content → (old new : List (List ℕ))
         → let h = hashing hasher.old.salted (length block.old) in
         length new ≡ level.now.digests → Holds h old level.now.old content
-        → Renews level.now.digest_size old new children.now
+        → Renews level.now.digest_size old new (children_of children.now)
         → (plan.new.items ≡ plan.old.items ++ made_blocks h new level.now.start (index ∷ []))
-        × (next.new.items ≡ next.old.items ++ made_digests h new (index ∷ []))) }
+        × (children_of next.new.items ≡ children_of next.old.items ++ made_digests h new (index ∷ []))) }
     ensures planned { OnOk result (AddsPlanned (length block.old) plan.old.items plan.new.items (level.now.start + index)) }
-    ensures next { OnOk result (AddsChild level.now.digest_size next.old.items next.new.items index) }
+    ensures next { OnOk result (AddsChild level.now.digest_size (children_of next.old.items) (children_of next.new.items) index) }
     ensures salted { hasher.new.salted ≡ hasher.old.salted }
     ensures hashed { OnOk result (hasher.new.hashed ≡ hasher.old.hashed + 1) }
     ensures fails { PlansOrFails result (H.failures hash_store.old) (H.failures hash_store.new) }
@@ -150,11 +151,12 @@ fn make_block<H: BlockStore, A: Allocator + Copy>(
     if plan.push(made).is_err() {
         return Err(EditFault::NoMemory);
     }
-    let child = Child {
+    let run = Run {
         number: index,
+        more: 0,
         digest,
     };
-    match next.push(child) {
+    match next.push(run) {
         Ok(()) => Ok(()),
         Err(_) => Err(EditFault::NoMemory),
     }
@@ -166,23 +168,23 @@ pub fn make_level<H: BlockStore, A: Allocator + Copy>(
     hash_store: &mut H,
     hasher: &mut Hasher<A>,
     level: &Level,
-    children: &[Child],
+    children: &[Run],
     numbers: &[u64],
     block: &mut [u8],
     plan: &mut Vec<Made<A>, A>,
-) -> Result<Vec<Child, A>, EditFault>
+) -> Result<Vec<Run, A>, EditFault>
     requires level { IsLevel level.now (length (H.content hash_store.old)) (H.size hash_store.old) (size_of hasher.old.salted.algorithm) }
-    requires children { AreChildren level.now children.now }
+    requires children { AreChildren level.now (children_of children.now) }
     requires sized { length block.old ≡ H.size hash_store.old }
     requires below { (t : ℕ) → t < length numbers.now → slice_index numbers.now t * level.now.per_block < level.now.digests }
     ensures made { IfOk result (λ next. (content : List (List ℕ)) → Shows H.BlockStore hash_store.new content → (old new : List (List ℕ))
         → let h = hashing hasher.old.salted (length block.old) in
         length new ≡ level.now.digests → Holds h old level.now.old content
-        → Renews level.now.digest_size old new children.now
+        → Renews level.now.digest_size old new (children_of children.now)
         → (plan.new.items ≡ plan.old.items ++ made_blocks h new level.now.start numbers.now)
-        × (next.items ≡ made_digests h new numbers.now)) }
-    ensures numbers { IfOk result (λ next. numbers_of next.items ≡ numbers.now) }
-    ensures next_sized { IfOk result (λ next. AreSized level.now.digest_size next.items) }
+        × (children_of next.items ≡ made_digests h new numbers.now)) }
+    ensures numbers { IfOk result (λ next. numbers_of (children_of next.items) ≡ numbers.now) }
+    ensures next_sized { IfOk result (λ next. AreSized level.now.digest_size (children_of next.items)) }
     ensures places { OnOk result (places plan.new.items ≡ places plan.old.items ++ map (λ i. level.now.start + i) numbers.now) }
     ensures planned { OnOk result (ArePlanned (length block.old) plan.old.items → ArePlanned (length block.old) plan.new.items) }
     ensures salted { hasher.new.salted ≡ hasher.old.salted }

@@ -11,6 +11,7 @@ ghost use Rattle.verity_edit.specs.Parents.{parents};
 ghost use Rattle.verity_edit.specs.Level.{Holds, Renews, IsOldOf};
 ghost use Rattle.verity_edit.specs.Edits.{Edits};
 ghost use Rattle.verity_edit.specs.Touched.{touched_count};
+ghost use Rattle.verity_edit.specs.Children.{children_of};
 ghost use Rattle.verity_edit.specs.Slots.{child_at, AreSized, AreWithin};
 ghost use Rattle.verity_edit.specs.Plan.{numbers_of, places, ArePlanned, made_blocks, made_digests};
 ghost use Rattle.verity_edit.specs.Making.{old_level, touched_places, touched_blocks, IsEdited, IsTouchedPlace, StandsFor};
@@ -18,7 +19,7 @@ ghost use Rattle.verity_edit.specs.Making.{old_level, touched_places, touched_bl
 use crate::EditFault;
 use crate::level::{Level, OldLevel, make_level};
 use crate::made::Made;
-use crate::plan::{Child, parents};
+use crate::plan::{Run, parents};
 use std::alloc::Allocator;
 use verity_digest::{Digest, Hasher};
 use verity_geometry::Geometry;
@@ -99,38 +100,38 @@ fn make_next<H: BlockStore, A: Allocator + Copy>(
     hasher: &mut Hasher<A>,
     change: &Change,
     level: usize,
-    children: &[Child],
+    children: &[Run],
     block: &mut [u8],
     plan: &mut Vec<Made<A>, A>,
-) -> Result<Vec<Child, A>, EditFault>
+) -> Result<Vec<Run, A>, EditFault>
     requires change { IsChange change.now (length (H.content hash_store.old)) (H.size hash_store.old)
         (size_of hasher.old.salted.algorithm) }
     requires there { level < levels_of change.now.new }
     requires sized { length block.old ≡ H.size hash_store.old }
-    requires children_sized { AreSized (size_of hasher.old.salted.algorithm) children.now }
-    requires children_within { AreWithin (row_len (digests_per_block change.now.new) change.now.new.blocks level) children.now }
+    requires children_sized { AreSized (size_of hasher.old.salted.algorithm) (children_of children.now) }
+    requires children_within { AreWithin (row_len (digests_per_block change.now.new) change.now.new.blocks level) (children_of children.now) }
     ensures made { IfOk result (λ next. (content : List (List ℕ)) → Shows H.BlockStore hash_store.new content → (old new : List (List ℕ))
         → let h = hashing hasher.old.salted (length block.old) in
         length new ≡ row_len (digests_per_block change.now.new) change.now.new.blocks level
-        → Holds h old (level_of change.now level).old content → Renews h.digest_size old new children.now
-        → let up = parents (digests_per_block change.now.new) (numbers_of children.now) in
+        → Holds h old (level_of change.now level).old content → Renews h.digest_size old new (children_of children.now)
+        → let up = parents (digests_per_block change.now.new) (numbers_of (children_of children.now)) in
         (plan.new.items ≡ plan.old.items ++ made_blocks h new (change.now.first + start_of change.now.new level) up)
-        × (next.items ≡ made_digests h new up)) }
-    ensures numbers { IfOk result (λ next. numbers_of next.items ≡ parents (digests_per_block change.now.new) (numbers_of children.now)) }
+        × (children_of next.items ≡ made_digests h new up)) }
+    ensures numbers { IfOk result (λ next. numbers_of (children_of next.items) ≡ parents (digests_per_block change.now.new) (numbers_of (children_of children.now))) }
     ensures next_within { IfOk result (λ next. AreWithin (row_len (digests_per_block change.now.new) change.now.new.blocks
-        (suc level)) next.items) }
-    ensures next_sized { IfOk result (λ next. AreSized (size_of hasher.old.salted.algorithm) next.items) }
+        (suc level)) (children_of next.items)) }
+    ensures next_sized { IfOk result (λ next. AreSized (size_of hasher.old.salted.algorithm) (children_of next.items)) }
     ensures places { OnOk result (places plan.new.items ≡ places plan.old.items
         ++ map (λ i. change.now.first + start_of change.now.new level + i)
-        (parents (digests_per_block change.now.new) (numbers_of children.now))) }
+        (parents (digests_per_block change.now.new) (numbers_of (children_of children.now)))) }
     ensures planned { OnOk result (ArePlanned (length block.old) plan.old.items → ArePlanned (length block.old) plan.new.items) }
     ensures salted { hasher.new.salted ≡ hasher.old.salted }
     ensures hashed { OnOk result (hasher.new.hashed
-        ≡ hasher.old.hashed + length (parents (digests_per_block change.now.new) (numbers_of children.now))) }
+        ≡ hasher.old.hashed + length (parents (digests_per_block change.now.new) (numbers_of (children_of children.now)))) }
     ensures fails { PlansOrFails result (H.failures hash_store.old) (H.failures hash_store.new) }
     ensures reads { H.reads hash_store.new
-        ≤ H.reads hash_store.old + length (parents (digests_per_block change.now.new) (numbers_of children.now)) }
-    ensures gives { GivesAt (IsOldOf (level_of change.now level) (parents (digests_per_block change.now.new) (numbers_of children.now)))
+        ≤ H.reads hash_store.old + length (parents (digests_per_block change.now.new) (numbers_of (children_of children.now))) }
+    ensures gives { GivesAt (IsOldOf (level_of change.now level) (parents (digests_per_block change.now.new) (numbers_of (children_of children.now))))
         (H.given hash_store.old) (H.given hash_store.new) }
     ensures read_only { IsOnlyRead H.BlockStore hash_store.old hash_store.new }
 {
@@ -144,9 +145,9 @@ fn make_next<H: BlockStore, A: Allocator + Copy>(
 }
 
 /// The digest of the one block that is left at the top, or the old root hash where nothing was made.
-fn top_digest(children: &[Child], root: Digest) -> Digest
-    ensures some { 0 < length children.now → result ≡ (child_at children.now 0).digest }
-    ensures none { length children.now ≡ 0 → result ≡ root }
+fn top_digest(children: &[Run], root: Digest) -> Digest
+    ensures some { 0 < length (children_of children.now) → result ≡ (child_at (children_of children.now) 0).digest }
+    ensures none { length (children_of children.now) ≡ 0 → result ≡ root }
 {
     match children.first() {
         Some(top) => top.digest,
@@ -161,7 +162,7 @@ pub fn make_tree<H: BlockStore, A: Allocator + Copy>(
     hash_store: &mut H,
     hasher: &mut Hasher<A>,
     change: &Change,
-    leaves: Vec<Child, A>,
+    leaves: Vec<Run, A>,
     block: &mut [u8],
     plan: &mut Vec<Made<A>, A>,
 ) -> Result<Digest, EditFault>
@@ -169,26 +170,26 @@ pub fn make_tree<H: BlockStore, A: Allocator + Copy>(
         (size_of hasher.old.salted.algorithm) }
     requires sized { length block.old ≡ H.size hash_store.old }
     requires empty { plan.old.items ≡ [] }
-    requires leaves_sized { AreSized (size_of hasher.old.salted.algorithm) leaves.items }
-    requires leaves_within { AreWithin change.now.new.blocks leaves.items }
+    requires leaves_sized { AreSized (size_of hasher.old.salted.algorithm) (children_of leaves.items) }
+    requires leaves_within { AreWithin change.now.new.blocks (children_of leaves.items) }
     ensures made { IfOk result (λ digest. (content : List (List ℕ)) → Shows H.BlockStore hash_store.new content → (e : Edits)
-        → IsEdited e change.now.old.blocks change.now.new.blocks leaves.items
+        → IsEdited e change.now.old.blocks change.now.new.blocks (children_of leaves.items)
         → let h = hashing hasher.old.salted (length block.old) in
-        StandsFor h e change.now.first content change.now.root leaves.items
+        StandsFor h e change.now.first content change.now.root (children_of leaves.items)
         → (plan.new.items ≡ touched_blocks h e change.now.first change.now.new.blocks (levels_of change.now.new))
         × (digest ≡ root h e.working)) }
-    ensures places { OnOk result ((e : Edits) → IsEdited e change.now.old.blocks change.now.new.blocks leaves.items
+    ensures places { OnOk result ((e : Edits) → IsEdited e change.now.old.blocks change.now.new.blocks (children_of leaves.items)
         → places plan.new.items ≡ touched_places (digests_per_block change.now.new) e change.now.first change.now.new.blocks
         (levels_of change.now.new)) }
     ensures planned { OnOk result (ArePlanned (length block.old) plan.new.items) }
     ensures digest_size { IfOk result (λ digest. length digest ≡ size_of hasher.old.salted.algorithm) }
     ensures salted { hasher.new.salted ≡ hasher.old.salted }
-    ensures hashed { OnOk result ((e : Edits) → IsEdited e change.now.old.blocks change.now.new.blocks leaves.items
+    ensures hashed { OnOk result ((e : Edits) → IsEdited e change.now.old.blocks change.now.new.blocks (children_of leaves.items)
         → hasher.new.hashed ≡ hasher.old.hashed + touched_count (digests_per_block change.now.new) e) }
     ensures fails { PlansOrFails result (H.failures hash_store.old) (H.failures hash_store.new) }
-    ensures reads { (e : Edits) → IsEdited e change.now.old.blocks change.now.new.blocks leaves.items
+    ensures reads { (e : Edits) → IsEdited e change.now.old.blocks change.now.new.blocks (children_of leaves.items)
         → H.reads hash_store.new ≤ H.reads hash_store.old + touched_count (digests_per_block change.now.new) e }
-    ensures gives { (e : Edits) → IsEdited e change.now.old.blocks change.now.new.blocks leaves.items
+    ensures gives { (e : Edits) → IsEdited e change.now.old.blocks change.now.new.blocks (children_of leaves.items)
         → GivesAt (IsTouchedPlace change.now e) (H.given hash_store.old) (H.given hash_store.new) }
     ensures read_only { IsOnlyRead H.BlockStore hash_store.old hash_store.new }
 {

@@ -1,7 +1,7 @@
 use Rattle.std.proofs.Common.{◌≡◌, ℕ, List, length, map, drop, ap, ◌∙◌, arith}
 use Rattle.std.proofs.lemmas.List.{take_at}
 use Rattle.verity_digest.specs.Hash.{Salted}
-use Rattle.verity_edit.specs.declared.plan.Child.{Child}
+use Rattle.verity_edit.specs.Children.{Child}
 use Rattle.verity_edit.specs.Leaves.{changed_numbers, hashed_leaf, hashes_of}
 use Rattle.verity_edit.proofs.LeafLemmas.{hashed_unhashed, hashes_unhashed}
 use Rattle.verity_edit.proofs.leaves.changed_leaves.Goals as goal

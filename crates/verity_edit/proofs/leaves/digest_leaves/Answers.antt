@@ -4,7 +4,7 @@ use Rattle.std.specs.Prelude.{IsSome, IfSome}
 use Rattle.std.proofs.lemmas.List.{length-take-le, length-drop, get_or_default}
 use Rattle.std.proofs.lemmas.List.Sums.{count_by_more_no}
 use Rattle.verity_digest.specs.Hash.{Salted, salted_digest}
-use Rattle.verity_edit.specs.declared.plan.Child.{Child}
+use Rattle.verity_edit.specs.Children.{Child}
 use Rattle.verity_edit.specs.Slots.{nobody, child_at}
 use Rattle.verity_edit.specs.Leaves.{hashed_leaf, is_written, hashes_for}
 use Rattle.verity_edit.proofs.LeafLemmas.{run_made, one_made, left_at, unwritten, all_counted}

@@ -1,7 +1,7 @@
 use Rattle.std.proofs.Common.{◌≡◌, ℕ, ◌+◌, ◌++◌, ◌∷◌, [], length, get_or, rules, ap, ◌∙◌}
 use Rattle.verity_digest.specs.Tree.{Hashing, pack}
 use Rattle.verity_digest.specs.Hash.{hashing}
-use Rattle.verity_edit.specs.declared.plan.Child.{Child}
+use Rattle.verity_edit.specs.Children.{Child}
 use Rattle.verity_edit.proofs.level.make_block.Goals as goal
 
 pub returns-in-Ok-push-clause-made : goal.returns-in-Ok-push-clause-made

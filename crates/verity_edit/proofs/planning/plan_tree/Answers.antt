@@ -6,7 +6,7 @@ use Rattle.verity_profile.proofs.Bounds.{block_size_low}
 use Rattle.verity_geometry.specs.Geometry.{Shape, IsShape, digests_per_block, levels_of}
 use Rattle.verity_geometry.proofs.Shapes.{some}
 use Rattle.verity_store.proofs.StoreLemmas.{only_read_then}
-use Rattle.verity_edit.specs.declared.plan.Child.{Child}
+use Rattle.verity_edit.specs.Children.{Child}
 use Rattle.verity_edit.specs.declared.tree.Change.{Change}
 use Rattle.verity_edit.specs.Edits.{Edits}
 use Rattle.verity_edit.specs.Draft.{Draft, IsDraft, edits_of}

@@ -13,7 +13,7 @@ use Rattle.verity_profile.proofs.Bounds.{block_size_low}
 use Rattle.verity_geometry.specs.Geometry.{digests_per_block, levels_of, start_of}
 use Rattle.verity_geometry.proofs.Shapes.{branching}
 use Rattle.verity_store.proofs.StoreLemmas.{only_read_same, only_read_then}
-use Rattle.verity_edit.specs.declared.plan.Child.{Child}
+use Rattle.verity_edit.specs.Children.{Child}
 use Rattle.verity_edit.specs.Edits.{Edits}
 use Rattle.verity_edit.specs.Touched.{touched}
 use Rattle.verity_edit.specs.Slots.{child_at, AreNamed, AreSized, AreWithin}
