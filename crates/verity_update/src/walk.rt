@@ -1,9 +1,12 @@
 //! The walk of an update, along the blocks of NEW.
-ghost use Rattle.std.specs.Prelude.{◌≡◌, ◌≢◌, false, ℕ, ◌+◌, ◌<◌, ◌≤◌, ◌++◌, ◌∷◌, List, [], true, length, slice_index_or, OnOk, IfOk};
+ghost use Rattle.std.specs.Prelude.{◌≡◌, ◌≢◌, false, ℕ, ◌+◌, ◌<◌, ◌≤◌, ◌++◌, ◌∷◌, List, [], true, length, slice_index_or};
+ghost use Rattle.std.specs.Prelude.{OnOk, IfOk, IfErr};
 ghost use Rattle.verity_store.specs.Stores.{IsOnlyRead};
 ghost use Rattle.verity_chain.specs.Stores.{hash_given, IsHashStoreOf};
 ghost use Rattle.verity_chain.specs.Notes.{AreChecked, WereGiven};
-ghost use Rattle.verity_update.specs.Update.{Updates};
+ghost use Rattle.verity_update.specs.Update.{Updates, changed_count};
+ghost use Rattle.verity_update.specs.Refused.{ExplainsRefused, ExplainsUnprepared, ExplainsUnsuited, ExplainsUntaken, RefusesCount};
+ghost use Rattle.verity_update.specs.Refused.{SuitLine, TakesEdits, fault_of};
 ghost use Rattle.verity_update.specs.Walk.{Keeps, Spares, Takes, TakesTo};
 
 use crate::UpdateFault;
@@ -16,7 +19,9 @@ use verity_edit::EditFault;
 use verity_store::{BlockStore, Which};
 
 /// The fault that a refused read is answered by.
-fn fault_for(why: ReadRefused) -> UpdateFault {
+fn fault_for(why: ReadRefused) -> UpdateFault
+    ensures { result ≡ fault_of why }
+{
     UpdateFault::Edit(match why {
         ReadRefused::Mismatch { level, index } => EditFault::Untrusted { level, index },
         ReadRefused::Store => EditFault::Store(Which::Hash),
@@ -45,6 +50,8 @@ fn take_block<E: Edited, H: BlockStore, N: BlockStore, A: Allocator + Copy + Dro
     requires since { since.now.steps ≤ length (H.given hash_store.old) }
     requires checked { AreChecked tree.old notes.old.items }
     requires given { WereGiven H.BlockStore since.now.steps hash_store.old notes.old.items }
+    requires sound { E.broken edited.old ≡ false }
+    requires there { n < E.count edited.old }
     ensures gave { OnOk result (N.given new_store.new ≡ N.given new_store.old ++ (n, bytes.new) ∷ []) }
     ensures right { OnOk result (N.tells new_store.old ≡ true → slice_index_or (N.content new_store.old) n [] ≡ bytes.new) }
     ensures takes { OnOk result (Takes tree.old (hash_given H.BlockStore tree.old since.now.steps hash_store.new) n bytes.new
@@ -52,6 +59,10 @@ fn take_block<E: Edited, H: BlockStore, N: BlockStore, A: Allocator + Copy + Dro
     ensures spares { OnOk result (Spares tree.old (hash_given H.BlockStore tree.old since.now.steps hash_store.new) n bytes.new
         (E.changed edited.old) (E.changed edited.new)) }
     ensures others { OnOk result ((i : ℕ) → i ≢ n → E.changed edited.new i ≡ E.changed edited.old i) }
+    ensures written { IfOk result (λ written. (n < tree.old.data_blocks → E.changed edited.old n ≡ false)
+        → E.changed edited.new n ≡ written) }
+    ensures refused { IfErr result (ExplainsUntaken H.BlockStore N.BlockStore tree.old since.now.steps (E.size edited.old)
+        (length bytes.old) hash_store.old hash_store.new new_store.old new_store.new) }
     ensures checked { AreChecked tree.old notes.new.items }
     ensures given { WereGiven H.BlockStore since.now.steps hash_store.new notes.new.items }
     ensures unfailed { OnOk result (H.failures hash_store.new ≡ H.failures hash_store.old) }
@@ -61,6 +72,9 @@ fn take_block<E: Edited, H: BlockStore, N: BlockStore, A: Allocator + Copy + Dro
     ensures reads { N.reads new_store.new ≡ N.reads new_store.old + 1 }
     ensures content { E.content edited.new ≡ E.content edited.old }
     ensures data_reads { E.data_reads edited.new ≡ E.data_reads edited.old }
+    ensures count { E.count edited.new ≡ E.count edited.old }
+    ensures size { E.size edited.new ≡ E.size edited.old }
+    ensures broken { E.broken edited.new ≡ E.broken edited.old }
     ensures same { tree.new ≡ tree.old }
 {
     if new_store.read(n, bytes).is_err() {
@@ -99,10 +113,16 @@ fn take_blocks<E: Edited, H: BlockStore, N: BlockStore, A: Allocator + Copy + Dr
     requires given { WereGiven H.BlockStore since.now.steps hash_store.old notes.old.items }
     requires wide { (image : List (List ℕ)) → length (E.working edited.old image) ≡ count }
     requires kept { Keeps tree.old (E.working edited.old) }
+    requires sound { E.broken edited.old ≡ false }
+    requires counted { E.count edited.old ≡ count }
+    requires fresh { (i : ℕ) → i < tree.old.data_blocks → i < count → E.changed edited.old i ≡ false }
     ensures taken { OnOk result (TakesTo N.BlockStore tree.old (hash_given H.BlockStore tree.old since.now.steps hash_store.new)
         new_store.old new_store.new count (E.working edited.old) (E.working edited.new) (E.changed edited.old)
         (E.changed edited.new)) }
     ensures most { IfOk result (λ changed. changed ≤ count) }
+    ensures written { IfOk result (λ changed. changed ≡ changed_count (E.changed edited.new) count) }
+    ensures refused { IfErr result (ExplainsUntaken H.BlockStore N.BlockStore tree.old since.now.steps (E.size edited.old)
+        (N.size new_store.old) hash_store.old hash_store.new new_store.old new_store.new) }
     ensures unfailed { OnOk result (H.failures hash_store.new ≡ H.failures hash_store.old) }
     ensures new_unfailed { OnOk result (N.failures new_store.new ≡ N.failures new_store.old) }
     ensures keeps { IsOnlyRead H.BlockStore hash_store.old hash_store.new }
@@ -110,6 +130,8 @@ fn take_blocks<E: Edited, H: BlockStore, N: BlockStore, A: Allocator + Copy + Dr
     ensures reads { N.reads new_store.new ≤ N.reads new_store.old + count }
     ensures content { E.content edited.new ≡ E.content edited.old }
     ensures data_reads { E.data_reads edited.new ≡ E.data_reads edited.old }
+    ensures size { E.size edited.new ≡ E.size edited.old }
+    ensures broken { E.broken edited.new ≡ E.broken edited.old }
     ensures same { tree.new ≡ tree.old }
 {
     let mut changed = 0;
@@ -129,8 +151,11 @@ fn resize<E: Edited>(edited: &mut E, count: u64) -> Result<(), EditFault>
     ensures kept { OnOk result ((image : List (List ℕ)) (i : ℕ) → i < length (E.working edited.old image) → i < count
         → slice_index_or (E.working edited.new image) i [] ≡ slice_index_or (E.working edited.old image) i []) }
     ensures spared { OnOk result ((i : ℕ) → i < E.count edited.old → E.changed edited.old i ≡ false → E.changed edited.new i ≡ false) }
+    ensures refused { IfErr result (λ fault. E.broken edited.old ≡ false → RefusesCount count fault) }
     ensures content { E.content edited.new ≡ E.content edited.old }
     ensures data_reads { E.data_reads edited.new ≡ E.data_reads edited.old }
+    ensures size { E.size edited.new ≡ E.size edited.old }
+    ensures broken { E.broken edited.new ≡ E.broken edited.old }
 {
     let blocks = edited.blocks();
     if count > blocks {
@@ -148,14 +173,21 @@ fn prepare<E: Edited>(edited: &mut E, blocks: u64, count: u64) -> Result<(), Edi
     ensures kept { OnOk result ((image : List (List ℕ)) → length image ≡ blocks → (i : ℕ) → i < blocks → i < count
         → slice_index_or (E.working edited.new image) i [] ≡ slice_index_or image i []) }
     ensures spared { OnOk result ((i : ℕ) → i < blocks → E.changed edited.new i ≡ false) }
+    ensures counted { OnOk result (E.count edited.new ≡ count) }
+    ensures takes { OnOk result (TakesEdits E.Edited blocks edited.old) }
+    ensures refused { IfErr result (ExplainsUnprepared E.Edited blocks count edited.old edited.new) }
     ensures content { E.content edited.new ≡ E.content edited.old }
     ensures data_reads { E.data_reads edited.new ≡ E.data_reads edited.old }
+    ensures size { E.size edited.new ≡ E.size edited.old }
+    ensures broken { E.broken edited.new ≡ E.broken edited.old }
 {
     edited.discard()?;
     if edited.blocks() != blocks {
         return Err(EditFault::Line);
     }
-    resize(edited, count)
+    resize(edited, count)?;
+    let _count = edited.blocks();
+    Ok(())
 }
 
 /// That the stores are those of a table line: E2 where NEW's blocks haven't the line's size, E11 where the hash store's haven't, or
@@ -167,6 +199,8 @@ fn check_stores<H: BlockStore, N: BlockStore, A: Allocator>(
 ) -> Result<(), EditFault>
     ensures store { OnOk result (IsHashStoreOf H.BlockStore tree.now hash_store.now) }
     ensures new { OnOk result (N.size new_store.now ≡ tree.now.data_block_size) }
+    ensures suit { OnOk result (SuitLine H.BlockStore N.BlockStore tree.now hash_store.now new_store.now) }
+    ensures refused { IfErr result (ExplainsUnsuited H.BlockStore N.BlockStore tree.now hash_store.now new_store.now) }
 {
     let table = tree.table();
     if new_store.block_size() != table.data_block_size() {
@@ -207,7 +241,10 @@ pub fn update<E: Edited, H: BlockStore, N: BlockStore, A: Allocator + Copy + Dro
 ) -> Result<u64, UpdateFault>
     ensures updated { OnOk result (Updates H.BlockStore N.BlockStore tree.old hash_store.old hash_store.new new_store.old new_store.new
         (E.working edited.new) (E.changed edited.new)) }
-    ensures most { IfOk result (λ changed. changed ≤ length (N.content new_store.old)) }
+    ensures written { IfOk result (λ written. written ≡ changed_count (E.changed edited.new) (length (N.content new_store.old))) }
+    ensures most { IfOk result (λ written. written ≤ length (N.content new_store.old)) }
+    ensures refused { IfErr result (ExplainsRefused E.Edited H.BlockStore N.BlockStore tree.old hash_store.old hash_store.new
+        new_store.old new_store.new edited.old edited.new) }
     ensures unfailed { OnOk result (H.failures hash_store.new ≡ H.failures hash_store.old) }
     ensures new_unfailed { OnOk result (N.failures new_store.new ≡ N.failures new_store.old) }
     ensures keeps { IsOnlyRead H.BlockStore hash_store.old hash_store.new }
@@ -215,6 +252,8 @@ pub fn update<E: Edited, H: BlockStore, N: BlockStore, A: Allocator + Copy + Dro
     ensures reads { N.reads new_store.new ≤ N.reads new_store.old + length (N.content new_store.old) }
     ensures content { E.content edited.new ≡ E.content edited.old }
     ensures data_reads { E.data_reads edited.new ≡ E.data_reads edited.old }
+    ensures size { E.size edited.new ≡ E.size edited.old }
+    ensures broken { E.broken edited.new ≡ E.broken edited.old }
     ensures same { tree.new ≡ tree.old }
 {
     check_stores(tree, hash_store, new_store)?;
