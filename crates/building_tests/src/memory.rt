@@ -36,7 +36,7 @@ fn compare_with(
 // The fewest steps of room with which a build of so many blocks is done.
 fn room_for(alloc: Global, count: usize) -> Result<Option<usize>, Fail> {
     let mut data_store = numbered(alloc, count)?;
-    for steps in 0..1000 {
+    for steps in 0..2000 {
         let mut hash_store = MemStore::zeroed(alloc, 512, 0)?;
         if build_with(alloc, steps, &mut data_store, &mut hash_store)?.is_ok() {
             return Ok(Some(steps));
@@ -137,7 +137,7 @@ fn compared(
 fn a_comparison_refused_memory_changes_nothing(rt: HostRuntime) -> Result<(), Fail> {
     let alloc = rt.alloc();
     let volume = whole(&rt, alloc)?;
-    for steps in 0..1000 {
+    for steps in 0..2000 {
         let answer = compared(alloc, &volume, steps)?;
         if answer == Some(Ok(Compared::Same(volume.root))) {
             assert!(rt; steps > 0);

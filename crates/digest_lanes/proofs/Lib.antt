@@ -1,3 +1,4 @@
 pub mod ChMaj
 pub mod Parts
 pub mod Rounds
+pub mod Turned

@@ -2,13 +2,19 @@
 use Rattle.std.proofs.Common.{◌≡◌, ℕ, ◌+◌, ◌-◌, ◌*◌, ◌/◌, ◌%◌, ◌^◌, ◌<◌, List, [], ◌∙◌, length, replicate, slice_index, slice_set}
 use Rattle.std.proofs.Common.{map, bit_or, bit_xor, bit_and, arith, refl, sym, ap, ap₂}
 use Rattle.std.proofs.lemmas.Simd.{get_or-zip2, length-zip2, get_or-replicate, length-replicate, get_or-chunk}
+use Rattle.std.proofs.lemmas.Simd.{Each1-get_or, below_from_Fits}
 use Rattle.std.proofs.lemmas.List.{get_or-map, map-set, length-map}
-use Rattle.std.specs.Simd.Lanes.{zip2}
+use Rattle.std.specs.Simd.Lanes.{Each1, zip2}
+use mir.Val.{bits, Fits}
 use Rattle.std.specs.Int.{Width, w32, w64, rotate_right, bit_not}
 use Rattle.sha2.specs.Sha256.{maj, word_at}
 use Rattle.sha2.specs.Sha512 as wide
 use Rattle.digest_lanes.specs.Lanes.{lane_at, window_of, piece_at}
 use Rattle.digest_lanes.proofs.ChMaj.{maj_short}
+
+-- a lane's word has the lane's bits
+pub lane_lt : (w : Width) (xs : List ℕ) (n j : ℕ) → length xs ≡ n → Each1 (Fits w) xs → j < n → slice_index xs j < 2 ^ bits w
+lane_lt w xs n j lx fits h = Each1-get_or (λ (x : ℕ). x < 2 ^ bits w) xs j 0 (omega arith) (below_from_Fits w xs fits)
 
 -- an operator on two vectors of n lanes
 pub zip2_at : (f : ℕ → ℕ → ℕ) (xs ys : List ℕ) (n j : ℕ) → length xs ≡ n → length ys ≡ n → j < n →
@@ -53,12 +59,6 @@ wide_shifts_rotate n k low high xs lx j h =
     let right : k % 64 ≡ k = omega arith in
     let left : (64 - k) % 64 ≡ 64 - k = omega arith in
     shifts_or 64 n k (64 - k) xs j lx h ∙ rw (right, left) refl
-
-pub xor_at : (xs ys zs : List ℕ) (n j : ℕ) → length xs ≡ n → length ys ≡ n → length zs ≡ n → j < n
-    → slice_index (zip2 bit_xor (zip2 bit_xor xs ys) zs) j ≡ bit_xor (bit_xor (slice_index xs j) (slice_index ys j)) (slice_index zs j)
-xor_at xs ys zs n j lx ly lz h =
-    zip2_at bit_xor (zip2 bit_xor xs ys) zs n j (zip2_length bit_xor xs ys n lx ly) lz h
-    ∙ ap (λ (a : ℕ). bit_xor a (slice_index zs j)) (zip2_at bit_xor xs ys n j lx ly h)
 
 pub ch_at : (w : Width) (xs ys zs : List ℕ) (n j : ℕ) → length xs ≡ n → length ys ≡ n → length zs ≡ n → j < n
     → slice_index (zip2 bit_xor (zip2 bit_and xs ys) (zip2 bit_and (map (bit_not w) xs) zs)) j ≡ bit_xor

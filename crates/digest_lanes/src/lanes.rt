@@ -39,10 +39,10 @@ fn maj(x: u32x8, y: u32x8, z: u32x8) -> u32x8
 }
 
 #[inline(always)]
-fn xor(x: u32x8, y: u32x8, z: u32x8) -> u32x8
-    ensures { (j : ℕ) → j < 8 → slice_index result j ≡ bit_xor (bit_xor (slice_index x j) (slice_index y j)) (slice_index z j) }
+fn xor(x: u32x8, y: u32x8) -> u32x8
+    ensures { (j : ℕ) → j < 8 → slice_index result j ≡ bit_xor (slice_index x j) (slice_index y j) }
 {
-    x ^ y ^ z
+    x ^ y
 }
 
 #[inline(always)]
@@ -53,44 +53,49 @@ fn shift_right(x: u32x8, k: u32) -> u32x8
     x >> u32x8::splat(k)
 }
 
+// The rotations are nested, each within the one before: fewer copies of `x` than three rotations of it.
 #[inline(always)]
 fn big_sigma0(x: u32x8) -> u32x8
     ensures { (j : ℕ) → j < 8 → slice_index result j ≡ big_sigma0 (slice_index x j) }
 {
-    let a = rotate_right(x, 2);
-    let b = rotate_right(x, 13);
-    let c = rotate_right(x, 22);
-    xor(a, b, c)
+    let a = rotate_right(x, 9);
+    let b = xor(x, a);
+    let c = rotate_right(b, 11);
+    let d = xor(x, c);
+    rotate_right(d, 2)
 }
 
 #[inline(always)]
 fn big_sigma1(x: u32x8) -> u32x8
     ensures { (j : ℕ) → j < 8 → slice_index result j ≡ big_sigma1 (slice_index x j) }
 {
-    let a = rotate_right(x, 6);
-    let b = rotate_right(x, 11);
-    let c = rotate_right(x, 25);
-    xor(a, b, c)
+    let a = rotate_right(x, 14);
+    let b = xor(x, a);
+    let c = rotate_right(b, 5);
+    let d = xor(x, c);
+    rotate_right(d, 6)
 }
 
 #[inline(always)]
 fn small_sigma0(x: u32x8) -> u32x8
     ensures { (j : ℕ) → j < 8 → slice_index result j ≡ small_sigma0 (slice_index x j) }
 {
-    let a = rotate_right(x, 7);
-    let b = rotate_right(x, 18);
-    let c = shift_right(x, 3);
-    xor(a, b, c)
+    let a = rotate_right(x, 11);
+    let b = xor(x, a);
+    let c = rotate_right(b, 7);
+    let d = shift_right(x, 3);
+    xor(c, d)
 }
 
 #[inline(always)]
 fn small_sigma1(x: u32x8) -> u32x8
     ensures { (j : ℕ) → j < 8 → slice_index result j ≡ small_sigma1 (slice_index x j) }
 {
-    let a = rotate_right(x, 17);
-    let b = rotate_right(x, 19);
-    let c = shift_right(x, 10);
-    xor(a, b, c)
+    let a = rotate_right(x, 2);
+    let b = xor(x, a);
+    let c = rotate_right(b, 17);
+    let d = shift_right(x, 10);
+    xor(c, d)
 }
 
 #[inline(always)]

@@ -28,7 +28,7 @@ fn an_open_gives_both_stores_back(rt: HostRuntime) -> Result<(), Fail> {
     let alloc = rt.alloc();
     let kept = volume_of(alloc, 17)?;
     let mut volume = volume_of(alloc, 17)?;
-    for steps in 0..1000 {
+    for steps in 0..2000 {
         match open_in(alloc, steps * STEP, volume)? {
             Ok(root) => {
                 assert_eq!(rt; root, kept.root);

@@ -8,3 +8,5 @@ pub mod Finishes
 pub mod Compares
 pub mod Closings
 pub mod Ahead
+pub mod Comings
+pub mod Trees

@@ -1,6 +1,10 @@
 pub mod Open
 pub mod Filled
 pub mod Climb
+pub mod Waits
+pub mod Kept
+pub mod Coming
+pub mod Opens
 pub mod Progress
 pub mod Device
 pub mod Parameters

@@ -15,6 +15,7 @@ ghost use Rattle.verity_build.specs.Faults.{CanBuild, Explains};
 ghost use Rattle.verity_build.specs.Climb.{AreEmpty};
 ghost use Rattle.verity_build.specs.Progress.{Growing, Grown, Settling, IsRight};
 ghost use Rattle.verity_build.specs.Device.{AreStored, StaysRight, StaysStored, WritesFrom};
+ghost use Rattle.verity_build.specs.Opens.{opens};
 
 use crate::leaves::{Leaves, bytes_at_a_time};
 use crate::open_tree::OpenTree;
@@ -33,19 +34,19 @@ fn write_done<A: Allocator, H: BlockStore>(
     start: u64,
     blocks: u64,
 ) -> Result<(), StoreFault>
-    requires come { Settling (digests_per_block tree.old.geometry) blocks tree.old.geometry.blocks 0 tree.old.blocks.items tree.old.root }
+    requires come { Settling (digests_per_block tree.old.geometry) blocks tree.old.geometry.blocks 0 (opens tree.old) tree.old.root }
     requires few { blocks ≤ tree.old.geometry.blocks }
     requires near { start ≤ 2 ^ 40 }
     requires room { start + total_of tree.old.geometry ≤ length (H.content hash_store.old) }
     requires size { H.size hash_store.old ≡ tree.old.geometry.hash_size }
     ensures growing { OnOk result (blocks < tree.old.geometry.blocks
-        → Growing (digests_per_block tree.old.geometry) blocks tree.new.blocks.items tree.new.root) }
+        → Growing (digests_per_block tree.old.geometry) blocks (opens tree.new) tree.new.root) }
     ensures grown { OnOk result (blocks ≡ tree.old.geometry.blocks
-        → Grown (digests_per_block tree.old.geometry) blocks tree.new.blocks.items tree.new.root) }
+        → Grown (digests_per_block tree.old.geometry) blocks (opens tree.new) tree.new.root) }
     ensures right { OnOk result (let h = hashing tree.old.hasher.salted tree.old.geometry.hash_size in
-        StaysRight h tree.old.geometry.blocks tree.old.blocks.items tree.old.root tree.new.blocks.items tree.new.root) }
+        StaysRight h tree.old.geometry.blocks (opens tree.old) tree.old.root (opens tree.new) tree.new.root) }
     ensures stored { OnOk result (H.tells hash_store.old ≡ true → let h = hashing tree.old.hasher.salted tree.old.geometry.hash_size in
-        StaysStored h tree.old.geometry start tree.old.blocks.items tree.old.root (H.content hash_store.old) tree.new.blocks.items
+        StaysStored h tree.old.geometry start (opens tree.old) tree.old.root (H.content hash_store.old) (opens tree.new)
         (H.content hash_store.new)) }
     ensures salted { tree.new.hasher.salted ≡ tree.old.hasher.salted }
     ensures geometry { tree.new.geometry ≡ tree.old.geometry }
@@ -54,10 +55,11 @@ fn write_done<A: Allocator, H: BlockStore>(
     ensures unfailed { OnOk result (H.failures hash_store.new ≡ H.failures hash_store.old) }
 {
     let last = blocks == tree.geometry.blocks();
-    for level in 0..tree.geometry.levels() {
+    for level in 0..tree.levels() {
         if !last && !tree.is_full(level) {
             return Ok(());
         }
+        tree.settle(level);
         let index = tree.index(level);
         let place = tree.geometry.place(level, index);
         hash_store.write(start + place, tree.block(level))?;
@@ -74,7 +76,7 @@ fn write_tree<A: Allocator, D: BlockStore, H: BlockStore>(
     start: u64,
     buffer: &mut [u8],
 ) -> Result<(), Which>
-    requires empty { AreEmpty tree.old.blocks.items }
+    requires empty { AreEmpty (opens tree.old) }
     requires rootless { tree.old.root ≡ None }
     requires blocks { length (D.content data_store.old) ≡ tree.old.geometry.blocks }
     requires data_size { D.size data_store.old ≡ tree.old.geometry.data_size }
@@ -82,12 +84,12 @@ fn write_tree<A: Allocator, D: BlockStore, H: BlockStore>(
     requires hash_size { H.size hash_store.old ≡ tree.old.geometry.hash_size }
     requires near { start ≤ 2 ^ 40 }
     requires room { start + total_of tree.old.geometry ≤ length (H.content hash_store.old) }
-    ensures grown { OnOk result (Grown (digests_per_block tree.old.geometry) tree.old.geometry.blocks tree.new.blocks.items tree.new.root) }
+    ensures grown { OnOk result (Grown (digests_per_block tree.old.geometry) tree.old.geometry.blocks (opens tree.new) tree.new.root) }
     ensures right { OnOk result (D.tells data_store.old ≡ true → let h = hashing tree.old.hasher.salted tree.old.geometry.hash_size in
-        IsRight h (D.content data_store.old) tree.new.blocks.items tree.new.root) }
+        IsRight h (D.content data_store.old) (opens tree.new) tree.new.root) }
     ensures stored { OnOk result (D.tells data_store.old ≡ true → H.tells hash_store.old ≡ true
         → let h = hashing tree.old.hasher.salted tree.old.geometry.hash_size in
-        AreStored tree.old.geometry start (tree_of h (D.content data_store.old)) tree.new.blocks.items (H.content hash_store.new)) }
+        AreStored tree.old.geometry start (tree_of h (D.content data_store.old)) (opens tree.new) (H.content hash_store.new)) }
     ensures geometry { tree.new.geometry ≡ tree.old.geometry }
     ensures data_store { IsOnlyRead D.BlockStore data_store.old data_store.new }
     ensures data_reads { OnOk result (D.reads data_store.new ≡ D.reads data_store.old + tree.old.geometry.blocks) }
@@ -145,7 +147,7 @@ fn write_device<A: Allocator, D: BlockStore, H: BlockStore>(
     superblock: &[u8],
     buffer: &mut [u8],
 ) -> Result<Digest, Which>
-    requires empty { AreEmpty tree.old.blocks.items }
+    requires empty { AreEmpty (opens tree.old) }
     requires rootless { tree.old.root ≡ None }
     requires blocks { length (D.content data_store.old) ≡ tree.old.geometry.blocks }
     requires data_size { D.size data_store.old ≡ tree.old.geometry.data_size }
@@ -241,9 +243,12 @@ pub fn build<A: Allocator + Copy, P: Allocator, D: BlockStore, H: BlockStore>(
 /// U2 the hash store's content is open, but for the blocks in front, which are as they were.
 ///
 /// It reads and hashes each data block once, and hashes and writes each block of the tree once. It takes
-/// memory for the salt, twice, for one hash block a level, and for one buffer, all of it before the first
-/// write, as is the hash store's room. The buffer has the bytes of the data blocks that are hashed at a time
-/// (eight, or fewer where eight are more than 512 KiB, at least one), or of a hash block where that is longer.
+/// memory for the salt, twice, for hash blocks of each level, and for one buffer, all of it before the first
+/// write, as is the hash store's room. A level has the block that is being filled, and eight more that wait to be
+/// hashed side by side, or as many as 64 KiB hold where these are fewer, at least one. The buffer has the bytes of
+/// the data blocks that are read at a time, or of a hash block where that is longer: of as many data blocks as 64 KiB
+/// hold, or of eight where these are more, but of no more than a hash block has digests for, or 512 KiB hold, at
+/// least one.
 pub fn build_at<A: Allocator + Copy, P: Allocator, D: BlockStore, H: BlockStore>(
     alloc: A,
     data_store: &mut D,
@@ -282,7 +287,7 @@ pub fn build_at<A: Allocator + Copy, P: Allocator, D: BlockStore, H: BlockStore>
 {
     let (start, mut tree) = prepare(alloc, data_store, hash_store, params, offset)?;
     let superblock = superblock_of(alloc, &tree.geometry, params)?;
-    let size = bytes_at_a_time(tree.geometry.data_size()).max(tree.geometry.hash_size());
+    let size = bytes_at_a_time(&tree.geometry).max(tree.geometry.hash_size());
     let mut buffer = Vec::from_elem(alloc, 0u8, size)?;
     let Ok(()) = hash_store.reserve(start + tree.geometry.total()) else {
         return Err(BuildFault::NoMemory);

@@ -13,6 +13,7 @@ ghost use Rattle.verity_build.specs.Climb.{AreEmpty};
 ghost use Rattle.verity_build.specs.Progress.{closed, Growing, Grown, Settling, IsRight};
 ghost use Rattle.verity_build.specs.Device.{StaysRight};
 ghost use Rattle.verity_build.specs.Differences as spec;
+ghost use Rattle.verity_build.specs.Opens.{opens};
 
 use crate::leaves::{Leaves, bytes_at_a_time};
 use crate::open_tree::OpenTree;
@@ -75,36 +76,37 @@ fn compare_done<A: Allocator, H: BlockStore>(
     hash_block: &mut [u8],
     found_before: Option<Place>,
 ) -> Result<Option<Place>, StoreFault>
-    requires come { Settling (digests_per_block tree.old.geometry) blocks tree.old.geometry.blocks 0 tree.old.blocks.items tree.old.root }
+    requires come { Settling (digests_per_block tree.old.geometry) blocks tree.old.geometry.blocks 0 (opens tree.old) tree.old.root }
     requires few { blocks ≤ tree.old.geometry.blocks }
     requires near { start ≤ 2 ^ 40 }
     requires size { H.size hash_store.old ≡ tree.old.geometry.hash_size }
     requires room { length hash_block.old ≡ tree.old.geometry.hash_size }
     ensures growing { OnOk result (blocks < tree.old.geometry.blocks
-        → Growing (digests_per_block tree.old.geometry) blocks tree.new.blocks.items tree.new.root) }
+        → Growing (digests_per_block tree.old.geometry) blocks (opens tree.new) tree.new.root) }
     ensures grown { OnOk result (blocks ≡ tree.old.geometry.blocks
-        → Grown (digests_per_block tree.old.geometry) blocks tree.new.blocks.items tree.new.root) }
+        → Grown (digests_per_block tree.old.geometry) blocks (opens tree.new) tree.new.root) }
     ensures right { OnOk result (let h = hashing tree.old.hasher.salted tree.old.geometry.hash_size in
-        StaysRight h tree.old.geometry.blocks tree.old.blocks.items tree.old.root tree.new.blocks.items tree.new.root) }
+        StaysRight h tree.old.geometry.blocks (opens tree.old) tree.old.root (opens tree.new) tree.new.root) }
     ensures compared { IfOk result (λ found. H.tells hash_store.old ≡ true
         → let h = hashing tree.old.hasher.salted tree.old.geometry.hash_size in
-        spec.StaysCompared h tree.old.geometry start (H.content hash_store.old) tree.old.blocks.items tree.old.root found_before
-        tree.new.blocks.items found) }
+        spec.StaysCompared h tree.old.geometry start (H.content hash_store.old) (opens tree.old) tree.old.root found_before
+        (opens tree.new) found) }
     ensures salted { tree.new.hasher.salted ≡ tree.old.hasher.salted }
     ensures geometry { tree.new.geometry ≡ tree.old.geometry }
     ensures read { IsOnlyRead H.BlockStore hash_store.old hash_store.new }
     ensures failed { OnErr result (H.failures hash_store.old < H.failures hash_store.new) }
     ensures unfailed { OnOk result (H.failures hash_store.new ≡ H.failures hash_store.old) }
-    ensures reads { OnOk result (H.reads hash_store.new + closed tree.old.blocks.items ≤ H.reads hash_store.old + closed
-        tree.new.blocks.items) }
-    ensures reads_most { H.reads hash_store.new + closed tree.old.blocks.items ≤ H.reads hash_store.old + total_of tree.old.geometry }
+    ensures reads { OnOk result (H.reads hash_store.new + closed (opens tree.old) ≤ H.reads hash_store.old + closed
+        (opens tree.new)) }
+    ensures reads_most { H.reads hash_store.new + closed (opens tree.old) ≤ H.reads hash_store.old + total_of tree.old.geometry }
 {
     let mut found = found_before;
     let last = blocks == tree.geometry.blocks();
-    for level in 0..tree.geometry.levels() {
+    for level in 0..tree.levels() {
         if !last && !tree.is_full(level) {
             return Ok(found);
         }
+        tree.settle(level);
         let index = tree.index(level);
         let place = start + tree.geometry.place(level, index);
         if !holds(hash_store, place, tree.block(level), hash_block)? {
@@ -125,7 +127,7 @@ fn compare_tree<A: Allocator, D: BlockStore, H: BlockStore>(
     buffer: &mut [u8],
     hash_block: &mut [u8],
 ) -> Result<Option<Place>, Which>
-    requires empty { AreEmpty tree.old.blocks.items }
+    requires empty { AreEmpty (opens tree.old) }
     requires rootless { tree.old.root ≡ None }
     requires blocks { length (D.content data_store.old) ≡ tree.old.geometry.blocks }
     requires data_size { D.size data_store.old ≡ tree.old.geometry.data_size }
@@ -133,12 +135,12 @@ fn compare_tree<A: Allocator, D: BlockStore, H: BlockStore>(
     requires hash_size { H.size hash_store.old ≡ tree.old.geometry.hash_size }
     requires room { length hash_block.old ≡ tree.old.geometry.hash_size }
     requires near { start ≤ 2 ^ 40 }
-    ensures grown { OnOk result (Grown (digests_per_block tree.old.geometry) tree.old.geometry.blocks tree.new.blocks.items tree.new.root) }
+    ensures grown { OnOk result (Grown (digests_per_block tree.old.geometry) tree.old.geometry.blocks (opens tree.new) tree.new.root) }
     ensures right { OnOk result (D.tells data_store.old ≡ true → let h = hashing tree.old.hasher.salted tree.old.geometry.hash_size in
-        IsRight h (D.content data_store.old) tree.new.blocks.items tree.new.root) }
+        IsRight h (D.content data_store.old) (opens tree.new) tree.new.root) }
     ensures compared { IfOk result (λ found. D.tells data_store.old ≡ true → H.tells hash_store.old ≡ true
         → let h = hashing tree.old.hasher.salted tree.old.geometry.hash_size in
-        spec.AreCompared tree.old.geometry start (tree_of h (D.content data_store.old)) tree.new.blocks.items
+        spec.AreCompared tree.old.geometry start (tree_of h (D.content data_store.old)) (opens tree.new)
         (H.content hash_store.old) found) }
     ensures geometry { tree.new.geometry ≡ tree.old.geometry }
     ensures data_store { IsOnlyRead D.BlockStore data_store.old data_store.new }
@@ -207,9 +209,8 @@ pub fn compare<A: Allocator + Copy, P: Allocator, D: BlockStore, H: BlockStore>(
 /// U2 with the store of which a read failed.
 ///
 /// It reads and hashes each data block once, and reads each block of the tree at most once, and hashes
-/// it from its digests once. It takes memory for the salt, one hash block a level, the data blocks that
-/// are read at a time (eight, or fewer where eight are more than 512 KiB, at least one) and a hash block,
-/// all before the first read.
+/// it from its digests once. It takes memory for the salt, the hash blocks of each level and the data blocks that are
+/// read at a time, as many as `build_at` does, and for a hash block, all before the first read.
 pub fn compare_at<A: Allocator + Copy, P: Allocator, D: BlockStore, H: BlockStore>(
     alloc: A,
     data_store: &mut D,
@@ -239,7 +240,7 @@ pub fn compare_at<A: Allocator + Copy, P: Allocator, D: BlockStore, H: BlockStor
         → (D.failures data_store.new ≡ D.failures data_store.old) × (H.failures hash_store.new ≡ H.failures hash_store.old)) }
 {
     let (start, mut tree) = prepare(alloc, data_store, hash_store, params, offset)?;
-    let mut buffer = Vec::from_elem(alloc, 0u8, bytes_at_a_time(tree.geometry.data_size()))?;
+    let mut buffer = Vec::from_elem(alloc, 0u8, bytes_at_a_time(&tree.geometry))?;
     let mut hash_block = Vec::from_elem(alloc, 0u8, tree.geometry.hash_size())?;
     let found = compare_tree(
         &mut tree,

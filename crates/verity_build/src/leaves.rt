@@ -1,38 +1,57 @@
 //! The digests of the data blocks in their order, of which several are made at a time.
-ghost use Rattle.std.specs.Prelude.{◌≡◌, ◌+◌, ◌-◌, ◌^◌, ◌<◌, ◌≤◌, [], true, length, slice_index_or, OnOk, OnErr, IfOk, IfErr};
+ghost use Rattle.std.specs.Prelude.{◌≡◌, ◌+◌, ◌-◌, ◌%◌, ◌^◌, ◌<◌, ◌≤◌, [], true, length, slice_index_or, OnOk, OnErr, IfOk, IfErr};
 ghost use Rattle.verity_digest.specs.Hash.{size_of, salted_digest};
 ghost use Rattle.verity_store.specs.Stores.{IsOnlyRead};
 ghost use Rattle.verity_build.specs.Ahead.{AreAhead};
+ghost use Rattle.verity_build.specs.Opens.{opens};
 
 use crate::open_tree::OpenTree;
 use std::alloc::Allocator;
 use verity_digest::Digest;
+use verity_geometry::Geometry;
 use verity_store::{BlockStore, Which};
 
 /// How many data blocks are hashed side by side.
-const AT_A_TIME: usize = 8;
+const SIDE_BY_SIDE: usize = 8;
+
+/// How many data blocks are read at a time at most.
+const AT_A_TIME: usize = 128;
+
+/// Up to how many bytes more than eight data blocks are read at a time.
+const SHORT_RUN: usize = 65_536;
 
 /// How many bytes of data blocks are read at a time, but for single blocks that are longer.
-const BYTES_AT_A_TIME: usize = 524_288;
+const LONGEST_RUN: usize = 524_288;
 
-/// The bytes of the data blocks that are read at a time: of eight, or of fewer where eight would be more than 512 KiB.
-pub(crate) fn bytes_at_a_time(block_size: usize) -> usize
-    ensures { block_size ≤ result }
+/// The bytes of the data blocks that are read at a time: of as many as 64 KiB hold or of eight, whichever is more, but of no
+/// more than a hash block has digests for, 128 or 512 KiB hold. One is read in any case.
+pub(crate) fn bytes_at_a_time(geometry: &Geometry) -> usize
+    ensures { geometry.now.data_size ≤ result }
 {
-    block_size
-        .saturating_mul(AT_A_TIME)
-        .min(BYTES_AT_A_TIME)
-        .max(block_size)
+    let size = geometry.data_size();
+    size.saturating_mul(geometry.per_block().min(AT_A_TIME))
+        .min(size.saturating_mul(SIDE_BY_SIDE).max(SHORT_RUN))
+        .min(LONGEST_RUN)
+        .max(size)
+}
+
+/// How many data blocks there are from `n` on up to the last whose digest comes to the same hash block.
+fn left_in_hash_block(n: u64, per_block: usize) -> usize
+    requires { 0 < per_block }
+    ensures some { 0 < result }
+    ensures end { (n + result) % per_block ≡ 0 }
+{
+    per_block - (n % per_block as u64) as usize
 }
 
 /// Digests of data blocks that were made ahead of their turn: those from `taken` to before `held`.
 #[derive(Drop)]
 pub(crate) struct Leaves {
-    digests: [Digest; 8],
+    digests: [Digest; 128],
     taken: usize,
     held: usize,
     ghost order: { taken ≤ held },
-    ghost most: { held ≤ 8 },
+    ghost most: { held ≤ 128 },
 }
 
 impl Leaves {
@@ -42,14 +61,14 @@ impl Leaves {
         ensures held { result.held ≡ 0 }
     {
         Leaves {
-            digests: [Digest::from_bytes([0; 32]); 8],
+            digests: [Digest::from_bytes([0; 32]); 128],
             taken: 0,
             held: 0,
         }
     }
 
-    /// Reads the data blocks from `n` on for which `buffer` has room, eight at most, and makes their digests. The data store
-    /// where a read failed.
+    /// Reads the data blocks from `n` on for which `buffer` has room, up to the last whose digest comes to the same hash block,
+    /// 128 at most, and makes their digests. The data store where a read failed.
     fn fill<A: Allocator, D: BlockStore>(
         &mut self,
         tree: &mut OpenTree<A>,
@@ -70,14 +89,18 @@ impl Leaves {
         ensures which { IfErr result (λ which. which ≡ Which.Data) }
         ensures failed { OnErr result (D.failures data_store.old < D.failures data_store.new) }
         ensures unfailed { OnOk result (D.failures data_store.new ≡ D.failures data_store.old) }
-        ensures opens { tree.new.blocks.items ≡ tree.old.blocks.items }
+        ensures opens { opens tree.new ≡ opens tree.old }
         ensures root { tree.new.root ≡ tree.old.root }
         ensures salted { tree.new.hasher.salted ≡ tree.old.hasher.salted }
         ensures geometry { tree.new.geometry ≡ tree.old.geometry }
     {
         let size = tree.geometry.data_size();
         let left = tree.geometry.blocks() - n;
-        let count = (buffer.len() / size).min(AT_A_TIME).min(left as usize);
+        // No further than the hash block that these digests fill: it is written before a block behind them is read.
+        let count = (buffer.len() / size)
+            .min(AT_A_TIME)
+            .min(left as usize)
+            .min(left_in_hash_block(n, tree.geometry.per_block()));
         let run = &mut buffer[..count * size];
         let Ok(()) = data_store.read_run(n, count, run) else {
             return Err(Which::Data);
@@ -89,7 +112,7 @@ impl Leaves {
     }
 
     /// The digest of data block `n`, whose turn it is. Where none is ahead, the blocks from `n` on are read into `buffer`, as
-    /// many as it has room for, eight at most.
+    /// many as it has room for, up to the last whose digest comes to the same hash block, 128 at most.
     ///
     /// The data store where a read failed.
     pub(crate) fn next<A: Allocator, D: BlockStore>(
@@ -117,7 +140,7 @@ impl Leaves {
         ensures which { IfErr result (λ which. which ≡ Which.Data) }
         ensures failed { OnErr result (D.failures data_store.old < D.failures data_store.new) }
         ensures unfailed { OnOk result (D.failures data_store.new ≡ D.failures data_store.old) }
-        ensures opens { tree.new.blocks.items ≡ tree.old.blocks.items }
+        ensures opens { opens tree.new ≡ opens tree.old }
         ensures root { tree.new.root ≡ tree.old.root }
         ensures salted { tree.new.hasher.salted ≡ tree.old.hasher.salted }
         ensures geometry { tree.new.geometry ≡ tree.old.geometry }

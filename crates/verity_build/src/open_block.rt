@@ -1,5 +1,6 @@
 //! A hash block that is being filled.
-ghost use Rattle.std.specs.Prelude.{◌≡◌, ◌+◌, ◌/◌, ◌^◌, ◌<◌, ◌≤◌, ◌↔◌, ◌++◌, ◌∷◌, [], length, vec_len, take, drop, IsTrue, IfOk};
+ghost use Rattle.std.specs.Prelude.{◌≡◌, ℕ, ◌+◌, ◌/◌, ◌^◌, ◌<◌, ◌≤◌, ◌↔◌, ◌++◌, ◌∷◌, [], length, vec_len, take, drop};
+ghost use Rattle.std.specs.Prelude.{slice_index_or, IsTrue, IfOk};
 ghost use Rattle.verity_digest.specs.Tree.{Hashing, hash_block};
 
 use std::alloc::{AllocError, Allocator, Global};
@@ -29,7 +30,7 @@ impl<A: Allocator> Model for OpenBlock<A> {
 }
 
 // Writes `part` over the bytes from `at` on.
-fn write_over<A: Allocator>(bytes: &mut Vec<u8, A>, at: usize, part: &[u8])
+pub(crate) fn write_over<A: Allocator>(bytes: &mut Vec<u8, A>, at: usize, part: &[u8])
     requires { at + length part.now ≤ vec_len bytes.old }
     ensures { bytes.new.items ≡ take at bytes.old.items ++ (part.now ++ drop (at + length part.now) bytes.old.items) }
 {
@@ -54,11 +55,12 @@ impl<A: Allocator> OpenBlock<A> {
         })
     }
 
-    /// Whether no digest fits in any more.
-    pub(crate) fn is_full(&self) -> bool
-        ensures { IsTrue result ↔ (length self.now.digests ≡ most self.now) }
+    /// Whether no digest fits in any more behind so many that come to it.
+    pub(crate) fn is_full(&self, coming: usize) -> bool
+        requires { length self.now.digests + coming ≤ most self.now }
+        ensures { IsTrue result ↔ (length self.now.digests + coming ≡ most self.now) }
     {
-        self.filled == self.bytes.len() / self.digest_size
+        self.bytes.len() - (self.filled + coming) * self.digest_size < self.digest_size
     }
 
     /// Its index in its level.
@@ -85,6 +87,17 @@ impl<A: Allocator> OpenBlock<A> {
         let at = self.filled * self.digest_size;
         write_over(&mut self.bytes, at, digest.bytes());
         self.filled += 1;
+    }
+
+    /// Puts digests behind those that are in it, in their order.
+    pub(crate) fn put_all(&mut self, digests: &[Digest])
+        requires sized { (j : ℕ) → j < length digests.now → length (slice_index_or digests.now j []) ≡ self.old.digest_size }
+        requires room { length self.old.digests + length digests.now ≤ most self.old }
+        ensures { self.new ≡ record self.old { digests = self.old.digests ++ digests.now } }
+    {
+        'each: for j in 0..digests.len() {
+            self.put(&digests[j]);
+        }
     }
 
     /// Goes on to the next block of the level, with no digest in it yet.

@@ -6,6 +6,7 @@ ghost use Rattle.verity_superblock.specs.Superblock.{superblock};
 ghost use Rattle.verity_build.specs.Climb.{AreEmpty};
 ghost use Rattle.verity_build.specs.Parameters.{salted_by, shape_over, volume};
 ghost use Rattle.verity_build.specs.Faults.{CanBuild, Explains};
+ghost use Rattle.verity_build.specs.Opens.{opens};
 
 use crate::open_tree::OpenTree;
 use crate::{BuildFault, Params};
@@ -29,7 +30,7 @@ pub(crate) fn prepare<A: Allocator + Copy, P: Allocator, D: BlockStore, H: Block
     ensures geometry { IfOk result (λ made. made.1.geometry ≡ shape_over params.now (D.size data_store.now) (H.size hash_store.now)
         (length (D.content data_store.now))) }
     ensures salted { IfOk result (λ made. made.1.hasher.salted ≡ salted_by params.now) }
-    ensures empty { IfOk result (λ made. AreEmpty made.1.blocks.items) }
+    ensures empty { IfOk result (λ made. AreEmpty (opens made.1)) }
     ensures rootless { IfOk result (λ made. made.1.root ≡ None) }
     ensures ok { OnOk result (CanBuild (length (D.content data_store.now)) offset (H.size hash_store.now)) }
     ensures fault { IfErr result (Explains (length (D.content data_store.now)) offset (H.size hash_store.now) ⊥ ⊥) }

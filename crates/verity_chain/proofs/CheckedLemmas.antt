@@ -68,12 +68,13 @@ module _ {H : Type 0} (hash : store.Ghosts H) (c : Checking H) (new : H) (notes 
     (checked : AreChecked c.table notes) (noted : WereGiven hash c.since new notes) (keeps : KeepsNotes c.notes notes)
     (first : c.refusal ≡ None) (apart : AreApart notes) where
   -- a read that was answered
-  pub checking_answered : (given : List (ℕ × List ℕ)) (asked n : ℕ) (block : List ℕ) → given ≡ c.given ++ (n, block) ∷ [] →
+  pub checking_answered : (given : List (ℕ × List ℕ)) (hashed asked n : ℕ) (block : List ℕ) → given ≡ c.given ++ (n, block) ∷ [] →
       IsAnswer c.table notes n block → hash.failures new ≡ hash.failures c.hash_store
       → ((set : ℕ → ℕ → Bool) → IsUpward c.table set → AsksWithin c.table set n → NotesWithin c.table set c.notes notes)
       → hash.reads new + length c.notes ≡ hash.reads c.hash_store + length notes
-      → IsChecking hash (record c { hash_store = new; notes = notes; given = given; asked = asked })
-  checking_answered given asked n block added answer unfailed within reads = record {
+      → hashed + hash.reads c.hash_store ≡ c.hashed + hash.reads new
+      → IsChecking hash (record c { hash_store = new; notes = notes; given = given; hashed = hashed; asked = asked })
+  checking_answered given hashed asked n block added answer unfailed within reads once = record {
     store = store_later hash c.table c.hash_store new read is.store;
     blocks = is.blocks;
     since = is.since;
@@ -105,15 +106,25 @@ module _ {H : Type 0} (hash : store.Ghosts H) (c : Checking H) (new : H) (notes 
         (within set asks.0 (has_now n block (Contains-push c.given (n, block))) m has);
     reads = λ none. let before = is.reads first in omega (arith, reads);
     few = λ some. absurd (some first);
+    hashed = let before = is.hashed in omega (arith, once);
+    hashed_each = λ none. let before = is.hashed_each first in omega (arith, once);
   }
 
   -- a read that was refused
-  pub checking_refused : (asked refused : ℕ) (why : ReadRefused) → refused ≡ c.refused + 1
+  pub checking_refused : (hashed asked refused : ℕ) (why : ReadRefused) → refused ≡ c.refused + 1
       → ExplainsUnread c.table (hash_given hash c.table c.since new) (hash.failures c.hash_store < hash.failures new) why
       → (why ≢ variant.Store → hash.failures new ≡ hash.failures c.hash_store)
       → hash.reads new ≤ hash.reads c.hash_store + height c.table
-      → IsChecking hash (record c { hash_store = new; notes = notes; asked = asked; refused = refused; refusal = Some why })
-  checking_refused asked refused why more explains unfailed path = record {
+      → hashed + hash.reads c.hash_store ≤ c.hashed + hash.reads new
+      → IsChecking hash (record c {
+        hash_store = new;
+        notes = notes;
+        hashed = hashed;
+        asked = asked;
+        refused = refused;
+        refusal = Some why;
+      })
+  checking_refused hashed asked refused why more explains unfailed path once = record {
     store = store_later hash c.table c.hash_store new read is.store;
     blocks = is.blocks;
     since = is.since;
@@ -136,6 +147,8 @@ module _ {H : Type 0} (hash : store.Ghosts H) (c : Checking H) (new : H) (notes 
         let before = is.reads first in
         let most = few_notes c.notes places is.apart (λ n has. covers n (is.within first set asks n has)) in
         omega (arith, path);
+    hashed = let before = is.hashed in omega (arith, once);
+    hashed_each = λ none. absurd (some_not_none why none);
   }
 
 -- a read that was refused since one was before
@@ -159,6 +172,8 @@ checking_again hash c asked refused was more is = record {
   within = is.within;
   reads = is.reads;
   few = is.few;
+  hashed = is.hashed;
+  hashed_each = λ none. absurd (was none);
 }
 
 -- one of which nothing was read
@@ -190,6 +205,8 @@ checking_unread hash t h is = record {
   within = λ none set asks n has. absurd (omega (arith, has.1));
   reads = λ none. omega arith;
   few = λ some. absurd (some refl);
+  hashed = omega arith;
+  hashed_each = λ none. omega arith;
 }
 
 -- how much was read of the store below, where what was asked for is in a set of places

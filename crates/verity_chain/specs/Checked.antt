@@ -15,14 +15,15 @@ abbrev pub IsAnswer : Table → List Note → ℕ → List ℕ → Type 0
 IsAnswer t notes n block = ((n < t.hash_start_block) × (block ≡ zero_block t.hash_block_size)) ⊎
     Contains notes (record { number = n; block = block })
 
--- the table line; the store below; the blocks that were read of it; those that were given; how many reads were asked for, and how
--- many refused; why the first of these was; how many blocks there are; how many blocks the store below had given when this one was
--- made; and all that was true of it then
+-- the table line; the store below; the blocks that were read of it; those that were given; how many digests were made of blocks that
+-- were read; how many reads were asked for, and how many refused; why the first of these was; how many blocks there are; how many
+-- blocks the store below had given when this one was made; and all that was true of it then
 pub record Checking (H : Type 0) : Type 0 where
   pub table : Table
   pub hash_store : H
   pub notes : List Note
   pub given : List (ℕ × List ℕ)
+  pub hashed : ℕ
   pub asked : ℕ
   pub refused : ℕ
   pub refusal : Option ReadRefused
@@ -66,6 +67,9 @@ pub record IsChecking {H : Type 0} (hash : store.Ghosts H) (c : Checking H) : Ty
   -- A read that was refused may have read a whole path.
   pub few : c.refusal ≢ None → (set : ℕ → ℕ → Bool) → AsksOnly c.table set c.given → (places : List ℕ) → Covers c.table set places
       → hash.reads c.hash_store ≤ was.reads + length places + height c.table
+  -- Each block that was read was hashed once.
+  pub hashed : c.hashed + was.reads ≤ hash.reads c.hash_store
+  pub hashed_each : c.refusal ≡ None → c.hashed + was.reads ≡ hash.reads c.hash_store
 
 -- nothing was read yet
 abbrev pub unread : {H : Type 0} → store.Ghosts H → Table → H → Checking H
@@ -74,6 +78,7 @@ unread hash t h = record {
   hash_store = h;
   notes = [];
   given = [];
+  hashed = 0;
   asked = 0;
   refused = 0;
   refusal = None;

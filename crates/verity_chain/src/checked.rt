@@ -23,8 +23,9 @@ use verity_superblock::Table;
 ///
 /// A read is refused, with S1, where a block hasn't that digest, where the store below failed, and where memory was refused;
 /// `refusal` says which of these it was, and from then on each read is refused and asks nothing. It takes memory for each block
-/// that was read. It doesn't tell: what is written to it goes nowhere. Its `fixed` is its table line and what was true of
-/// the store below when this one was made, so no call puts another store in its place unseen.
+/// that was read, and makes one digest of it, which is counted. It doesn't tell: what is written to it goes nowhere. Its `fixed`
+/// is its table line and what was true of the store below when this one was made, so no call puts another store in its place
+/// unseen.
 #[derive(Drop)]
 pub struct Checked<H: BlockStore, A: Allocator + Copy + Drop = Global> {
     alloc: A,
@@ -32,6 +33,7 @@ pub struct Checked<H: BlockStore, A: Allocator + Copy + Drop = Global> {
     hash_store: H,
     notes: Vec<Noted<A>, A>,
     given: Given,
+    hashed: Count,
     asked: Count,
     refused: Count,
     refusal: Option<ReadRefused>,
@@ -50,6 +52,7 @@ impl<H: BlockStore, A: Allocator + Copy + Drop> Model for Checked<H, A> {
       hash_store = s.hash_store;
       notes = s.notes.items;
       given = s.given.blocks;
+      hashed = s.hashed.steps;
       asked = s.asked.steps;
       refused = s.refused.steps;
       refusal = s.refusal;
@@ -63,6 +66,7 @@ impl<H: BlockStore, A: Allocator + Copy + Drop> Model for Checked<H, A> {
       hash_store = s.hash_store;
       notes = s.notes.items;
       given = s.given.blocks;
+      hashed = s.hashed.steps;
       asked = s.asked.steps;
       refused = s.refused.steps;
       refusal = s.refusal;
@@ -76,6 +80,7 @@ impl<H: BlockStore, A: Allocator + Copy + Drop> Model for Checked<H, A> {
 fn look_up<H: BlockStore, A: Allocator + Copy + Drop>(
     alloc: A,
     tree: &mut Tree<A>,
+    hashed: &mut Count,
     store: &mut H,
     notes: &mut Vec<Noted<A>, A>,
     since: &Mark,
@@ -103,6 +108,8 @@ fn look_up<H: BlockStore, A: Allocator + Copy + Drop>(
     ensures unfailed { OnOk result (H.failures store.new ≡ H.failures store.old) }
     ensures refused_unfailed { IfErr result (λ why. why ≢ ReadRefused.Store → H.failures store.new ≡ H.failures store.old) }
     ensures keeps { IsOnlyRead H.BlockStore store.old store.new }
+    ensures hashed { hashed.new.steps + H.reads store.old ≤ hashed.old.steps + H.reads store.new }
+    ensures hashed_each { OnOk result (hashed.new.steps + H.reads store.old ≡ hashed.old.steps + H.reads store.new) }
     ensures same { tree.new ≡ tree.old }
 {
     if number < tree.table().hash_start_block() {
@@ -110,7 +117,7 @@ fn look_up<H: BlockStore, A: Allocator + Copy + Drop>(
         return Ok(());
     }
     let (level, index) = tree.locate(number);
-    let c = fetch(alloc, tree, store, notes, since, level, index, out)?;
+    let c = fetch(alloc, tree, hashed, store, notes, since, level, index, out)?;
     out.copy_from_slice(notes[c].block());
     Ok(())
 }
@@ -139,6 +146,7 @@ impl<H: BlockStore, A: Allocator + Copy + Drop> Checked<H, A> {
             hash_store,
             notes: Vec::new(alloc),
             given: Given::new(),
+            hashed: Count::new(),
             asked: Count::new(),
             refused: Count::new(),
             refusal: None,
@@ -163,17 +171,19 @@ impl<H: BlockStore, A: Allocator + Copy + Drop> Checked<H, A> {
         self.refusal
     }
 
-    /// Gives the tree and the store below back. The notes are dropped.
-    pub fn into_parts(self) -> (Tree<A>, H)
+    /// Gives the tree and the store below back, and how many digests were made. The notes are dropped.
+    pub fn into_parts(self) -> (Tree<A>, H, Count)
         ensures tree { result.0 ≡ self.table }
         ensures store { result.1 ≡ self.hash_store }
+        ensures hashed { result.2.steps ≡ self.hashed }
     {
         let Checked {
             tree,
             hash_store,
+            hashed,
             ..
         } = self;
-        (tree, hash_store)
+        (tree, hash_store, hashed)
     }
 }
 
@@ -215,6 +225,7 @@ impl<H: BlockStore, A: Allocator + Copy + Drop> BlockStore for Checked<H, A> {
         match look_up(
             self.alloc,
             &mut self.tree,
+            &mut self.hashed,
             &mut self.hash_store,
             &mut self.notes,
             &self.since,

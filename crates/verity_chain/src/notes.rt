@@ -10,7 +10,7 @@ ghost use Rattle.verity_chain.specs.Notes.{numbers, AreApart, IsUpward, NotesWit
 use crate::tree::Tree;
 use std::alloc::Allocator;
 use std::marker::Model;
-use verity_count::Mark;
+use verity_count::{Count, Mark};
 use verity_digest::Digest;
 use verity_store::{Block, BlockStore};
 
@@ -85,6 +85,7 @@ fn find<A: Allocator>(notes: &[Noted<A>], number: u64) -> Option<usize>
 fn take<H: BlockStore, A: Allocator + Copy + Drop>(
     alloc: A,
     tree: &mut Tree<A>,
+    hashed: &mut Count,
     store: &mut H,
     notes: &mut Vec<Noted<A>, A>,
     since: &Mark,
@@ -116,13 +117,15 @@ fn take<H: BlockStore, A: Allocator + Copy + Drop>(
     ensures keeps { IsOnlyRead H.BlockStore store.old store.new }
     ensures reads { H.reads store.new + length notes.old.items ≤ H.reads store.old + length notes.new.items + 1 }
     ensures read { OnOk result (H.reads store.new + length notes.old.items ≡ H.reads store.old + length notes.new.items) }
+    ensures hashed { hashed.new.steps + H.reads store.old ≤ hashed.old.steps + H.reads store.new }
+    ensures hashed_each { OnOk result (hashed.new.steps + H.reads store.old ≡ hashed.old.steps + H.reads store.new) }
     ensures same { tree.new ≡ tree.old }
 {
     let number = tree.hash_place(level, index);
     if store.read(number, block).is_err() {
         return Err(ReadRefused::Store);
     }
-    let right = tree.matches(block, named);
+    let right = tree.check(block, named, hashed);
     if !right {
         return Err(ReadRefused::Mismatch { level, index });
     }
@@ -139,11 +142,13 @@ fn take<H: BlockStore, A: Allocator + Copy + Drop>(
 /// Finds the note of a hash block; else reads the block, checks it and notes it, below the notes of the blocks above it, of
 /// which it reads those that aren't there.
 ///
-/// Each block that is read is noted, unless it was refused, which ends the call; no block is noted twice. `block` has the bytes of
-/// a hash block, and may then hold anything. It takes memory for each note.
+/// Each block that is read is noted, unless it was refused, which ends the call; no block is noted twice. Each block that a read
+/// gave is hashed once, which is counted. `block` has the bytes of a hash block, and may then hold anything. It takes memory for
+/// each note.
 pub fn fetch<H: BlockStore, A: Allocator + Copy + Drop>(
     alloc: A,
     tree: &mut Tree<A>,
+    hashed: &mut Count,
     store: &mut H,
     notes: &mut Vec<Noted<A>, A>,
     since: &Mark,
@@ -173,6 +178,8 @@ pub fn fetch<H: BlockStore, A: Allocator + Copy + Drop>(
     ensures keeps { IsOnlyRead H.BlockStore store.old store.new }
     ensures reads { H.reads store.new + length notes.old.items ≤ H.reads store.old + length notes.new.items + 1 }
     ensures read { OnOk result (H.reads store.new + length notes.old.items ≡ H.reads store.old + length notes.new.items) }
+    ensures hashed { hashed.new.steps + H.reads store.old ≤ hashed.old.steps + H.reads store.new }
+    ensures hashed_each { OnOk result (hashed.new.steps + H.reads store.old ≡ hashed.old.steps + H.reads store.new) }
     ensures same { tree.new ≡ tree.old }
 {
     let number = tree.hash_place(level, index);
@@ -182,13 +189,25 @@ pub fn fetch<H: BlockStore, A: Allocator + Copy + Drop>(
     let levels = tree.levels();
     if level + 1 == levels {
         let root = tree.root();
-        return take(alloc, tree, store, notes, since, level, index, &root, block);
+        return take(
+            alloc, tree, hashed, store, notes, since, level, index, &root, block,
+        );
     }
     let above = tree.parent_of(level + 1, index);
-    let c = fetch(alloc, tree, store, notes, since, level + 1, above, block)?;
+    let c = fetch(
+        alloc,
+        tree,
+        hashed,
+        store,
+        notes,
+        since,
+        level + 1,
+        above,
+        block,
+    )?;
     let slot = tree.slot_of(index);
     let named = tree.digest_in(notes[c].block(), slot);
     take(
-        alloc, tree, store, notes, since, level, index, &named, block,
+        alloc, tree, hashed, store, notes, since, level, index, &named, block,
     )
 }

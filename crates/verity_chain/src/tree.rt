@@ -7,6 +7,7 @@ ghost use Rattle.verity_chain.specs.Table.{height, row_len, tree_len, hash_place
 
 use std::alloc::{AllocError, Allocator, Global};
 use std::marker::Model;
+use verity_count::Count;
 use verity_digest::{Digest, Hasher};
 use verity_geometry::Geometry;
 use verity_superblock::Table;
@@ -193,6 +194,17 @@ impl<A: Allocator> Tree<A> {
     {
         self.hasher.digest(block).bytes() == named.bytes()
     }
+
+    /// Whether a block has this digest, as `matches` says it. It makes one digest, which it counts, and takes no memory.
+    pub fn check(&mut self, block: &[u8], named: &Digest, hashed: &mut Count) -> bool
+        ensures value { IsTrue result ↔ ((hashing_of self.old).digest block.now ≡ named.now) }
+        ensures counted { hashed.new.steps ≡ hashed.old.steps + 1 }
+        ensures same { self.new ≡ self.old }
+    {
+        hashed.step();
+        self.matches(block, named)
+    }
+
     /// Writes the digests of blocks of `size` bytes, which stand one after the other.
     pub fn digest_run(&mut self, blocks: &[u8], size: usize, out: &mut [Digest])
         requires { length blocks.now ≡ length out.old * size }

@@ -2,6 +2,8 @@ mod Frames
 mod Untouched
 mod Kept
 mod ParentLemmas
+mod ChildLemmas
+mod DedupLemmas
 mod Steps
 mod Drafts
 mod Applied
@@ -12,6 +14,8 @@ mod WriteLemmas
 mod SeenLemmas
 mod Pushes
 mod LevelMoves
+mod Sums
+mod MovedLemmas
 mod LevelLemmas
 mod Renewed
 mod Trees

@@ -16,7 +16,7 @@ use Rattle.verity_edit.specs.declared.command.Committed.{Committed}
 use Rattle.verity_edit.specs.declared.planning.CommitPlan.{CommitPlan}
 use Rattle.verity_edit.specs.Draft.{Draft, IsDraft, written_at, edits_of}
 use Rattle.verity_edit.specs.Standing.{BeginsWith}
-use Rattle.verity_edit.specs.Planning.{volume_hashing, IsPlan, IsRight, ReadsPaths}
+use Rattle.verity_edit.specs.Planning.{volume_hashing, IsPlan, IsRight, ReadsPaths, moves_of}
 use Rattle.verity_edit.specs.Committing.{IsCarriedOut}
 use Rattle.verity_edit.specs.Editing.{FitsStores, fresh}
 use Rattle.verity_edit.specs.declared.fault.EditFault.TheVariants as fault
@@ -78,7 +78,7 @@ next_fits t v d image new_root line is count size fits named =
     }
 
 module _ {D H A : Type 0} (data_facts : store.Ghosts D) (hash_facts : store.Ghosts H) (old : LineEditing D H) (plan : CommitPlan A)
-    (new_data : D) (new_hash : H) (new_hashed : ℕ) (is : IsDraft old.draft)
+    (new_data : D) (new_hash : H) (new_hashed new_checks : ℕ) (is : IsDraft old.draft)
     (line : IsLineOf old.table old.volume) (behind : 1 ≤ old.table.hash_start_block)
     (fits : FitsStores data_facts hash_facts (editing_of old))
     (done : IsCarriedOut data_facts hash_facts old.volume old.draft old.table.hash_start_block old.table.root old.data_store new_data
@@ -108,6 +108,7 @@ module _ {D H A : Type 0} (data_facts : store.Ghosts D) (hash_facts : store.Ghos
     volume = v;
     draft = d;
     hashed = new_hashed;
+    checks = new_checks;
     broken = false;
   }
 
@@ -143,7 +144,10 @@ module _ {D H A : Type 0} (data_facts : store.Ghosts D) (hash_facts : store.Ghos
       (hash_unfailed : hash_facts.failures new_hash ≡ hash_facts.failures old.hash_store)
       (counts : new_hashed ≡ old.hashed + plan.hashed)
       (reads : old.draft.working ≡ old.draft.committed
-      → ReadsPaths old.volume old.draft 0 (hash_facts.reads old.hash_store) (hash_facts.reads new_hash)) where
+      → ReadsPaths old.volume old.draft 0 (hash_facts.reads old.hash_store) (hash_facts.reads new_hash))
+      (moved_reads : ReadsPaths old.volume old.draft (moves_of old.volume old.draft) (hash_facts.reads old.hash_store)
+      (hash_facts.reads new_hash)) (checks : ReadsPaths old.volume old.draft 0 0 new_checks)
+      (checks_each : hash_facts.reads new_hash ≤ hash_facts.reads old.hash_store + new_checks + moves_of old.volume old.draft) where
     commits_next : CommitsUnder data_facts hash_facts old after made
     commits_next = record {
       whole = sound;
@@ -160,6 +164,9 @@ module _ {D H A : Type 0} (data_facts : store.Ghosts D) (hash_facts : store.Ghos
       bounded = (let most = planned.hashed image fits.committed in
           let few = leaf_hashes_most old.draft.written (changed_blocks (edits_of image old.draft)) in omega arith);
       reads = λ stays. (let most = reads stays image fits.committed in omega arith);
+      moved_reads = moved_reads image fits.committed;
+      checks = (let most = checks image fits.committed in omega arith);
+      checks_each = checks_each;
       once = planned.hashed image fits.committed;
       data_unfailed = data_unfailed;
       hash_unfailed = hash_unfailed;

@@ -4,8 +4,7 @@ use Rattle.std.proofs.Common.{None, ⊎_elim, refl, sym, ap, ◌∙◌, subst, a
 use Rattle.std.specs.Prelude.{sum_by}
 use Rattle.std.specs.List.{filter, range_with_len}
 use Rattle.std.proofs.lemmas.Bool.{cases_lt}
-use Rattle.std.proofs.lemmas.List.{map-id, length-map, get_or-map, length-append}
-use Rattle.std.proofs.lemmas.List.FromFn.{sum_by-map-range_with_len_more}
+use Rattle.std.proofs.lemmas.List.{length-map, get_or-map, length-append}
 use Rattle.std.proofs.lemmas.List.Elements.{Contains-append_left, Contains-append_right}
 use Rattle.verity_digest.specs.Hash.{size_of}
 use Rattle.verity_digest.specs.Shape.{level_count, level_len, place}
@@ -24,6 +23,7 @@ use Rattle.verity_edit.specs.Touched.{is_touched}
 use Rattle.verity_edit.specs.Making.{IsTouchedPlace}
 use Rattle.verity_edit.specs.Planning.{volume_shape, change_of, GivesTouched, ReadsPaths}
 use Rattle.verity_edit.specs.Under.{IsLineFor}
+use Rattle.verity_edit.proofs.Sums.{sum_more}
 use Rattle.verity_edit.proofs.ParentLemmas.{filter_has}
 use Rattle.verity_edit.proofs.TouchedLemmas.{has_contains, touched_upward}
 use Rattle.verity_edit.proofs.Drafts.{length-working}
@@ -34,15 +34,6 @@ contains_map f xs i has =
     let len = length-map xs f in
     let below = has.1 in
     (has.0, omega arith, get_or-map f xs has.0 i (f i) below ∙ ap f has.2)
-
--- a sum over one number more
-sum_more : (f : ℕ → ℕ) (l : ℕ) → sum_by f (range_with_len 0 (suc l)) ≡ sum_by f (range_with_len 0 l) + f l
-sum_more f l =
-    let step : suc l ≡ l + 1 = omega arith in
-    ap (λ m. sum_by f (range_with_len 0 m)) step
-    ∙ ap (λ ls. sum_by f ls) (sym (map-id (range_with_len 0 (l + 1))))
-    ∙ sum_by-map-range_with_len_more f (λ x. x) 0 l l (omega arith)
-    ∙ ap (λ ls. sum_by f ls + f l) (map-id (range_with_len 0 l))
 
 -- the indexes of a level that are in a set of places, the numbers of those of the first levels, and how many these are
 abbrev members : (ℕ → ℕ → Bool) → ℕ → ℕ → ℕ → List ℕ

@@ -213,6 +213,13 @@ module _ {H : Type 0} (hash : store.Ghosts H) (t : Table) (h : H) (new : Checkin
     };
   }
 
+  -- each block that was read of it was hashed at most once
+  pub checks_then : new.hashed + hash.reads h ≤ hash.reads new.hash_store
+  checks_then = let most = is.hashed in let was = ap (λ w. w.reads) was_then in omega arith
+
+  pub checks_each_then : new.refusal ≡ None → new.hashed + hash.reads h ≡ hash.reads new.hash_store
+  checks_each_then none = let same = is.hashed_each none in let was = ap (λ w. w.reads) was_then in omega arith
+
   same_failures : new.refusal ≢ Some refused.Store → hash.failures new.hash_store ≡ hash.failures h
   same_failures other = is.unfailed other ∙ ap (λ w. w.failures) was_then
 

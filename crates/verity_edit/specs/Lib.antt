@@ -10,6 +10,8 @@ pub mod Applied
 pub mod Levels
 pub mod Texts
 pub mod Faults
+pub mod Children
+pub mod Spread
 pub mod Slots
 pub mod Remade
 pub mod Plan

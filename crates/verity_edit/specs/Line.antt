@@ -24,11 +24,12 @@ use Rattle.verity_edit.specs.Touched.{bound, old_touched_count}
 use Rattle.verity_edit.specs.Leaves.{hashes}
 use Rattle.verity_edit.specs.Editing.{Editing, Commits, FitsStores, IsUnchanged, Stands, Stays, edits_in, fresh, width_in}
 use Rattle.verity_edit.specs.Opening.{IsVolume, RefusesStores}
+use Rattle.verity_edit.specs.Planning.{moves_of}
 use Rattle.verity_edit.specs.Running.{IsEdit, IsFailed, IsMade, IsRuled, IsStarved}
 use Rattle.verity_edit.specs.Under.{IsLineFor, IsWrongBlock, line_given}
 
 -- its stores; the line of what is committed; the superblock of it; the edits since the last commit; how many digests it made for its
--- commits; and whether a commit failed after its first change
+-- commits; how many its last commit made to check hash blocks; and whether a commit failed after its first change
 pub record LineEditing (D H : Type 0) : Type 0 where
   pub data_store : D
   pub hash_store : H
@@ -36,6 +37,7 @@ pub record LineEditing (D H : Type 0) : Type 0 where
   pub volume : Volume
   pub draft : Draft
   pub hashed : ℕ
+  pub checks : ℕ
   pub broken : Bool
 
 -- the same, as an editor that trusts what it read: the tree's start and root are the line's
@@ -134,6 +136,10 @@ ExplainsUnder t data_size hash_size blocks content told failed _ = ⊥
 abbrev pub paths_in : {D H : Type 0} → store.Ghosts D → LineEditing D H → ℕ
 paths_in data_facts e = old_touched_count (width_in (editing_of e)) (edits_in data_facts (editing_of e))
 
+-- how many of its blocks a commit moves to where the tree of the working image has them
+abbrev pub moved_in : {D H : Type 0} → LineEditing D H → ℕ
+moved_in e = moves_of e.volume e.draft
+
 -- what a commit makes of an image under the line: its edits' image, whose root is answered and which the new line fits
 pub record IsNextImage {D H : Type 0} (old new : LineEditing D H) (committed : Committed) (image : List (List ℕ)) : Type 0 where
   pub root : committed.root ≡ root (hashing_of old.table) (edits_of image old.draft).working
@@ -158,6 +164,10 @@ pub record CommitsUnder {D H : Type 0} (data_facts : store.Ghosts D) (hash_facts
   pub once : committed.hashed ≡ hashes (width_in (editing_of old)) old.draft (edits_in data_facts (editing_of old))
   pub reads : old.draft.working ≡ old.draft.committed
       → hash_facts.reads new.hash_store ≤ hash_facts.reads old.hash_store + paths_in data_facts old
+  pub moved_reads : hash_facts.reads new.hash_store ≤ hash_facts.reads old.hash_store + paths_in data_facts old + moved_in old
+  pub checks : new.checks ≤ paths_in data_facts old
+  -- Each block that was read was checked, once, or is moved.
+  pub checks_each : hash_facts.reads new.hash_store ≤ hash_facts.reads old.hash_store + new.checks + moved_in old
   -- No failure of a store, of a sync neither, is passed over.
   pub data_unfailed : data_facts.failures new.data_store ≡ data_facts.failures old.data_store
   pub hash_unfailed : hash_facts.failures new.hash_store ≡ hash_facts.failures old.hash_store

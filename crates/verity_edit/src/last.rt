@@ -9,8 +9,9 @@ ghost use Rattle.verity_edit.specs.Making.{IsChange};
 ghost use Rattle.verity_edit.specs.Last.{AddsLast, NamesLast, IsAboveLast, AreChanged, AreEdited, NamesEdited};
 
 use crate::EditFault;
+use crate::child::Child;
+use crate::children::Children;
 use crate::pending::Pending;
-use crate::plan::Child;
 use crate::tree::Change;
 use std::alloc::Allocator;
 use verity_digest::{Algorithm, Digest};
@@ -18,12 +19,12 @@ use verity_store::{BlockStore, Which};
 
 /// Adds the last data block of the new count to the leaves, with the digest that level 0 of the committed tree holds. It
 /// reads one hash block.
-pub fn add_last<H: BlockStore, A: Allocator>(
+pub fn add_last<H: BlockStore, A: Allocator + Copy>(
     hash_store: &mut H,
     change: &Change,
     algorithm: Algorithm,
     block: &mut [u8],
-    leaves: &mut Vec<Child, A>,
+    leaves: &mut Children<A>,
 ) -> Result<(), EditFault>
     requires change { IsChange change.now (length (H.content hash_store.old)) (H.size hash_store.old) (size_of algorithm) }
     requires sized { length block.old ≡ H.size hash_store.old }
@@ -62,7 +63,7 @@ pub fn add_fallen<H: BlockStore, A: Allocator + Copy>(
     change: &Change,
     algorithm: Algorithm,
     block: &mut [u8],
-    leaves: &mut Vec<Child, A>,
+    leaves: &mut Children<A>,
 ) -> Result<(), EditFault>
     requires change { IsChange change.now (length (H.content hash_store.old)) (H.size hash_store.old) (size_of algorithm) }
     requires sized { length block.old ≡ H.size hash_store.old }

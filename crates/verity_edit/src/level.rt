@@ -10,11 +10,13 @@ ghost use Rattle.verity_edit.specs.Slots.{slots, AreSized};
 ghost use Rattle.verity_edit.specs.Plan.{numbers_of, places, ArePlanned, AddsPlanned, AddsChild, made_blocks, made_digests};
 
 use crate::EditFault;
+use crate::child::Child;
+use crate::children::Children;
 use crate::made::Made;
-use crate::plan::{Child, remake, set_slot};
+use crate::plan::{remake, set_slot};
 use std::alloc::Allocator;
 use verity_digest::{Digest, Hasher};
-use verity_store::{Block, BlockStore, StoreFault, Which};
+use verity_store::{BlockStore, StoreFault, Which};
 
 /// Where the hash blocks of a level of the committed tree stand, and its first digest where no block holds it.
 #[derive(Clone, Copy, Debug)]
@@ -76,22 +78,22 @@ fn read_old<H: BlockStore>(
 }
 
 /// Makes hash block `index` of a level again, and answers its digest.
-fn make_again<H: BlockStore, A: Allocator>(
+fn make_again<H: BlockStore, A: Allocator + Copy>(
     hash_store: &mut H,
     hasher: &mut Hasher<A>,
     level: &Level,
-    children: &[Child],
+    children: &Children<A>,
     index: u64,
     block: &mut [u8],
 ) -> Result<Digest, StoreFault>
     requires level { IsLevel level.now (length (H.content hash_store.old)) (H.size hash_store.old) (size_of hasher.old.salted.algorithm) }
-    requires children { AreChildren level.now children.now }
+    requires children { AreChildren level.now children.now.items }
     requires sized { length block.old ≡ H.size hash_store.old }
     requires index { index * level.now.per_block < level.now.digests }
     ensures made { IfOk result (λ digest. (content : List (List ℕ)) → Shows H.BlockStore hash_store.new content → (old new : List (List ℕ))
         → let h = hashing hasher.old.salted (length block.old) in
         length new ≡ level.now.digests → Holds h old level.now.old content
-        → Renews level.now.digest_size old new children.now
+        → Renews level.now.digest_size old new children.now.items
         → (block.new ≡ slice_index_or (pack h new) index []) × (digest ≡ h.digest (slice_index_or (pack h new) index []))) }
     ensures digest_size { IfOk result (λ digest. length digest ≡ level.now.digest_size) }
     ensures salted { hasher.new.salted ≡ hasher.old.salted }
@@ -115,20 +117,20 @@ fn make_block<H: BlockStore, A: Allocator + Copy>(
     hash_store: &mut H,
     hasher: &mut Hasher<A>,
     level: &Level,
-    children: &[Child],
+    children: &Children<A>,
     index: u64,
     block: &mut [u8],
     plan: &mut Vec<Made<A>, A>,
-    next: &mut Vec<Child, A>,
+    next: &mut Children<A>,
 ) -> Result<(), EditFault>
     requires level { IsLevel level.now (length (H.content hash_store.old)) (H.size hash_store.old) (size_of hasher.old.salted.algorithm) }
-    requires children { AreChildren level.now children.now }
+    requires children { AreChildren level.now children.now.items }
     requires sized { length block.old ≡ H.size hash_store.old }
     requires index { index * level.now.per_block < level.now.digests }
     ensures made { OnOk result ((content : List (List ℕ)) → Shows H.BlockStore hash_store.new content → (old new : List (List ℕ))
         → let h = hashing hasher.old.salted (length block.old) in
         length new ≡ level.now.digests → Holds h old level.now.old content
-        → Renews level.now.digest_size old new children.now
+        → Renews level.now.digest_size old new children.now.items
         → (plan.new.items ≡ plan.old.items ++ made_blocks h new level.now.start (index ∷ []))
         × (next.new.items ≡ next.old.items ++ made_digests h new (index ∷ []))) }
     ensures planned { OnOk result (AddsPlanned (length block.old) plan.old.items plan.new.items (level.now.start + index)) }
@@ -143,10 +145,9 @@ fn make_block<H: BlockStore, A: Allocator + Copy>(
     let Ok(digest) = make_again(hash_store, hasher, level, children, index, block) else {
         return Err(EditFault::Store(Which::Hash));
     };
-    let Ok(bytes) = block.to_vec(alloc) else {
+    let Ok(made) = Made::behind(alloc, plan.last(), level.start + index, block) else {
         return Err(EditFault::NoMemory);
     };
-    let made = Made::new(level.start + index, Block::new(bytes));
     if plan.push(made).is_err() {
         return Err(EditFault::NoMemory);
     }
@@ -166,19 +167,19 @@ pub fn make_level<H: BlockStore, A: Allocator + Copy>(
     hash_store: &mut H,
     hasher: &mut Hasher<A>,
     level: &Level,
-    children: &[Child],
+    children: &Children<A>,
     numbers: &[u64],
     block: &mut [u8],
     plan: &mut Vec<Made<A>, A>,
-) -> Result<Vec<Child, A>, EditFault>
+) -> Result<Children<A>, EditFault>
     requires level { IsLevel level.now (length (H.content hash_store.old)) (H.size hash_store.old) (size_of hasher.old.salted.algorithm) }
-    requires children { AreChildren level.now children.now }
+    requires children { AreChildren level.now children.now.items }
     requires sized { length block.old ≡ H.size hash_store.old }
     requires below { (t : ℕ) → t < length numbers.now → slice_index numbers.now t * level.now.per_block < level.now.digests }
     ensures made { IfOk result (λ next. (content : List (List ℕ)) → Shows H.BlockStore hash_store.new content → (old new : List (List ℕ))
         → let h = hashing hasher.old.salted (length block.old) in
         length new ≡ level.now.digests → Holds h old level.now.old content
-        → Renews level.now.digest_size old new children.now
+        → Renews level.now.digest_size old new children.now.items
         → (plan.new.items ≡ plan.old.items ++ made_blocks h new level.now.start numbers.now)
         × (next.items ≡ made_digests h new numbers.now)) }
     ensures numbers { IfOk result (λ next. numbers_of next.items ≡ numbers.now) }
@@ -192,7 +193,7 @@ pub fn make_level<H: BlockStore, A: Allocator + Copy>(
     ensures gives { GivesAt (IsOldOf level.now numbers.now) (H.given hash_store.old) (H.given hash_store.new) }
     ensures read_only { IsOnlyRead H.BlockStore hash_store.old hash_store.new }
 {
-    let mut next = Vec::new(alloc);
+    let mut next = Children::new(alloc);
     for index in numbers {
         make_block(
             alloc, hash_store, hasher, level, children, *index, block, plan, &mut next,

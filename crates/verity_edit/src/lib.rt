@@ -2,9 +2,9 @@
 //!
 //! An [`Editor`] is opened over two stores whose hash store holds the data store's tree. Edits are pending: blocks that were
 //! written stand in an ordered map beside three counts (`Pending`). A commit plans first (`planning`): it hashes each block
-//! that was written, up to eight side by side (`leaves`), and one block of zeros for all others that were added, and makes each hash
-//! block above one of them again from what stood in its place, level by level, without changing anything and without reading a data
-//! block. Then it makes room in both stores, and only then
+//! that was written, up to eight side by side (`leaves`), and one block of zeros for all others that were added, which are kept as a
+//! run with that digest (`children`), and makes each hash block above one of them again from what stood in its place, level by
+//! level, without changing anything and without reading a data block. Then it makes room in both stores, and only then
 //! changes them (`committing`): the data blocks, the levels that stand elsewhere in the new tree, the blocks of the plan, the
 //! superblock. It syncs both last.
 //!
@@ -33,6 +33,8 @@
 #![tactic(auto)]
 
 mod change;
+mod child;
+mod children;
 mod command;
 mod committing;
 mod editor;

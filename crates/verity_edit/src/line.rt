@@ -9,7 +9,7 @@ ghost use Rattle.verity_edit.specs.Exchange.{IsExchange};
 ghost use Rattle.verity_edit.specs.Editing.{IsUnchanged, Stays, FitsStores, fresh};
 ghost use Rattle.verity_chain.specs.Table.{height};
 ghost use Rattle.verity_edit.specs.Line.{CommitsUnder, ExplainsUnder, IsAnsweredUnder, IsLineOf, IsOpenedUnder, IsRefusalUnder};
-ghost use Rattle.verity_edit.specs.Line.{editing_of, paths_in};
+ghost use Rattle.verity_edit.specs.Line.{editing_of, paths_in, moved_in};
 
 use crate::EditFault;
 use crate::command::{Command, Committed, Reply};
@@ -22,6 +22,7 @@ use std::alloc::{Allocator, Global};
 use std::marker::Model;
 use std::mem;
 use verity_chain::Tree;
+use verity_count::Count;
 use verity_digest::{Digest, Hasher};
 use verity_store::BlockStore;
 use verity_superblock::{Superblock, Table};
@@ -39,6 +40,7 @@ pub struct LineEditor<D: BlockStore, H: BlockStore, A: Allocator + Copy = Global
     tree: Tree<A>,
     superblock: Superblock<A>,
     hasher: Hasher<A>,
+    checks: Count,
     pending: Pending<A>,
     broken: bool,
 }
@@ -55,6 +57,7 @@ impl<D: BlockStore, H: BlockStore, A: Allocator + Copy> Model for LineEditor<D, 
       volume = e.superblock;
       draft = e.pending;
       hashed = e.hasher.hashed;
+      checks = e.checks.steps;
       broken = e.broken;
     } };
 
@@ -65,6 +68,7 @@ impl<D: BlockStore, H: BlockStore, A: Allocator + Copy> Model for LineEditor<D, 
       volume = e.superblock;
       draft = e.pending;
       hashed = e.hasher.hashed;
+      checks = e.checks.steps;
       broken = e.broken;
     }) };
 }
@@ -111,6 +115,7 @@ impl<D: BlockStore, H: BlockStore, A: Allocator + Copy + Drop> LineEditor<D, H, 
                 tree: found.tree,
                 superblock: found.superblock,
                 hasher: found.hasher,
+                checks: Count::new(),
                 broken: false,
             }),
             Err(fault) => Err(OpenRefused {
@@ -210,12 +215,13 @@ impl<D: BlockStore, H: BlockStore, A: Allocator + Copy + Drop> LineEditor<D, H, 
     /// On E14 the hash store gave, for every image that fits the line, a block that isn't the image's own; from a store that tells
     /// and holds the image's tree there is none.
     ///
-    /// It reads no data block. It hashes what `Editor::commit` does, which is counted, and each hash block that it reads once more
-    /// for its check, which isn't. Before the first change it reads the hash blocks of the committed tree that lie above an edited
-    /// block, each at most once: those are the touched ones, and where the count fell one more of each level above the new top. Where
-    /// a block is refused, it has read at most one more path. Where the count is another, the levels that are moved are then read
-    /// without a check. All its memory is taken before the first change, as is the room of both stores: that of a commit, the blocks
-    /// that were read, and the new line.
+    /// It reads no data block. Before the first change it reads the hash blocks of the committed tree that lie above an edited block,
+    /// each at most once: those are the touched ones, and where the count fell one more of each level above the new top. Where a block
+    /// is refused, it has read at most one more path. Where the count is another, it then reads, without a check and each at most once,
+    /// the blocks of the levels that it moves: those that both trees have, where the level begins elsewhere. It hashes what
+    /// `Editor::commit` does, and each hash block that it reads before the first change once more for its check; both are counted, each
+    /// apart. All its memory is taken before the first change, as is the room of both stores: that of a commit, the blocks that were
+    /// read, and the new line.
     pub fn commit(self) -> (Self, Result<Committed, EditFault>)
         ensures committed { IfOk result.1 (CommitsUnder D.BlockStore H.BlockStore self result.0) }
         ensures refused { IfErr result.1 (IsRefusalUnder D.BlockStore H.BlockStore self result.0) }
@@ -224,6 +230,10 @@ impl<D: BlockStore, H: BlockStore, A: Allocator + Copy + Drop> LineEditor<D, H, 
             → IsUnchanged D.BlockStore H.BlockStore (editing_of self) (editing_of result.0)) }
         ensures refused_reads { OnErr result.1 (result.0.broken ≡ false
             → H.reads result.0.hash_store ≤ H.reads self.hash_store + paths_in D.BlockStore self + height self.table) }
+        ensures most_reads { OnErr result.1 (H.reads result.0.hash_store
+            ≤ H.reads self.hash_store + paths_in D.BlockStore self + height self.table + moved_in self) }
+        ensures refused_checks { OnErr result.1 (self.broken ≡ false
+            → result.0.checks ≤ paths_in D.BlockStore self + height self.table) }
         ensures line { OnErr result.1 (result.0.table ≡ self.table) }
         ensures stays { Stays D.BlockStore H.BlockStore (editing_of self) (editing_of result.0) }
     {
@@ -237,11 +247,13 @@ impl<D: BlockStore, H: BlockStore, A: Allocator + Copy + Drop> LineEditor<D, H, 
             tree,
             superblock,
             hasher,
+            checks,
             pending,
             broken,
         } = self;
         let mut data_store = data_store;
         let mut hasher = hasher;
+        let mut checks = checks;
         let mut pending = pending;
         let mut broken = broken;
         pending.facts();
@@ -253,6 +265,7 @@ impl<D: BlockStore, H: BlockStore, A: Allocator + Copy + Drop> LineEditor<D, H, 
             &mut hasher,
             &pending,
             &superblock,
+            &mut checks,
             &mut broken,
         );
         match made {
@@ -270,6 +283,7 @@ impl<D: BlockStore, H: BlockStore, A: Allocator + Copy + Drop> LineEditor<D, H, 
                     tree: next,
                     superblock: plan.superblock,
                     hasher,
+                    checks,
                     pending,
                     broken: false,
                 };
@@ -283,6 +297,7 @@ impl<D: BlockStore, H: BlockStore, A: Allocator + Copy + Drop> LineEditor<D, H, 
                     tree,
                     superblock,
                     hasher,
+                    checks,
                     pending,
                     broken,
                 };

@@ -16,9 +16,10 @@ ghost use Rattle.verity_edit.specs.Plan.{numbers_of, places, ArePlanned, made_bl
 ghost use Rattle.verity_edit.specs.Making.{old_level, touched_places, touched_blocks, IsEdited, IsTouchedPlace, StandsFor};
 
 use crate::EditFault;
+use crate::children::Children;
 use crate::level::{Level, OldLevel, make_level};
 use crate::made::Made;
-use crate::plan::{Child, parents};
+use crate::plan::parents;
 use std::alloc::Allocator;
 use verity_digest::{Digest, Hasher};
 use verity_geometry::Geometry;
@@ -99,39 +100,40 @@ fn make_next<H: BlockStore, A: Allocator + Copy>(
     hasher: &mut Hasher<A>,
     change: &Change,
     level: usize,
-    children: &[Child],
+    children: &Children<A>,
     block: &mut [u8],
     plan: &mut Vec<Made<A>, A>,
-) -> Result<Vec<Child, A>, EditFault>
+) -> Result<Children<A>, EditFault>
     requires change { IsChange change.now (length (H.content hash_store.old)) (H.size hash_store.old)
         (size_of hasher.old.salted.algorithm) }
     requires there { level < levels_of change.now.new }
     requires sized { length block.old ≡ H.size hash_store.old }
-    requires children_sized { AreSized (size_of hasher.old.salted.algorithm) children.now }
-    requires children_within { AreWithin (row_len (digests_per_block change.now.new) change.now.new.blocks level) children.now }
+    requires children_sized { AreSized (size_of hasher.old.salted.algorithm) children.now.items }
+    requires children_within { AreWithin (row_len (digests_per_block change.now.new) change.now.new.blocks level) children.now.items }
     ensures made { IfOk result (λ next. (content : List (List ℕ)) → Shows H.BlockStore hash_store.new content → (old new : List (List ℕ))
         → let h = hashing hasher.old.salted (length block.old) in
         length new ≡ row_len (digests_per_block change.now.new) change.now.new.blocks level
-        → Holds h old (level_of change.now level).old content → Renews h.digest_size old new children.now
-        → let up = parents (digests_per_block change.now.new) (numbers_of children.now) in
+        → Holds h old (level_of change.now level).old content → Renews h.digest_size old new children.now.items
+        → let up = parents (digests_per_block change.now.new) (numbers_of children.now.items) in
         (plan.new.items ≡ plan.old.items ++ made_blocks h new (change.now.first + start_of change.now.new level) up)
         × (next.items ≡ made_digests h new up)) }
-    ensures numbers { IfOk result (λ next. numbers_of next.items ≡ parents (digests_per_block change.now.new) (numbers_of children.now)) }
+    ensures numbers { IfOk result (λ next. numbers_of next.items
+        ≡ parents (digests_per_block change.now.new) (numbers_of children.now.items)) }
     ensures next_within { IfOk result (λ next. AreWithin (row_len (digests_per_block change.now.new) change.now.new.blocks
         (suc level)) next.items) }
     ensures next_sized { IfOk result (λ next. AreSized (size_of hasher.old.salted.algorithm) next.items) }
     ensures places { OnOk result (places plan.new.items ≡ places plan.old.items
         ++ map (λ i. change.now.first + start_of change.now.new level + i)
-        (parents (digests_per_block change.now.new) (numbers_of children.now))) }
+        (parents (digests_per_block change.now.new) (numbers_of children.now.items))) }
     ensures planned { OnOk result (ArePlanned (length block.old) plan.old.items → ArePlanned (length block.old) plan.new.items) }
     ensures salted { hasher.new.salted ≡ hasher.old.salted }
     ensures hashed { OnOk result (hasher.new.hashed
-        ≡ hasher.old.hashed + length (parents (digests_per_block change.now.new) (numbers_of children.now))) }
+        ≡ hasher.old.hashed + length (parents (digests_per_block change.now.new) (numbers_of children.now.items))) }
     ensures fails { PlansOrFails result (H.failures hash_store.old) (H.failures hash_store.new) }
     ensures reads { H.reads hash_store.new
-        ≤ H.reads hash_store.old + length (parents (digests_per_block change.now.new) (numbers_of children.now)) }
-    ensures gives { GivesAt (IsOldOf (level_of change.now level) (parents (digests_per_block change.now.new) (numbers_of children.now)))
-        (H.given hash_store.old) (H.given hash_store.new) }
+        ≤ H.reads hash_store.old + length (parents (digests_per_block change.now.new) (numbers_of children.now.items)) }
+    ensures gives { GivesAt (IsOldOf (level_of change.now level)
+        (parents (digests_per_block change.now.new) (numbers_of children.now.items))) (H.given hash_store.old) (H.given hash_store.new) }
     ensures read_only { IsOnlyRead H.BlockStore hash_store.old hash_store.new }
 {
     let made = change.level(level);
@@ -144,14 +146,14 @@ fn make_next<H: BlockStore, A: Allocator + Copy>(
 }
 
 /// The digest of the one block that is left at the top, or the old root hash where nothing was made.
-fn top_digest(children: &[Child], root: Digest) -> Digest
-    ensures some { 0 < length children.now → result ≡ (child_at children.now 0).digest }
-    ensures none { length children.now ≡ 0 → result ≡ root }
+fn top_digest<A: Allocator + Copy>(children: &Children<A>, root: Digest) -> Digest
+    ensures some { 0 < length children.now.items → result ≡ (child_at children.now.items 0).digest }
+    ensures none { length children.now.items ≡ 0 → result ≡ root }
 {
-    match children.first() {
-        Some(top) => top.digest,
-        None => root,
+    if children.len() == 0 {
+        return root;
     }
+    children.at(0).digest
 }
 
 /// Makes all levels of the new tree above the leaves of the edited blocks, adds their hash blocks to the plan and answers
@@ -161,7 +163,7 @@ pub fn make_tree<H: BlockStore, A: Allocator + Copy>(
     hash_store: &mut H,
     hasher: &mut Hasher<A>,
     change: &Change,
-    leaves: Vec<Child, A>,
+    leaves: Children<A>,
     block: &mut [u8],
     plan: &mut Vec<Made<A>, A>,
 ) -> Result<Digest, EditFault>

@@ -9,7 +9,7 @@ ghost use Rattle.verity_chain.specs.Stores.{IsHashStoreOf};
 ghost use Rattle.verity_chain.specs.Checked.{unread};
 ghost use Rattle.verity_edit.specs.Levels.{KeepsFront};
 ghost use Rattle.verity_edit.specs.Committing.{CanCommit, IsCarriedOut};
-ghost use Rattle.verity_edit.specs.Planning.{IsPlan, IsRight, ReadsPaths};
+ghost use Rattle.verity_edit.specs.Planning.{IsPlan, IsRight, ReadsPaths, moves_of};
 
 use crate::EditFault;
 use crate::committing::{carry_out, reserve_both};
@@ -18,6 +18,7 @@ use crate::pending::Pending;
 use crate::planning::{CommitPlan, plan_commit};
 use std::alloc::Allocator;
 use verity_chain::{Checked, ReadRefused, Tree};
+use verity_count::Count;
 use verity_digest::{Digest, Hasher};
 use verity_store::{BlockStore, Which};
 use verity_superblock::{Superblock, Table};
@@ -86,6 +87,8 @@ fn plan_checked<H: BlockStore, A: Allocator + Copy + Drop>(
         (H.reads checked.new.hash_store)) }
     ensures most_reads { ReadsPaths superblock.now pending.now (height checked.old.table) (H.reads checked.old.hash_store)
         (H.reads checked.new.hash_store) }
+    ensures checks { checked.new.hashed + H.reads checked.old.hash_store ≤ H.reads checked.new.hash_store }
+    ensures checks_each { OnOk result (checked.new.hashed + H.reads checked.old.hash_store ≡ H.reads checked.new.hash_store) }
     ensures read_only { IsOnlyRead H.BlockStore checked.old.hash_store checked.new.hash_store }
 {
     pending.facts();
@@ -100,7 +103,7 @@ fn plan_checked<H: BlockStore, A: Allocator + Copy + Drop>(
 }
 
 /// Plans a commit of the pending edits under a table line. It changes nothing, reads no data block, and leaves any bytes in
-/// `block`. The tree and the hash store come back.
+/// `block`. The tree and the hash store come back, and `checks` then says how many digests were made to check blocks.
 pub fn plan_under<H: BlockStore, A: Allocator + Copy + Drop>(
     alloc: A,
     tree: Tree<A>,
@@ -111,6 +114,7 @@ pub fn plan_under<H: BlockStore, A: Allocator + Copy + Drop>(
     first: u64,
     root: Digest,
     block: &mut [u8],
+    checks: &mut Count,
 ) -> (Tree<A>, H, Result<CommitPlan<A>, PlanRefused>)
     requires near { first ≤ 2 ^ 40 }
     requires line { IsLineFor tree superblock.now first root }
@@ -132,6 +136,8 @@ pub fn plan_under<H: BlockStore, A: Allocator + Copy + Drop>(
     ensures salted { hasher.new.salted ≡ hasher.old.salted }
     ensures reads { OnOk result.2 (ReadsPaths superblock.now pending.now 0 (H.reads hash_store) (H.reads result.1)) }
     ensures most_reads { ReadsPaths superblock.now pending.now (height tree) (H.reads hash_store) (H.reads result.1) }
+    ensures checks { checks.new.steps + H.reads hash_store ≤ H.reads result.1 }
+    ensures checks_each { OnOk result.2 (checks.new.steps + H.reads hash_store ≡ H.reads result.1) }
     ensures read_only { IsOnlyRead H.BlockStore hash_store result.1 }
 {
     let _allowed = tree.table();
@@ -146,7 +152,8 @@ pub fn plan_under<H: BlockStore, A: Allocator + Copy + Drop>(
         root,
         block,
     );
-    let (tree, hash_store) = checked.into_parts();
+    let (tree, hash_store, hashed) = checked.into_parts();
+    *checks = hashed;
     (tree, hash_store, planned)
 }
 
@@ -190,7 +197,7 @@ fn next_tree<A: Allocator + Copy>(
 
 /// Commits the pending edits to both stores under a table line: plans, makes the tree of the new line and room, raises the flag
 /// `broken`, and changes the stores. On success the flag is still raised, and whoever called lowers it. The tree, which is the
-/// old one, and the hash store come back.
+/// old one, and the hash store come back, and `checks` then says how many digests were made to check blocks.
 pub fn commit_under<D: BlockStore, H: BlockStore, A: Allocator + Copy + Drop>(
     alloc: A,
     tree: Tree<A>,
@@ -199,6 +206,7 @@ pub fn commit_under<D: BlockStore, H: BlockStore, A: Allocator + Copy + Drop>(
     hasher: &mut Hasher<A>,
     pending: &Pending<A>,
     superblock: &Superblock<A>,
+    checks: &mut Count,
     broken: &mut bool,
 ) -> (Tree<A>, H, Result<PlanUnder<A>, PlanRefused>)
     requires sound { broken.old ≡ false }
@@ -231,7 +239,16 @@ pub fn commit_under<D: BlockStore, H: BlockStore, A: Allocator + Copy + Drop>(
         → ReadsPaths superblock.now pending.now 0 (H.reads hash_store) (H.reads result.1)) }
     ensures most_reads { broken.new ≡ false
         → ReadsPaths superblock.now pending.now (height tree) (H.reads hash_store) (H.reads result.1) }
+    ensures moved_reads { OnOk result.2 (ReadsPaths superblock.now pending.now (moves_of superblock.now pending.now)
+        (H.reads hash_store) (H.reads result.1)) }
+    ensures all_reads { ReadsPaths superblock.now pending.now (height tree + moves_of superblock.now pending.now)
+        (H.reads hash_store) (H.reads result.1) }
+    ensures checks { OnOk result.2 (ReadsPaths superblock.now pending.now 0 0 checks.new.steps) }
+    ensures checks_each { OnOk result.2 (H.reads result.1 ≤ H.reads hash_store + checks.new.steps
+        + moves_of superblock.now pending.now) }
+    ensures most_checks { ReadsPaths superblock.now pending.now (height tree) 0 checks.new.steps }
 {
+    *checks = Count::new();
     let first = tree.table().hash_start_block();
     let root = tree.root();
     let Ok(mut block) = Vec::from_elem(alloc, 0u8, superblock.hash_block_size()) else {
@@ -242,7 +259,7 @@ pub fn commit_under<D: BlockStore, H: BlockStore, A: Allocator + Copy + Drop>(
         );
     };
     let (tree, hash_store, planned) = plan_under(
-        alloc, tree, hash_store, hasher, pending, superblock, first, root, &mut block,
+        alloc, tree, hash_store, hasher, pending, superblock, first, root, &mut block, checks,
     );
     let plan = match planned {
         Ok(plan) => plan,

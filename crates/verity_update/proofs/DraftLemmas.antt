@@ -1,8 +1,8 @@
 -- The working image of an editor.
-use Rattle.std.proofs.Common.{ℕ, ◌≡◌, ◌<◌, false, ◌||◌, List, [], length, get_or, leb, ltb}
+use Rattle.std.proofs.Common.{ℕ, ◌≡◌, ◌<◌, true, false, ◌||◌, refl, List, [], length, get_or, leb, ltb}
 use Rattle.std.proofs.Common.{Result, Ok, Err, OnOk, OnErr, sym, ap, ◌∙◌, arith}
 use Rattle.std.proofs.Math.Bool.{or-false}
-use Rattle.std.proofs.lemmas.Bool.{lt-ltb, lt-leb, ne_eqb, and_left, cond-true}
+use Rattle.std.proofs.lemmas.Bool.{lt-ltb, lt-leb, eq-eqb, ne_eqb, and_left, cond-true}
 use Rattle.std.proofs.lemmas.List.{ext_get_or, length-set}
 use Rattle.std.proofs.lemmas.List.FromFn.{length-map-range_with_len, get_or-map-range_with_len}
 use Rattle.verity_profile.specs.Profile.{zero_block}
@@ -41,6 +41,11 @@ pub changed_elsewhere : (old new : Draft) (n i : ℕ) (block : List ℕ) → edi
     → (i ≡ n → ⊥) → is_changed new i ≡ is_changed old i
 changed_elsewhere old new n i block is other =
     ap (λ (e : Edits). e.changed i) is ∙ ap (λ b. b || is_changed old i) (ne_eqb i n other)
+
+pub changed_here : (old new : Draft) (n : ℕ) (block : List ℕ) → edits_of [] new ≡ with_write n block (edits_of [] old)
+    → is_changed new n ≡ true
+changed_here old new n block is =
+    ap (λ (e : Edits). e.changed n) is ∙ ap (λ b. b || is_changed old n) (eq-eqb n n refl)
 
 pub changed_below : (old new : Draft) (count i : ℕ) → edits_of [] new ≡ with_growth old.size count (edits_of [] old) → i < old.working
     → is_changed new i ≡ is_changed old i

@@ -2,3 +2,5 @@ mod NameLemmas
 mod WalkLemmas
 mod DraftLemmas
 mod LineLaw
+mod CountLemmas
+mod RefusedLemmas

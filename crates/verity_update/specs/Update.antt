@@ -1,5 +1,6 @@
 -- What an update leaves. The facts of a store of the type S are S.BlockStore.
 use Rattle.std.specs.Prelude.{◌≡◌, ℕ, ◌<◌, ◌⊎◌, Bool, false, List, [], length, map, slice_index_or}
+use Rattle.std.specs.List.{count_by, range_with_len}
 use Rattle.verity_digest.specs.Tree.{Hashing, root}
 use Rattle.verity_store.specs.declared.store.BlockStore as store
 use Rattle.verity_chain.specs.Table.{Table, hashing_of}
@@ -30,6 +31,10 @@ pub record Updates {H N : Type 0} (hash : store.Ghosts H) (news : store.Ghosts N
       → IsUpdateOf (hashing_of t) new (made image) ⊎ Clash t (hash_given hash t (length (hash.given h)) h') image
   pub spared : (image : List (List ℕ)) → Fits t image
       → IsSpared (hashing_of t) image new changed ⊎ Clash t (hash_given hash t (length (hash.given h)) h') image
+
+-- how many of the first n blocks were written or added
+abbrev pub changed_count : (ℕ → Bool) → ℕ → ℕ
+changed_count changed n = count_by changed (range_with_len 0 n)
 
 -- the line of the image NEW, of the same volume
 abbrev pub line_of_new : Table → (new : List (List ℕ)) → Table

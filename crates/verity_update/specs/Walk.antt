@@ -1,10 +1,12 @@
 -- The walk along the blocks of NEW.
-use Rattle.std.specs.Prelude.{◌≡◌, ◌≢◌, ℕ, ◌<◌, ◌≤◌, ◌⊎◌, Bool, List, [], length, slice_index_or}
+use Rattle.std.specs.Prelude.{◌≡◌, ◌≢◌, ℕ, ◌^◌, ◌<◌, ◌≤◌, ◌⊎◌, Bool, List, [], length, slice_index_or}
 use Rattle.verity_digest.specs.Tree.{Hashing}
 use Rattle.verity_store.specs.declared.store.BlockStore as store
 use Rattle.verity_chain.specs.Table.{Table, hashing_of}
 use Rattle.verity_chain.specs.Chain.{Given, Names}
 use Rattle.verity_chain.specs.Right.{Fits, Clash}
+use Rattle.verity_edit.specs.declared.fault.EditFault.{EditFault}
+use Rattle.verity_edit.specs.declared.fault.EditFault.TheVariants.{TooSmall, TooLarge}
 use Rattle.verity_update.specs.Update.{GaveAll}
 
 -- the working image has the blocks of the committed one where both have one
@@ -53,3 +55,7 @@ pub record TakesTo {N : Type 0} (news : store.Ghosts N) (t : Table) (given : Giv
       → (hashing_of t).digest (slice_index_or image i []) ≡ (hashing_of t).digest (slice_index_or seen i [])
       → new_changed i ≡ old_changed i) ⊎ Clash t given image
   pub rest : (i : ℕ) → n ≤ i → new_changed i ≡ old_changed i
+
+-- no image has this count: none, or more than 2^40
+abbrev pub RefusesCount : ℕ → EditFault → Type 0
+RefusesCount count fault = ((fault ≡ TooSmall) × (count ≡ 0)) ⊎ ((fault ≡ TooLarge) × (2 ^ 40 < count))

@@ -47,6 +47,7 @@ pub trait Edited {
         ensures data_reads { data_reads self.new ≡ data_reads self.old }
         ensures count { count self.new ≡ count self.old }
         ensures others { OnOk result ((i : ℕ) → i ≢ n → changed self.new i ≡ changed self.old i) }
+        ensures here { OnOk result (changed self.new n ≡ true) }
         ensures refused { IfErr result (λ fault.
             RefusesEdit (broken self.old) (write_rule (size self.old) (count self.old) n block.now) fault
             ⊎ ((broken self.old ≡ false) × (write_rule (size self.old) (count self.old) n block.now ≡ None)
@@ -62,6 +63,7 @@ pub trait Edited {
         ensures content { content self.new ≡ content self.old }
         ensures data_reads { data_reads self.new ≡ data_reads self.old }
         ensures others { OnOk result ((i : ℕ) → i < count self.old → changed self.new i ≡ changed self.old i) }
+        ensures passed { OnOk result (grow_rule (count self.old) wanted ≡ None) }
         ensures refused { IfErr result (λ fault. RefusesEdit (broken self.old) (grow_rule (count self.old) wanted) fault) }
         ensures unchanged { OnErr result (self.new ≡ self.old) }
         ensures size { size self.new ≡ size self.old }
@@ -73,6 +75,7 @@ pub trait Edited {
         ensures content { content self.new ≡ content self.old }
         ensures data_reads { data_reads self.new ≡ data_reads self.old }
         ensures others { OnOk result ((i : ℕ) → changed self.old i ≡ false → changed self.new i ≡ false) }
+        ensures passed { OnOk result (shrink_rule (count self.old) wanted ≡ None) }
         ensures refused { IfErr result (λ fault. RefusesEdit (broken self.old) (shrink_rule (count self.old) wanted) fault) }
         ensures unchanged { OnErr result (self.new ≡ self.old) }
         ensures size { size self.new ≡ size self.old }
@@ -88,6 +91,7 @@ pub trait Edited {
         ensures refused { IfErr result (λ fault. fault ≡ EditFault.Broken) }
         ensures broken_refused { OnErr result (broken self.old ≡ true) }
         ensures sound { OnOk result (broken self.new ≡ false) }
+        ensures broken { broken self.new ≡ broken self.old }
         ensures unchanged { OnErr result (self.new ≡ self.old) }
         ensures size { size self.new ≡ size self.old };
 }

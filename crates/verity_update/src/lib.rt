@@ -9,13 +9,15 @@
 //!
 //! Over any stores, for each image that fits the table line: the working image then has, block for block, the digests of the
 //! blocks that NEW gave, and no block is written or added that had its digest already, or the hash store gave a clash (`Updates`). So
-//! the root of its tree is the root of NEW's, and the line that is committed is NEW's ([`laws`]).
+//! the root of its tree is the root of NEW's, and the line that is committed is NEW's ([`laws`]). The answer is the number of blocks
+//! that were written or added (`changed_count`).
 //!
 //! # Errors
 //!
-//! [`UpdateFault`]: NEW's, or the editor's. What was edited until then is pending.
+//! [`UpdateFault`]: NEW's, or the editor's. Which comes when, and what stands then, is `ExplainsRefused`: what was edited until then
+//! is pending.
 //!
-//! The definitions stand in `specs/`: `Update` (what an update leaves), `Walk` (block after block).
+//! The definitions stand in `specs/`: `Update` (what an update leaves), `Refused` (why it is refused), `Walk` (block after block).
 #![tactic(auto)]
 
 mod edited;

@@ -1,5 +1,5 @@
 //! The digests that a volume's tree names for its data blocks, by checked paths.
-ghost use Rattle.std.specs.Prelude.{false, ◌≡◌, ◌<◌, ◌≤◌, ◌⊎◌, [], IsTrue, length, OnOk, IfOk, IfErr};
+ghost use Rattle.std.specs.Prelude.{false, ◌≡◌, ◌≢◌, ◌<◌, ◌≤◌, ◌⊎◌, [], IsTrue, length, OnOk, IfOk, IfErr};
 ghost use Rattle.verity_store.specs.Stores.{IsOnlyRead};
 ghost use Rattle.verity_chain.specs.Table.{IsTable, hashing_of};
 ghost use Rattle.verity_chain.specs.Chain.{Names};
@@ -9,7 +9,7 @@ ghost use Rattle.verity_update.specs.Walk.{NamesOther};
 
 use std::alloc::Allocator;
 use verity_chain::{Noted, ReadRefused, Tree, fetch};
-use verity_count::Mark;
+use verity_count::{Count, Mark};
 use verity_digest::Digest;
 use verity_store::BlockStore;
 
@@ -51,6 +51,7 @@ fn named_at<H: BlockStore, A: Allocator + Copy + Drop>(
     ensures err { IfErr result (ExplainsUnread tree.old (hash_given H.BlockStore tree.old since.now.steps store.new)
         (H.failures store.old < H.failures store.new)) }
     ensures unfailed { OnOk result (H.failures store.new ≡ H.failures store.old) }
+    ensures refused_unfailed { IfErr result (λ why. why ≢ ReadRefused.Store → H.failures store.new ≡ H.failures store.old) }
     ensures keeps { IsOnlyRead H.BlockStore store.old store.new }
     ensures same { tree.new ≡ tree.old }
 {
@@ -59,7 +60,18 @@ fn named_at<H: BlockStore, A: Allocator + Copy + Drop>(
     }
     bound(notes);
     let above = tree.parent_of(0, n);
-    let c = fetch(alloc, tree, store, notes, since, 0, above, block)?;
+    let mut hashed = Count::new();
+    let c = fetch(
+        alloc,
+        tree,
+        &mut hashed,
+        store,
+        notes,
+        since,
+        0,
+        above,
+        block,
+    )?;
     let slot = tree.slot_of(n);
     Ok(tree.digest_in(notes[c].block(), slot))
 }
@@ -89,6 +101,7 @@ pub fn is_named<H: BlockStore, A: Allocator + Copy + Drop>(
     ensures err { IfErr result (ExplainsUnread tree.old (hash_given H.BlockStore tree.old since.now.steps store.new)
         (H.failures store.old < H.failures store.new)) }
     ensures unfailed { OnOk result (H.failures store.new ≡ H.failures store.old) }
+    ensures refused_unfailed { IfErr result (λ why. why ≢ ReadRefused.Store → H.failures store.new ≡ H.failures store.old) }
     ensures keeps { IsOnlyRead H.BlockStore store.old store.new }
     ensures same { tree.new ≡ tree.old }
     ensures allowed { IsTable tree.old }

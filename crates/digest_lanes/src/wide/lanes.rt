@@ -39,10 +39,10 @@ fn maj(x: u64x4, y: u64x4, z: u64x4) -> u64x4
 }
 
 #[inline(always)]
-fn xor(x: u64x4, y: u64x4, z: u64x4) -> u64x4
-    ensures { (j : ℕ) → j < 4 → slice_index result j ≡ bit_xor (bit_xor (slice_index x j) (slice_index y j)) (slice_index z j) }
+fn xor(x: u64x4, y: u64x4) -> u64x4
+    ensures { (j : ℕ) → j < 4 → slice_index result j ≡ bit_xor (slice_index x j) (slice_index y j) }
 {
-    x ^ y ^ z
+    x ^ y
 }
 
 #[inline(always)]
@@ -53,44 +53,49 @@ fn shift_right(x: u64x4, k: u64) -> u64x4
     x >> u64x4::splat(k)
 }
 
+// The rotations are nested, each within the one before: fewer copies of `x` than three rotations of it.
 #[inline(always)]
 fn big_sigma0(x: u64x4) -> u64x4
     ensures { (j : ℕ) → j < 4 → slice_index result j ≡ big_sigma0 (slice_index x j) }
 {
-    let a = rotate_right(x, 28);
-    let b = rotate_right(x, 34);
-    let c = rotate_right(x, 39);
-    xor(a, b, c)
+    let a = rotate_right(x, 5);
+    let b = xor(x, a);
+    let c = rotate_right(b, 6);
+    let d = xor(x, c);
+    rotate_right(d, 28)
 }
 
 #[inline(always)]
 fn big_sigma1(x: u64x4) -> u64x4
     ensures { (j : ℕ) → j < 4 → slice_index result j ≡ big_sigma1 (slice_index x j) }
 {
-    let a = rotate_right(x, 14);
-    let b = rotate_right(x, 18);
-    let c = rotate_right(x, 41);
-    xor(a, b, c)
+    let a = rotate_right(x, 23);
+    let b = xor(x, a);
+    let c = rotate_right(b, 4);
+    let d = xor(x, c);
+    rotate_right(d, 14)
 }
 
 #[inline(always)]
 fn small_sigma0(x: u64x4) -> u64x4
     ensures { (j : ℕ) → j < 4 → slice_index result j ≡ small_sigma0 (slice_index x j) }
 {
-    let a = rotate_right(x, 1);
-    let b = rotate_right(x, 8);
-    let c = shift_right(x, 7);
-    xor(a, b, c)
+    let a = rotate_right(x, 7);
+    let b = xor(x, a);
+    let c = rotate_right(b, 1);
+    let d = shift_right(x, 7);
+    xor(c, d)
 }
 
 #[inline(always)]
 fn small_sigma1(x: u64x4) -> u64x4
     ensures { (j : ℕ) → j < 4 → slice_index result j ≡ small_sigma1 (slice_index x j) }
 {
-    let a = rotate_right(x, 19);
-    let b = rotate_right(x, 61);
-    let c = shift_right(x, 6);
-    xor(a, b, c)
+    let a = rotate_right(x, 42);
+    let b = xor(x, a);
+    let c = rotate_right(b, 19);
+    let d = shift_right(x, 6);
+    xor(c, d)
 }
 
 #[inline(always)]

@@ -5,6 +5,8 @@ use Rattle.verity_digest.specs.Tree.{tree}
 use Rattle.verity_geometry.specs.Geometry.{Shape, levels_of, total_of}
 use Rattle.verity_store.specs.Blocks.{resized}
 use Rattle.verity_superblock.specs.Superblock.{zero_filled}
+use Rattle.verity_build.specs.Opens.{opens}
+use Rattle.verity_build.proofs.Trees.{levels_of_opens}
 use Rattle.verity_build.specs.Open.{Open}
 use Rattle.verity_build.specs.Device.{AreStored}
 use Rattle.verity_build.proofs.Finishes.{root_known, root_right, holds_tree, length-resized, get_or-resized_old, device_is, stored_behind}
@@ -15,14 +17,14 @@ unreachable-requires g c =
     let first = c.args.tree.now in
     let new = c.write_tree.new.tree in
     let wrote = c.in_ok-write_tree.ensures in
-    root_known first.geometry new.blocks.items new.root first.shaped (new.levels ∙ ap levels_of wrote.geometry) wrote.grown c.in-None.is
+    root_known first.geometry (opens new) new.root first.shaped (levels_of_opens new ∙ ap levels_of wrote.geometry) wrote.grown c.in-None.is
 
 pub returns-clause-root : goal.returns-clause-root
 returns-clause-root g c = λ tells.
     let first = c.args.tree.now in
     let new = c.write_tree.new.tree in
     let wrote = c.in_ok-write_tree.ensures in
-    root_right first.geometry new.blocks.items new.root first.shaped (new.levels ∙ ap levels_of wrote.geometry) wrote.grown
+    root_right first.geometry (opens new) new.root first.shaped (levels_of_opens new ∙ ap levels_of wrote.geometry) wrote.grown
     first.hasher.salted (g.D.BlockStore.content c.args.data_store.now) first.sized c.requires.blocks c.in-Some.root
     (wrote.right tells) c.in-Some.is
 
@@ -48,10 +50,10 @@ returns-clause-written g c = λ td th.
     let old : List (List ℕ) = H.content c.args.hash_store.now in
     let mid : List (List ℕ) = H.content c.write_tree.new.hash_store in
     let new : List (List ℕ) = H.content c.write_superblock.new.hash_store in
-    let opens : List Open = c.write_tree.new.tree.blocks.items in
+    let opens : List Open = (opens c.write_tree.new.tree) in
     let cut = c.in-Ok.ensures in
     let wrote = c.in_ok-write_tree.ensures in
-    let levels = c.write_tree.new.tree.levels ∙ ap levels_of wrote.geometry in
+    let levels = levels_of_opens c.write_tree.new.tree ∙ ap levels_of wrote.geometry in
     let superblock : List ℕ = zero_filled s.hash_size c.args.superblock.now in
     let all : start + c.total.result ≡ start + total_of s = ap (λ t. start + t) c.total.ensures.value in
     let mid_len : length mid ≡ start + total_of s = wrote.hash_store.len ∙ ap length cut.done

@@ -1,6 +1,7 @@
 use Rattle.std.proofs.Common.{◌≡◌, true}
 use Rattle.verity_digest.specs.Hash.{hashing}
 use Rattle.verity_geometry.specs.Geometry.{digests_per_block}
+use Rattle.verity_build.specs.Opens.{opens}
 use Rattle.verity_build.specs.Progress.{Settling}
 use Rattle.verity_build.specs.Device.{StaysRight, StaysStored, WritesFrom}
 use Rattle.verity_build.proofs.building.write_done.Given as goal
@@ -11,12 +12,12 @@ invariant-loop-level g l =
     let s = l.fn.tree.geometry in
     let h = hashing l.fn.tree.hasher.salted s.hash_size in
     record {
-      settling : Settling (digests_per_block s) l.blocks s.blocks l.level l.tree.blocks.items l.tree.root;
+      settling : Settling (digests_per_block s) l.blocks s.blocks l.level (opens l.tree) l.tree.root;
       salted : l.tree.hasher.salted ≡ l.fn.tree.hasher.salted;
       geometry : l.tree.geometry ≡ s;
-      right : StaysRight h s.blocks l.fn.tree.blocks.items l.fn.tree.root l.tree.blocks.items l.tree.root;
+      right : StaysRight h s.blocks (opens l.fn.tree) l.fn.tree.root (opens l.tree) l.tree.root;
       stored : H.tells l.fn.hash_store ≡ true →
-          StaysStored h s l.start l.fn.tree.blocks.items l.fn.tree.root (H.content l.fn.hash_store) l.tree.blocks.items
+          StaysStored h s l.start (opens l.fn.tree) l.fn.tree.root (H.content l.fn.hash_store) (opens l.tree)
           (H.content l.hash_store);
       from : WritesFrom H l.start l.fn.hash_store l.hash_store;
       unfailed : H.failures l.hash_store ≡ H.failures l.fn.hash_store;

@@ -3,6 +3,7 @@ use Rattle.verity_digest.specs.Hash.{hashing}
 use Rattle.verity_digest.specs.Tree.{tree}
 use Rattle.verity_geometry.specs.Geometry.{digests_per_block}
 use Rattle.verity_store.specs.Stores.{IsOnlyRead}
+use Rattle.verity_build.specs.Opens.{opens}
 use Rattle.verity_build.specs.Ahead.{AreAhead}
 use Rattle.verity_build.specs.Progress.{Growing, Grown, IsRight}
 use Rattle.verity_build.specs.Device.{AreStored, WritesFrom}
@@ -16,13 +17,13 @@ invariant-loop-n g l =
     let h = hashing l.fn.tree.hasher.salted s.hash_size in
     let image = D.content l.fn.data_store in
     record {
-      growing : l.n < s.blocks → Growing (digests_per_block s) l.n l.tree.blocks.items l.tree.root;
-      grown : l.n ≡ s.blocks → Grown (digests_per_block s) l.n l.tree.blocks.items l.tree.root;
+      growing : l.n < s.blocks → Growing (digests_per_block s) l.n (opens l.tree) l.tree.root;
+      grown : l.n ≡ s.blocks → Grown (digests_per_block s) l.n (opens l.tree) l.tree.root;
       salted : l.tree.hasher.salted ≡ l.fn.tree.hasher.salted;
       geometry : l.tree.geometry ≡ s;
-      right : D.tells l.fn.data_store ≡ true → IsRight h image l.tree.blocks.items l.tree.root;
+      right : D.tells l.fn.data_store ≡ true → IsRight h image (opens l.tree) l.tree.root;
       stored : D.tells l.fn.data_store ≡ true → H.tells l.fn.hash_store ≡ true →
-          AreStored s l.start (tree h image) l.tree.blocks.items (H.content l.hash_store);
+          AreStored s l.start (tree h image) (opens l.tree) (H.content l.hash_store);
       data_store : IsOnlyRead D l.fn.data_store l.data_store;
       ahead : AreAhead D l.fn.tree.hasher.salted l.n l.data_store l.leaves.digests l.leaves.taken l.leaves.held;
       data_reads : D.reads l.data_store ≡ D.reads l.fn.data_store + l.n + (l.leaves.held - l.leaves.taken);

@@ -6,6 +6,8 @@ use Rattle.verity_geometry.specs.Geometry.{Shape, digests_per_block, levels_of, 
 use Rattle.verity_geometry.proofs.Shapes.{wide, some}
 use Rattle.verity_store.specs.Stores.{IsOnlyRead}
 use Rattle.verity_store.proofs.StoreLemmas.{only_read_same, only_read_then}
+use Rattle.verity_build.specs.Opens.{opens}
+use Rattle.verity_build.proofs.Trees.{levels_of_opens}
 use Rattle.verity_build.specs.Open.{Open}
 use Rattle.verity_build.specs.Ahead.{AreAhead}
 use Rattle.verity_build.specs.Climb.{Comes}
@@ -30,13 +32,13 @@ loop-n-init g c =
     let image : List (List ℕ) = D.content c.args.data_store.now in
     let w = wide s first.shaped in
     record {
-      growing = λ more. growing_empty (digests_per_block s) first.blocks.items first.root (omega arith) c.requires.empty;
+      growing = λ more. growing_empty (digests_per_block s) (opens first) first.root (omega arith) c.requires.empty;
       grown = λ none. let more = some s first.shaped in absurd (omega arith);
       salted = refl;
       geometry = refl;
-      right = λ tells. subst (λ r. IsRight h image first.blocks.items r) (sym c.requires.rootless)
-          (right_empty h image first.blocks.items c.requires.empty);
-      compared = λ td th. compared_none s c.args.start (tree h image) (H.content c.args.hash_store.now) first.blocks.items
+      right = λ tells. subst (λ r. IsRight h image (opens first) r) (sym c.requires.rootless)
+          (right_empty h image (opens first) c.requires.empty);
+      compared = λ td th. compared_none s c.args.start (tree h image) (H.content c.args.hash_store.now) (opens first)
           (λ l there. (c.requires.empty l there).1);
       data_store = only_read_same D c.args.data_store.now;
       ahead = ahead_none D first.hasher.salted 0 c.args.data_store.now c.new-leaves.result.digests c.new-leaves.result.taken
@@ -62,10 +64,10 @@ compare_done-requires-clause-come g c =
     let n : ℕ = c.loop-n.n in
     let same = c.take.ensures.geometry ∙ c.in_ok-digest.ensures.geometry ∙ kept.geometry in
     let growing = kept.growing (omega (arith, c.loop-n-test.true, c.blocks-n-end.ensures.value)) in
-    let comes = comes_now c.in_ok-digest.digest now.blocks.items c.next.new.tree.blocks.items mid.blocks.items now.root
+    let comes = comes_now c.in_ok-digest.digest (opens now) (opens c.next.new.tree) (opens mid) now.root
     c.next.new.tree.root mid.root c.in_ok-digest.ensures.opens c.in_ok-digest.ensures.root c.take.ensures.comes in
-    subst (λ t. Settling (digests_per_block t) (n + 1) t.blocks 0 mid.blocks.items mid.root) (sym same)
-    (settling_from (digests_per_block s) n c.in_ok-digest.digest now.blocks.items mid.blocks.items now.root mid.root growing comes s.blocks)
+    subst (λ t. Settling (digests_per_block t) (n + 1) t.blocks 0 (opens mid) mid.root) (sym same)
+    (settling_from (digests_per_block s) n c.in_ok-digest.digest (opens now) (opens mid) now.root mid.root growing comes s.blocks)
 
 pub loop-n-preserved : goal.loop-n-preserved
 loop-n-preserved g c =
@@ -90,43 +92,43 @@ loop-n-preserved g c =
     let hashes : hashing mid.hasher.salted mid.geometry.hash_size ≡ h = λ i. hashing (same_salted i) (geometry i).hash_size in
     let below : n < s.blocks = omega (arith, c.loop-n-test.true, c.blocks-n-end.ensures.value) in
     let growing = kept.growing below in
-    let levels : length now.blocks.items ≡ levels_of s = now.levels ∙ ap levels_of kept.geometry in
-    let comes = comes_now digest now.blocks.items c.next.new.tree.blocks.items mid.blocks.items now.root c.next.new.tree.root
+    let levels : length (opens now) ≡ levels_of s = levels_of_opens now ∙ ap levels_of kept.geometry in
+    let comes = comes_now digest (opens now) (opens c.next.new.tree) (opens mid) now.root c.next.new.tree.root
     mid.root next.opens next.root c.take.ensures.comes in
     let comes_right : D.tells c.args.data_store.now ≡ true →
-    Comes 0 (salted_digest salted block) now.blocks.items mid.blocks.items now.root mid.root = λ tells.
-    subst (λ d. Comes 0 d now.blocks.items mid.blocks.items now.root mid.root)
+    Comes 0 (salted_digest salted block) (opens now) (opens mid) now.root mid.root = λ tells.
+    subst (λ d. Comes 0 d (opens now) (opens mid) now.root mid.root)
     (next.right (kept.data_store.later.tells ∙ tells)
     ∙ (λ i. salted_digest (kept.salted i) (get_or (kept.data_store.content i) n []))) comes in
-    let mid_right : D.tells c.args.data_store.now ≡ true → IsRight h image mid.blocks.items mid.root = λ tells.
-    come_right salted s n block now.blocks.items mid.blocks.items now.root mid.root first.shaped first.sized levels growing
+    let mid_right : D.tells c.args.data_store.now ≡ true → IsRight h image (opens mid) mid.root = λ tells.
+    come_right salted s n block (opens now) (opens mid) now.root mid.root first.shaped first.sized levels growing
     (comes_right tells) image c.requires.blocks below refl (kept.right tells) in
-    let stays_right : StaysRight h s.blocks mid.blocks.items mid.root new.blocks.items new.root =
-    let P : ℕ → Type 0 = λ b. StaysRight h b mid.blocks.items mid.root new.blocks.items new.root in
-    let Q : Hashing → Type 0 = λ x. StaysRight x mid.geometry.blocks mid.blocks.items mid.root new.blocks.items new.root in
+    let stays_right : StaysRight h s.blocks (opens mid) mid.root (opens new) new.root =
+    let P : ℕ → Type 0 = λ b. StaysRight h b (opens mid) mid.root (opens new) new.root in
+    let Q : Hashing → Type 0 = λ x. StaysRight x mid.geometry.blocks (opens mid) mid.root (opens new) new.root in
     subst P (ap (λ t. t.blocks) geometry) (subst Q hashes done.right) in
     let content : List (List ℕ) = H.content c.args.hash_store.now in
     let stays_compared : H.tells c.args.hash_store.now ≡ true →
-    StaysCompared h s c.args.start content mid.blocks.items mid.root c.loop-n.found new.blocks.items
+    StaysCompared h s c.args.start content (opens mid) mid.root c.loop-n.found (opens new)
     c.in-Ok.first = λ tells.
-    let P : Shape → Type 0 = λ t. StaysCompared h t c.args.start content mid.blocks.items mid.root c.loop-n.found new.blocks.items
+    let P : Shape → Type 0 = λ t. StaysCompared h t c.args.start content (opens mid) mid.root c.loop-n.found (opens new)
     c.in-Ok.first in
-    let Q : Hashing → Type 0 = λ x. StaysCompared x mid.geometry c.args.start content mid.blocks.items mid.root c.loop-n.found
-    new.blocks.items c.in-Ok.first in
+    let Q : Hashing → Type 0 = λ x. StaysCompared x mid.geometry c.args.start content (opens mid) mid.root c.loop-n.found
+    (opens new) c.in-Ok.first in
     let R : List (List ℕ) → Type 0 = λ bs. StaysCompared (hashing mid.hasher.salted mid.geometry.hash_size) mid.geometry
-    c.args.start bs mid.blocks.items mid.root c.loop-n.found new.blocks.items c.in-Ok.first in
+    c.args.start bs (opens mid) mid.root c.loop-n.found (opens new) c.in-Ok.first in
     subst P geometry (subst Q hashes (subst R kept.hash_store.content (done.compared (kept.hash_store.later.tells ∙ tells)))) in
     record {
-      growing = λ more. subst (λ t. Growing (digests_per_block t) (n + 1) new.blocks.items new.root) geometry
+      growing = λ more. subst (λ t. Growing (digests_per_block t) (n + 1) (opens new) new.root) geometry
           (done.growing (omega (arith, ap (λ t. t.blocks) geometry)));
-      grown = λ last. subst (λ t. Grown (digests_per_block t) (n + 1) new.blocks.items new.root) geometry
+      grown = λ last. subst (λ t. Grown (digests_per_block t) (n + 1) (opens new) new.root) geometry
           (done.grown (last ∙ sym (ap (λ t. t.blocks) geometry)));
       salted = done.salted ∙ same_salted;
       geometry = done.geometry ∙ geometry;
       right = λ tells. stays_right image c.requires.blocks (mid_right tells);
       compared = λ td th. stays_compared th image c.requires.blocks (mid_right td)
-          (compared_kept s c.args.start (tree h image) content now.blocks.items mid.blocks.items c.loop-n.found comes.len
-          (λ l there. same_index (digests_per_block s) n digest now.blocks.items mid.blocks.items now.root mid.root growing comes l
+          (compared_kept s c.args.start (tree h image) content (opens now) (opens mid) c.loop-n.found comes.len
+          (λ l there. same_index (digests_per_block s) n digest (opens now) (opens mid) now.root mid.root growing comes l
           there) (kept.compared td th));
       data_store = only_read_then D c.args.data_store.now c.loop-n.data_store c.next.new.data_store kept.data_store next.read;
       ahead = subst (λ x. AreAhead D x (n + 1) c.next.new.data_store c.next.new.self.digests c.next.new.self.taken
@@ -137,8 +139,8 @@ loop-n-preserved g c =
         arith,
         done.reads,
         kept.hash_reads,
-        comes_none (digests_per_block s) n digest now.blocks.items
-            mid.blocks.items now.root mid.root growing comes,
+        comes_none (digests_per_block s) n digest (opens now)
+            (opens mid) now.root mid.root growing comes,
       );
       data_unfailed = next.unfailed ∙ kept.data_unfailed;
       hash_unfailed = done.unfailed ∙ kept.hash_unfailed;
@@ -153,7 +155,7 @@ returns-in_err-digest-clause-hash_reads g c =
     omega (
       arith,
       kept.hash_reads,
-      growing_total s c.loop-n.n now.blocks.items now.root c.args.tree.now.shaped (now.levels
+      growing_total s c.loop-n.n (opens now) now.root c.args.tree.now.shaped (levels_of_opens now
           ∙ ap levels_of kept.geometry) (omega arith) (kept.growing below),
     )
 
@@ -165,9 +167,9 @@ returns-in_default-clause-hash_reads g c =
     let kept = c.loop-n.invariant in
     let geometry = c.take.ensures.geometry ∙ c.in_ok-digest.ensures.geometry ∙ kept.geometry in
     let below : c.loop-n.n < s.blocks = omega (arith, c.loop-n-test.true, c.blocks-n-end.ensures.value) in
-    let comes = comes_now c.in_ok-digest.digest now.blocks.items c.next.new.tree.blocks.items mid.blocks.items now.root
+    let comes = comes_now c.in_ok-digest.digest (opens now) (opens c.next.new.tree) (opens mid) now.root
     c.next.new.tree.root mid.root c.in_ok-digest.ensures.opens c.in_ok-digest.ensures.root c.take.ensures.comes in
-    let none = comes_none (digests_per_block s) c.loop-n.n c.in_ok-digest.digest now.blocks.items mid.blocks.items now.root mid.root
+    let none = comes_none (digests_per_block s) c.loop-n.n c.in_ok-digest.digest (opens now) (opens mid) now.root mid.root
     (kept.growing below) comes in
     omega (arith, c.compare_done.ensures.reads_most, ap total_of geometry, kept.hash_reads, none)
 
@@ -180,6 +182,6 @@ returns-clause-hash_reads g c =
     omega (
       arith,
       kept.hash_reads,
-      grown_total s c.loop-n.n now.blocks.items now.root c.args.tree.now.shaped (now.levels
+      grown_total s c.loop-n.n (opens now) now.root c.args.tree.now.shaped (levels_of_opens now
           ∙ ap levels_of kept.geometry) (omega arith) (kept.grown all),
     )

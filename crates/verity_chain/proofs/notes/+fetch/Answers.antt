@@ -128,3 +128,8 @@ returns-clause-read g t c =
 
 pub returns-clause-apart : goal.returns-clause-apart
 returns-clause-apart g t c = λ apart. c.take-2.ensures.apart (c.fetch.ensures.apart apart)
+
+pub returns-clause-hashed_each : goal.returns-clause-hashed_each
+returns-clause-hashed_each g t c =
+    let r = c.in_ok-c.ensures in
+    ok_weaker c.take-2.result _ _ (λ one. let before = r.hashed_each in omega arith) c.take-2.ensures.hashed_each

@@ -38,7 +38,7 @@ returns-then-not-right-clause-err g c =
     let gave : Gave H mark c.read.new.self (hash_place t l i) y =
     subst (λ n. Gave H mark c.read.new.self n y) c.hash_place-number.ensures.value here in
     let differs : (hashing_of t).digest y ≢ c.args.named.now =
-    λ same. differs_here c.matches-right.result _ c.matches-right.ensures.value c.if-not-right.true same in (
+    λ same. differs_here c.check-right.result _ c.check-right.ensures.value c.if-not-right.true same in (
       c.requires.level,
       c.requires.index,
       wrong_noted H t mark c.args.store.now c.read.new.self c.args.notes.now.items l i
@@ -60,7 +60,8 @@ returns-clause-checked g c =
       number = c.hash_place-number.ensures.value;
       sized = long;
     } in
-    let same : (hashing_of t).digest y ≡ c.args.named.now = same_here c.matches-right.result _ c.matches-right.ensures.value c.if-not-right.false in
+    let same : (hashing_of t).digest y ≡ c.args.named.now =
+    same_here c.check-right.result _ c.check-right.ensures.value c.if-not-right.false in
     checked_push t c.args.notes.now.items c.push.new.self.items l i x c.args.named.now added at c.requires.names same c.requires.checked
 
 pub returns-clause-given : goal.returns-clause-given

@@ -1,6 +1,6 @@
 use Rattle.std.proofs.Common.{◌≡◌, ℕ, ◌-◌, [], ◌∷◌, ◌++◌, length, get_or, sym, ap, ◌∙◌}
 use Rattle.std.proofs.lemmas.List.{map-append}
-use Rattle.verity_edit.specs.declared.plan.Child.{Child}
+use Rattle.verity_edit.specs.declared.child.Child.{Child}
 use Rattle.verity_edit.specs.Draft.{Draft, edits_of}
 use Rattle.verity_edit.specs.Plan.{numbers_of}
 use Rattle.verity_edit.proofs.Drafts.{length-working}

@@ -4,7 +4,7 @@ use Rattle.verity_digest.specs.Tree.{per_block}
 use Rattle.verity_digest.specs.Shape.{level_count, level_len, place}
 use Rattle.verity_geometry.specs.Geometry.{Shape, digests_per_block}
 use Rattle.verity_geometry.proofs.Shapes.{branching, some}
-use Rattle.verity_edit.specs.declared.plan.Child.{Child}
+use Rattle.verity_edit.specs.declared.child.Child.{Child}
 use Rattle.verity_edit.specs.declared.tree.Change.{Change}
 use Rattle.verity_edit.specs.Last.{IsAboveLast}
 use Rattle.verity_edit.proofs.SeenLemmas.{shows_read, gives_read}
@@ -31,7 +31,7 @@ returns-in-Ok-push-clause-added g c =
     record {
       digest = c.in_block.result;
       sized = c.in_block.ensures.size;
-      added = c.in-Ok-push.ensures.items ∙ ap (λ n. let x : Child = record { number = n; digest = c.in_block.result } in
+      added = c.in-Ok-push.ensures ∙ ap (λ n. let x : Child = record { number = n; digest = c.in_block.result } in
           c.args.leaves.now.items ++ x ∷ []) last;
     }
 
@@ -60,7 +60,7 @@ returns-in-Ok-push-clause-named g c = λ content shown h image ok block_size dig
     let digest : c.in_block.result ≡ h.digest (get_or image b []) =
     c.in_block.ensures.value ∙ (λ i. take (size i) (drop (slots i * size i) (block i)))
     ∙ slot_stands h image content first b ok stands some_level (omega arith) inside in
-    c.in-Ok-push.ensures.items
+    c.in-Ok-push.ensures
     ∙ (λ i. let x : Child = record { number = last i; digest = digest i } in c.args.leaves.now.items ++ x ∷ [])
 
 pub returns-in-Err-clause-gives : goal.returns-in-Err-clause-gives

@@ -1,8 +1,5 @@
-use Rattle.std.proofs.Common.{◌≡◌, ◌+◌, ◌-◌, ◌<◌, ◌≤◌, ◌++◌, length, map, take, drop, None}
-use Rattle.std.specs.Prelude.{IsSome, IfSome}
-use Rattle.std.specs.List.{count_by}
-use Rattle.verity_digest.specs.Hash.{salted_digest}
-use Rattle.verity_edit.specs.Leaves.{hashed_leaf, is_written, hashes_for}
+use Rattle.std.proofs.Common.{◌≡◌, ◌+◌, ◌-◌, ◌≤◌, ◌++◌, length, map, take, drop}
+use Rattle.verity_edit.specs.Leaves.{hashed_leaf}
 use Rattle.verity_edit.proofs.leaves.digest_leaves.Given as goal
 
 abbrev pub invariant-runs : goal.invariant-runs
@@ -11,12 +8,7 @@ invariant-runs g l = record {
   made : l.leaves ≡ map (λ child. hashed_leaf l.initial.hasher.salted l.written.entries l.zero child.number) (take l.done l.initial.leaves)
       ++ drop l.done l.initial.leaves;
   salted : l.hasher.salted ≡ l.initial.hasher.salted;
-  count : l.hashed ≡ count_by (λ child. is_written l.written.entries child.number) (take l.done l.initial.leaves);
-  few : l.hashed ≤ l.done;
-  hashed : l.hasher.hashed ≡ l.initial.hasher.hashed + hashes_for l.done l.hashed;
-  zeros : IfSome l.zeros (λ digest. digest ≡ salted_digest l.initial.hasher.salted l.zero);
-  none : l.zeros ≡ None → l.done ≤ l.hashed;
-  others : IsSome l.zeros → l.hashed < l.done;
+  hashed : l.hasher.hashed ≡ l.initial.hasher.hashed + l.done;
 }
 
 abbrev pub decreases-runs : goal.decreases-runs

@@ -1,7 +1,7 @@
 use Rattle.std.proofs.Common.{ℕ, ◌<◌, ◌≤◌, List, length, take, map, sym, ap, ◌∙◌, arith}
 use Rattle.std.proofs.lemmas.List.{length-take-le, length-map, ext_get_or, get_or-map}
 use Rattle.verity_digest.specs.Hash.{salted_digest}
-use Rattle.verity_edit.specs.declared.plan.Child.{Child}
+use Rattle.verity_edit.specs.declared.child.Child.{Child}
 use Rattle.verity_edit.specs.Slots.{nobody, child_at}
 use Rattle.verity_edit.specs.Leaves.{hashed_leaf}
 use Rattle.verity_edit.proofs.leaves.digest_run.Goals as goal

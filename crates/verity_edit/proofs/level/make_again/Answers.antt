@@ -28,11 +28,12 @@ returns-clause-made g c = λ content shown old new count holds renews.
     let same : d ≡ h.digest_size = l.digest_size in
     let width : per_block h ≡ k = ap (λ n. n / h.digest_size) c.requires.sized ∙ sym l.width in
     let before = c.in_ok-read_old.ensures in
-    let renewed : Renews h.digest_size old new c.args.children.now = subst (λ (w : ℕ). Renews w old new c.args.children.now) same renews in
+    let renewed : Renews h.digest_size old new c.args.children.now.items =
+    subst (λ (w : ℕ). Renews w old new c.args.children.now.items) same renews in
     let first = λ (far : level.old.len ≤ i) (z : i ≡ 0). subst
     (λ (w : ℕ). IfSome level.old.first (λ digest. get_or (slots w k c.read_old.new.block) 0 [] ≡ digest)) same (before.first far z) in
     let can = can_remake h old new k i level.digests c.min-len.result level.old content
-    c.args.children.now c.read_old.new.block
+    c.args.children.now.items c.read_old.new.block
     (omega arith) width some (omega arith) c.min-len.ensures (before.read content shown) first count holds renewed in
     let done : c.remake.new.block ≡ hash_block h (slice_chunk new k i) = c.remake.ensures h new (sym same) can in
     let inside : i < div_ceil (length new) (per_block h) =

@@ -1,7 +1,8 @@
 use Rattle.std.proofs.Common.{◌≡◌, ℕ, ◌+◌, ◌++◌, ◌∷◌, [], length, get_or, rules, ap, ◌∙◌}
 use Rattle.verity_digest.specs.Tree.{Hashing, pack}
 use Rattle.verity_digest.specs.Hash.{hashing}
-use Rattle.verity_edit.specs.declared.plan.Child.{Child}
+use Rattle.verity_edit.specs.declared.child.Child.{Child}
+use Rattle.verity_edit.specs.Plan.{Planned}
 use Rattle.verity_edit.proofs.level.make_block.Goals as goal
 
 pub returns-in-Ok-push-clause-made : goal.returns-in-Ok-push-clause-made
@@ -10,22 +11,20 @@ returns-in-Ok-push-clause-made g c = λ content shown old new count holds renews
     let i : ℕ = c.args.index in
     let at : ℕ = c.args.level.now.start + i in
     let r = c.in-Ok.ensures.made content shown old new count holds renews in
-    let copied : c.in-Ok-to_vec.bytes.items ≡ c.make_again.new.block = search rules in
-    let block : c.new.result ≡ get_or (pack h new) i [] = c.new.ensures ∙ copied ∙ r.0 in
-    let planned : c.push.new.self.items ≡ c.args.plan.now.items ++ c.new-made.result ∷ [] = search rules in
+    let planned : c.push.new.self.items ≡ c.args.plan.now.items ++ c.in-Ok-behind.made ∷ [] = search rules in
+    let made : c.in-Ok-behind.made ≡ record { at = at; block = c.make_again.new.block } = c.in-Ok-behind.ensures in
     let child : Child = record { number = i; digest = c.in-Ok.digest } in
     let nexted : c.push-2.new.self.items ≡ c.args.next.now.items ++ child ∷ [] = search rules in (
-      planned ∙ ap (λ m. c.args.plan.now.items ++ m ∷ []) c.new-made.ensures
-          ∙ (λ j. c.args.plan.now.items ++ record { at = at; block = block j } ∷ []),
+      planned ∙ ap (λ (m : Planned). c.args.plan.now.items ++ m ∷ []) made
+          ∙ (λ j. let m : Planned = record { at = at; block = r.0 j } in c.args.plan.now.items ++ m ∷ []),
       nexted ∙ (λ j. c.args.next.now.items ++ record { number = i; digest = r.1 j } ∷ []),
     )
 
 pub returns-in-Ok-push-clause-planned : goal.returns-in-Ok-push-clause-planned
 returns-in-Ok-push-clause-planned g c =
-    let copied : c.in-Ok-to_vec.bytes.items ≡ c.make_again.new.block = search rules in
-    let planned : c.push.new.self.items ≡ c.args.plan.now.items ++ c.new-made.result ∷ [] = search rules in
+    let planned : c.push.new.self.items ≡ c.args.plan.now.items ++ c.in-Ok-behind.made ∷ [] = search rules in
     record {
-      block = c.new.result;
-      sized = ap length (c.new.ensures ∙ copied) ∙ c.make_again.auto.block;
-      added = planned ∙ ap (λ m. c.args.plan.now.items ++ m ∷ []) c.new-made.ensures;
+      block = c.make_again.new.block;
+      sized = c.make_again.auto.block;
+      added = planned ∙ ap (λ (m : Planned). c.args.plan.now.items ++ m ∷ []) c.in-Ok-behind.ensures;
     }

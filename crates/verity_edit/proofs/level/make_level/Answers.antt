@@ -4,7 +4,7 @@ use Rattle.std.proofs.lemmas.List.Elements.{Contains-get_or}
 use Rattle.verity_digest.specs.Tree.{Hashing, pack}
 use Rattle.verity_digest.specs.Hash.{hashing, size_of}
 use Rattle.verity_store.proofs.StoreLemmas.{only_read_then}
-use Rattle.verity_edit.specs.declared.plan.Child.{Child}
+use Rattle.verity_edit.specs.declared.child.Child.{Child}
 use Rattle.verity_edit.specs.Slots.{AreSized, nobody}
 use Rattle.verity_edit.specs.Level.{Holds, IsLevel, IsOldBlock, IsOldOf}
 use Rattle.verity_edit.specs.Plan.{Planned, nothing_planned, numbers_of, places, ArePlanned, made_blocks, made_digests}

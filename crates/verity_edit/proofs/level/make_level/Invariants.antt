@@ -12,7 +12,7 @@ invariant-loop-index g l = record {
   made : (content : List (List ℕ)) → Shows g.H.BlockStore l.hash_store content → (old new : List (List ℕ)) → let h =
       hashing l.initial.hasher.salted (length l.initial.block) in
       length new ≡ l.level.digests → Holds h old l.level.old content →
-      Renews l.level.digest_size old new l.children
+      Renews l.level.digest_size old new l.children.items
       → (l.plan.items ≡ l.initial.plan.items ++ made_blocks h new l.level.start (take l.index-index l.numbers)) ×
       (l.next.items ≡ made_digests h new (take l.index-index l.numbers));
   numbers : numbers_of l.next.items ≡ take l.index-index l.numbers;

@@ -6,7 +6,7 @@ use Rattle.verity_profile.proofs.Bounds.{block_size_low}
 use Rattle.verity_geometry.specs.Geometry.{Shape, IsShape, digests_per_block, levels_of}
 use Rattle.verity_geometry.proofs.Shapes.{some}
 use Rattle.verity_store.proofs.StoreLemmas.{only_read_then}
-use Rattle.verity_edit.specs.declared.plan.Child.{Child}
+use Rattle.verity_edit.specs.declared.child.Child.{Child}
 use Rattle.verity_edit.specs.declared.tree.Change.{Change}
 use Rattle.verity_edit.specs.Edits.{Edits}
 use Rattle.verity_edit.specs.Draft.{Draft, IsDraft, edits_of}
@@ -56,8 +56,8 @@ returns-clause-reads g c = λ image len same.
 
 pub overflow_add-hashed : goal.overflow_add-hashed
 overflow_add-hashed g c =
-    let most = c.in-Ok.ensures.most in
-    let small = c.in-Ok.changed.0.small in
+    let few = c.in-Ok.ensures.few in
+    let small = c.make_tree.new.plan.small in
     omega arith
 
 pub returns-clause-planned : goal.returns-clause-planned

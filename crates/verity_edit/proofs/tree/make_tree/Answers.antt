@@ -13,7 +13,7 @@ use Rattle.verity_profile.proofs.Bounds.{block_size_low}
 use Rattle.verity_geometry.specs.Geometry.{digests_per_block, levels_of, start_of}
 use Rattle.verity_geometry.proofs.Shapes.{branching}
 use Rattle.verity_store.proofs.StoreLemmas.{only_read_same, only_read_then}
-use Rattle.verity_edit.specs.declared.plan.Child.{Child}
+use Rattle.verity_edit.specs.declared.child.Child.{Child}
 use Rattle.verity_edit.specs.Edits.{Edits}
 use Rattle.verity_edit.specs.Touched.{touched}
 use Rattle.verity_edit.specs.Slots.{child_at, AreNamed, AreSized, AreWithin}
@@ -47,14 +47,11 @@ make_next-requires-clause-sized g c = let inv = c.loop-level.invariant in let si
 pub make_next-requires-clause-children_sized : goal.make_next-requires-clause-children_sized
 make_next-requires-clause-children_sized g c =
     let inv = c.loop-level.invariant in
-    subst (λ (xs : List Child). AreSized (size_of c.loop-level.hasher.salted.algorithm) xs) (sym c.deref.ensures.value)
-    (subst (λ (n : ℕ). AreSized n c.loop-level.children.items) (sym (ap (λ s. size_of s.algorithm) inv.salted)) inv.sized)
+    subst (λ (n : ℕ). AreSized n c.loop-level.children.items) (sym (ap (λ s. size_of s.algorithm) inv.salted)) inv.sized
 
 pub make_next-requires-clause-children_within : goal.make_next-requires-clause-children_within
 make_next-requires-clause-children_within g c =
-    let inv = c.loop-level.invariant in
-    subst (λ (xs : List Child). AreWithin (row_len (digests_per_block c.args.change.now.new) c.args.change.now.new.blocks
-    c.loop-level.level) xs) (sym c.deref.ensures.value) inv.within
+    c.loop-level.invariant.within
 
 pub loop-level-init : goal.loop-level-init
 loop-level-init g c =
@@ -92,9 +89,9 @@ loop-level-preserved g c =
     let there : l < levels_of change.new = omega arith in
     let step : l + 1 ≡ suc l = omega arith in
     let up : (e : Edits) → IsEdited e change.old.blocks n c.args.leaves.items →
-    parents k (numbers_of c.deref.result.now) ≡ touched k e l = λ e ed.
+    parents k (numbers_of c.loop-level.children.items) ≡ touched k e l = λ e ed.
     let left : 0 < length e.working = (let s = ed.left in let w = ed.working in omega arith) in
-    ap (λ xs. parents k (numbers_of xs)) c.deref.ensures.value ∙ ap (parents k) (inv.numbers e ed) ∙ parents-renewed k e l some left in
+    ap (parents k) (inv.numbers e ed) ∙ parents-renewed k e l some left in
     record {
       within = subst (λ (m : ℕ). AreWithin (row_len k n m) c.in_ok-children.children.items) (sym step) one.next_within;
       sized = subst (λ (d : ℕ). AreSized d c.in_ok-children.children.items) (ap (λ s. size_of s.algorithm) inv.salted) one.next_sized;
@@ -124,10 +121,8 @@ loop-level-preserved g c =
           ∙ length-row h e.working l (let b = ok.branching in omega arith) ∙ (λ i. row_len (width i) (ed.working i) l) in
           let held_here : Holds here r.old (level_of change l).old content =
           subst (λ (x : Hashing). Holds x r.old (level_of change l).old content) (sym same) r.holds in
-          let renews : Renews h.digest_size r.old new c.deref.result.now =
-          subst (λ (xs : List Child). Renews h.digest_size r.old new xs) (sym c.deref.ensures.value) r.renews in
-          let renews_here : Renews here.digest_size r.old new c.deref.result.now =
-          subst (λ (x : Hashing). Renews x.digest_size r.old new c.deref.result.now) (sym same) renews in
+          let renews_here : Renews here.digest_size r.old new c.loop-level.children.items =
+          subst (λ (x : Hashing). Renews x.digest_size r.old new c.loop-level.children.items) (sym same) r.renews in
           let made = one.made content shown r.old new long held_here renews_here in
           let next : c.in_ok-children.children.items ≡ made_digests h new (touched k e l) =
           made.1 ∙ (λ i. made_digests (same i) new (up e ed i)) in
@@ -153,7 +148,7 @@ loop-level-preserved g c =
       reads = λ e ed. let more = touched_below-more k e l (l + 1) refl in let now = ap length (up e ed) in let was =
           inv.reads e ed in let r = one.reads in omega arith;
       gives = λ e ed. gives_then (IsTouchedPlace change e) _ _ _ (inv.gives e ed)
-          (gives_more (IsOldOf (level_of change l) (parents k (numbers_of c.deref.result.now))) (IsTouchedPlace change e) _ _
+          (gives_more (IsOldOf (level_of change l) (parents k (numbers_of c.loop-level.children.items))) (IsTouchedPlace change e) _ _
           (λ m is. touched_place change _ _ _ e l m _ c.requires.change (up e ed) is) one.gives);
       read_only = only_read_then g.H.BlockStore _ _ _ inv.read_only one.read_only;
     }
@@ -167,8 +162,8 @@ returns-in_err-children-clause-reads g c = λ e ed.
     let l : ℕ = c.loop-level.level in
     let two = branching change.new c.requires.change.new_shape in
     let left : 0 < length e.working = (let s = ed.left in let w = ed.working in omega arith) in
-    let up : parents k (numbers_of c.deref.result.now) ≡ touched k e l = ap (λ xs. parents k (numbers_of xs)) c.deref.ensures.value
-    ∙ ap (parents k) (inv.numbers e ed) ∙ parents-renewed k e l (omega arith) left in
+    let up : parents k (numbers_of c.loop-level.children.items) ≡ touched k e l =
+    ap (parents k) (inv.numbers e ed) ∙ parents-renewed k e l (omega arith) left in
     let count : levels_of change.new ≡ level_count k (length e.working) = ap (level_count k) (sym ed.working) in
     let most = touched_below-mono k e (l + 1) (level_count k (length e.working)) (omega arith) in
     let more = touched_below-more k e l (l + 1) refl in let now = ap length up in let was = inv.reads e ed in let r = one.reads in
@@ -183,10 +178,10 @@ returns-in_err-children-clause-gives g c = λ e ed.
     let l : ℕ = c.loop-level.level in
     let two = branching change.new c.requires.change.new_shape in
     let left : 0 < length e.working = (let s = ed.left in let w = ed.working in omega arith) in
-    let up : parents k (numbers_of c.deref.result.now) ≡ touched k e l = ap (λ xs. parents k (numbers_of xs)) c.deref.ensures.value
-    ∙ ap (parents k) (inv.numbers e ed) ∙ parents-renewed k e l (omega arith) left in
+    let up : parents k (numbers_of c.loop-level.children.items) ≡ touched k e l =
+    ap (parents k) (inv.numbers e ed) ∙ parents-renewed k e l (omega arith) left in
     gives_then (IsTouchedPlace change e) _ _ _ (inv.gives e ed)
-    (gives_more (IsOldOf (level_of change l) (parents k (numbers_of c.deref.result.now))) (IsTouchedPlace change e) _ _
+    (gives_more (IsOldOf (level_of change l) (parents k (numbers_of c.loop-level.children.items))) (IsTouchedPlace change e) _ _
     (λ m is. touched_place change _ _ _ e l m _ c.requires.change up is) one.gives)
 
 pub returns-clause-gives : goal.returns-clause-gives
@@ -208,9 +203,7 @@ returns-clause-made g c = λ content shown e ed stands.
           (size_of c.args.hasher.now.salted.algorithm) c.loop-level.level content
           c.args.leaves.items c.loop-level.children.items c.top_digest.result
           ok c.requires.sized refl change_ok ed stands at inv.within (inv.numbers e ed) made.1
-          (λ some. c.top_digest.ensures.some (subst (λ (xs : List Child). 0 < length xs) (sym c.deref-2.ensures.value) some)
-          ∙ ap (λ xs. (child_at xs 0).digest) c.deref-2.ensures.value)
-          (λ none. c.top_digest.ensures.none (ap length c.deref-2.ensures.value ∙ none)),
+          c.top_digest.ensures.some c.top_digest.ensures.none,
     )
 
 pub returns-clause-places : goal.returns-clause-places
@@ -237,10 +230,7 @@ returns-clause-reads g c = λ e ed.
 pub returns-clause-digest_size : goal.returns-clause-digest_size
 returns-clause-digest_size g c =
     let children : List Child = c.loop-level.children.items in
-    let same = c.deref-2.ensures.value in
     ⊎_elim
-    (λ some.
-    ap length (c.top_digest.ensures.some (subst (λ (xs : List Child). 0 < length xs) (sym same) some)
-    ∙ ap (λ xs. (child_at xs 0).digest) same) ∙ c.loop-level.invariant.sized 0 some)
-    (λ none. (let e = ap length same in ap length (c.top_digest.ensures.none (omega arith))) ∙ c.requires.change.sized)
+    (λ some. ap length (c.top_digest.ensures.some some) ∙ c.loop-level.invariant.sized 0 some)
+    (λ none. ap length (c.top_digest.ensures.none (omega arith)) ∙ c.requires.change.sized)
     (cases_lt 0 (length children))

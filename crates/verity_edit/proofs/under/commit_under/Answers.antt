@@ -1,11 +1,12 @@
-use Rattle.std.proofs.Common.{◌≡◌, ℕ, true≢false, true, List, [], length, get_or, arith, subst, sym, ap, ◌∙◌}
+use Rattle.std.proofs.Common.{◌≡◌, ℕ, ◌+◌, true≢false, true, List, [], length, get_or, arith, subst, sym, ap, ◌∙◌}
 use Rattle.verity_geometry.specs.Geometry.{total_of}
 use Rattle.verity_store.proofs.GivenLemmas.{goes_on_then}
 use Rattle.verity_chain.proofs.ChainLemmas.{ok_here}
 use Rattle.verity_superblock.specs.Superblock.{Volume}
 use Rattle.verity_edit.specs.declared.tree.Change.{Change}
 use Rattle.verity_edit.specs.Draft.{Draft}
-use Rattle.verity_edit.specs.Planning.{IsPlan, IsRight, ReadsPaths}
+use Rattle.verity_edit.specs.Planning.{IsPlan, IsRight, ReadsPaths, moves_of}
+use Rattle.verity_edit.specs.Levels.{moved_blocks}
 use Rattle.verity_edit.specs.Committing.{IsCarriedOut}
 use Rattle.verity_edit.specs.Under.{IsRightUnder}
 use Rattle.verity_edit.proofs.CommitLemmas.{carried_before}
@@ -158,3 +159,103 @@ returns-then-is_err-clause-most_reads g c = λ whole image len.
 
 pub returns-in-Ok-carry_out-clause-most_reads : goal.returns-in-Ok-carry_out-clause-most_reads
 returns-in-Ok-carry_out-clause-most_reads g c = λ whole. absurd (true≢false (sym c.carry_out.ensures.raised ∙ whole))
+
+pub returns-in-Ok-carry_out-clause-moved_reads : goal.returns-in-Ok-carry_out-clause-moved_reads
+returns-in-Ok-carry_out-clause-moved_reads g c = λ image len.
+    let H = g.H.BlockStore in
+    let v : Volume = c.args.superblock.now in
+    let d : Draft = c.args.pending.now in
+    let plan = c.in-Ok-planned.plan in
+    let read = at_ok c.plan_under-tree.result.2 plan (ReadsPaths v d 0 (H.reads c.args.hash_store) (H.reads c.plan_under-tree.result.1))
+    c.in-Ok-planned.is c.plan_under-tree.ensures.reads in
+    let made = from_ok c.plan_under-tree.result.2 plan (λ p. IsPlan v d c.hash_start_block-first.result c.root-root.result p)
+    c.in-Ok-planned.is c.plan_under-tree.ensures.plan in
+    let moves = ap (λ (x : Change). moved_blocks x.old x.new) made.change in
+    let most = read image len in
+    let kept = c.reserve_both.ensures.hash_store.reads in
+    let moved = c.carry_out.ensures.moved_reads in
+    omega arith
+
+pub returns-in-Ok-carry_out-clause-all_reads : goal.returns-in-Ok-carry_out-clause-all_reads
+returns-in-Ok-carry_out-clause-all_reads g c = λ image len.
+    let H = g.H.BlockStore in
+    let v : Volume = c.args.superblock.now in
+    let d : Draft = c.args.pending.now in
+    let plan = c.in-Ok-planned.plan in
+    let made = from_ok c.plan_under-tree.result.2 plan (λ p. IsPlan v d c.hash_start_block-first.result c.root-root.result p)
+    c.in-Ok-planned.is c.plan_under-tree.ensures.plan in
+    let moves = ap (λ (x : Change). moved_blocks x.old x.new) made.change in
+    let most = c.plan_under-tree.ensures.most_reads image len in
+    let kept = c.reserve_both.ensures.hash_store.reads in
+    let moved = c.carry_out.ensures.moved_reads in
+    omega arith
+
+pub returns-clause-all_reads : goal.returns-clause-all_reads
+returns-clause-all_reads g c = λ image len.
+    let H = g.H.BlockStore in
+    let v : Volume = c.args.superblock.now in
+    let d : Draft = c.args.pending.now in
+    let plan = c.in-Ok-planned.plan in
+    let made = from_ok c.plan_under-tree.result.2 plan (λ p. IsPlan v d c.hash_start_block-first.result c.root-root.result p)
+    c.in-Ok-planned.is c.plan_under-tree.ensures.plan in
+    let moves = ap (λ (x : Change). moved_blocks x.old x.new) made.change in
+    let most = c.plan_under-tree.ensures.most_reads image len in
+    let kept = c.reserve_both.ensures.hash_store.reads in
+    let moved = c.carry_out.ensures.moved_reads in
+    omega arith
+
+pub returns-then-is_err-clause-all_reads : goal.returns-then-is_err-clause-all_reads
+returns-then-is_err-clause-all_reads g c = λ image len.
+    let most = c.plan_under-tree.ensures.most_reads image len in
+    let kept = c.reserve_both.ensures.hash_store.reads in
+    omega arith
+
+pub returns-in-Ok-carry_out-clause-checks : goal.returns-in-Ok-carry_out-clause-checks
+returns-in-Ok-carry_out-clause-checks g c = λ image len.
+    let H = g.H.BlockStore in
+    let v : Volume = c.args.superblock.now in
+    let d : Draft = c.args.pending.now in
+    let read = at_ok c.plan_under-tree.result.2 c.in-Ok-planned.plan (ReadsPaths v d 0 (H.reads c.args.hash_store)
+    (H.reads c.plan_under-tree.result.1)) c.in-Ok-planned.is c.plan_under-tree.ensures.reads in
+    let most = read image len in
+    let once = c.plan_under-tree.ensures.checks in
+    omega arith
+
+pub returns-in-Ok-carry_out-clause-most_checks : goal.returns-in-Ok-carry_out-clause-most_checks
+returns-in-Ok-carry_out-clause-most_checks g c = λ image len.
+    let most = c.plan_under-tree.ensures.most_reads image len in
+    let once = c.plan_under-tree.ensures.checks in
+    omega arith
+
+pub returns-clause-most_checks : goal.returns-clause-most_checks
+returns-clause-most_checks g c = λ image len.
+    let most = c.plan_under-tree.ensures.most_reads image len in
+    let once = c.plan_under-tree.ensures.checks in
+    omega arith
+
+pub returns-then-is_err-clause-most_checks : goal.returns-then-is_err-clause-most_checks
+returns-then-is_err-clause-most_checks g c = λ image len.
+    let most = c.plan_under-tree.ensures.most_reads image len in
+    let once = c.plan_under-tree.ensures.checks in
+    omega arith
+
+pub returns-in-Err-clause-most_checks : goal.returns-in-Err-clause-most_checks
+returns-in-Err-clause-most_checks g c = λ image len.
+    let most = c.plan_under-tree.ensures.most_reads image len in
+    let once = c.plan_under-tree.ensures.checks in
+    omega arith
+
+pub returns-in-Ok-carry_out-clause-checks_each : goal.returns-in-Ok-carry_out-clause-checks_each
+returns-in-Ok-carry_out-clause-checks_each g c =
+    let H = g.H.BlockStore in
+    let v : Volume = c.args.superblock.now in
+    let d : Draft = c.args.pending.now in
+    let plan = c.in-Ok-planned.plan in
+    let each = at_ok c.plan_under-tree.result.2 plan (c.plan_under-tree.new.checks.steps + H.reads c.args.hash_store
+    ≡ H.reads c.plan_under-tree.result.1) c.in-Ok-planned.is c.plan_under-tree.ensures.checks_each in
+    let made = from_ok c.plan_under-tree.result.2 plan (λ p. IsPlan v d c.hash_start_block-first.result c.root-root.result p)
+    c.in-Ok-planned.is c.plan_under-tree.ensures.plan in
+    let moves = ap (λ (x : Change). moved_blocks x.old x.new) made.change in
+    let kept = c.reserve_both.ensures.hash_store.reads in
+    let moved = c.carry_out.ensures.moved_reads in
+    omega arith

@@ -5,7 +5,7 @@ use Rattle.verity_edit.specs.declared.planning.CommitPlan.{CommitPlan}
 use Rattle.verity_edit.specs.Faults.{PlansOrFails}
 use Rattle.verity_edit.specs.Planning.{GivesTouched}
 use Rattle.verity_edit.specs.Under.{ExplainsUnplanned, refusal_of}
-use Rattle.verity_edit.proofs.UnderLemmas.{read_then, explains_then, right_under, told_under}
+use Rattle.verity_edit.proofs.UnderLemmas.{read_then, checks_then, checks_each_then, explains_then, right_under, told_under}
 use Rattle.verity_edit.proofs.PathLemmas.{reads_paths, reads_most}
 use Rattle.verity_edit.proofs.under.plan_checked.Goals as goal
 
@@ -86,4 +86,26 @@ returns-in-Ok-clause-reads g c =
     c.args.pending.now c.args.first c.args.root c.requires.line (sym c.requires.committed) c.facts.ensures.some
     (subst (λ rows. GivesTouched c.args.superblock.now c.args.pending.now c.args.first c.args.root rows new.given)
     (ap (λ s. s.given) c.requires.unread) c.in-Ok.ensures.gives)
+    (c.table-facts.ensures.facts.counted (c.in-Ok.ensures.fails ∙ ap (λ s. s.refused) c.requires.unread))
+
+pub returns-in-Ok-clause-checks : goal.returns-in-Ok-clause-checks
+returns-in-Ok-clause-checks g c =
+    let old = c.args.checked.now in
+    let new = c.plan_commit-planned.new.hash_store in
+    checks_then g.H.BlockStore old.table old.hash_store new c.table-facts.ensures.facts
+    (c.in-Ok.ensures.read_only.later.fixed ∙ ap (λ s. bound_to old.table s.origin) c.requires.unread)
+
+pub returns-in-Err-clause-checks : goal.returns-in-Err-clause-checks
+returns-in-Err-clause-checks g c =
+    let old = c.args.checked.now in
+    let new = c.plan_commit-planned.new.hash_store in
+    checks_then g.H.BlockStore old.table old.hash_store new c.table-facts.ensures.facts
+    (c.in-Err.ensures.read_only.later.fixed ∙ ap (λ s. bound_to old.table s.origin) c.requires.unread)
+
+pub returns-in-Ok-clause-checks_each : goal.returns-in-Ok-clause-checks_each
+returns-in-Ok-clause-checks_each g c =
+    let old = c.args.checked.now in
+    let new = c.plan_commit-planned.new.hash_store in
+    checks_each_then g.H.BlockStore old.table old.hash_store new c.table-facts.ensures.facts
+    (c.in-Ok.ensures.read_only.later.fixed ∙ ap (λ s. bound_to old.table s.origin) c.requires.unread)
     (c.table-facts.ensures.facts.counted (c.in-Ok.ensures.fails ∙ ap (λ s. s.refused) c.requires.unread))

@@ -1,4 +1,4 @@
-use Rattle.std.proofs.Common.{◌≡◌, true, length, IfOk, IfErr, OnOk, sym, subst}
+use Rattle.std.proofs.Common.{◌≡◌, ℕ, ◌+◌, ◌≤◌, true, length, IfOk, IfErr, OnOk, arith, sym, subst}
 use Rattle.verity_chain.specs.Checked.{Checking}
 use Rattle.verity_chain.specs.Table.{height}
 use Rattle.verity_edit.specs.Planning.{IsRight, ReadsPaths}
@@ -40,3 +40,23 @@ returns-clause-most_reads g c =
     let old = subst (λ (s : Checking g.row.H.Denot). ReadsPaths v d (height s.table) (H.reads s.hash_store)
     (H.reads c.plan_checked-planned.new.checked.hash_store)) c.new-checked.ensures c.plan_checked-planned.ensures.most_reads in
     subst (λ h. ReadsPaths v d (height c.args.tree) (H.reads c.args.hash_store) (H.reads h)) (sym c.into_parts-tree.ensures.store) old
+
+pub returns-clause-checks : goal.returns-clause-checks
+returns-clause-checks g c =
+    let H = g.H.BlockStore in
+    let old = subst (λ (s : Checking g.row.H.Denot). c.plan_checked-planned.new.checked.hashed + H.reads s.hash_store
+    ≤ H.reads c.plan_checked-planned.new.checked.hash_store) c.new-checked.ensures c.plan_checked-planned.ensures.checks in
+    let here = subst (λ h. c.plan_checked-planned.new.checked.hashed + H.reads c.args.hash_store ≤ H.reads h) (sym
+    c.into_parts-tree.ensures.store) old in
+    omega (arith, c.into_parts-tree.ensures.hashed)
+
+pub returns-clause-checks_each : goal.returns-clause-checks_each
+returns-clause-checks_each g c =
+    let H = g.H.BlockStore in
+    let result = c.plan_checked-planned.result in
+    let hashed = c.plan_checked-planned.new.checked.hashed in
+    let old = subst (λ (s : Checking g.row.H.Denot). OnOk result (hashed + H.reads s.hash_store
+    ≡ H.reads c.plan_checked-planned.new.checked.hash_store)) c.new-checked.ensures c.plan_checked-planned.ensures.checks_each in
+    let here = subst (λ h. OnOk result (hashed + H.reads c.args.hash_store ≡ H.reads h)) (sym c.into_parts-tree.ensures.store) old in
+    subst (λ (n : ℕ). OnOk result (n + H.reads c.args.hash_store ≡ H.reads c.into_parts-tree.result.1))
+    (sym c.into_parts-tree.ensures.hashed) here

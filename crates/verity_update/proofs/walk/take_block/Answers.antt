@@ -1,3 +1,7 @@
+use Rattle.std.proofs.Common.{rules, ◌≡◌, subst, sym, length}
+use Rattle.verity_chain.specs.Stores.{hash_given}
+use Rattle.verity_update.specs.Refused.{ExplainsUntaken}
+use Rattle.verity_update.proofs.RefusedLemmas.{unread_untaken}
 use Rattle.verity_update.proofs.WalkLemmas.{taken_same, spared_other}
 use Rattle.verity_update.proofs.walk.take_block.Goals as goal
 
@@ -15,3 +19,16 @@ returns-in-Ok-clause-spares g c =
     spared_other g.H.BlockStore c.args.tree.now c.args.since.now.steps c.is_named.new.store c.is_named.new.notes.items c.args.n
     c.read.new.out (g.E.Edited.changed c.args.edited.now) (g.E.Edited.changed c.write.new.self) e.allowed e.checked e.given
     (e.other c.in-Ok-false.field-0-test)
+
+pub returns-in-Err-clause-refused : goal.returns-in-Err-clause-refused
+returns-in-Err-clause-refused g c =
+    let H = g.H.BlockStore in
+    let N = g.N.BlockStore in
+    let t = c.args.tree.now in
+    let unfailed : N.failures c.read.new.self ≡ N.failures c.args.new_store.now = search rules in
+    subst (λ fault. ExplainsUntaken t (hash_given H t c.args.since.now.steps c.is_named.new.store) (g.E.Edited.size c.args.edited.now)
+    (length c.args.bytes.now) (H.failures c.args.hash_store.now) (H.failures c.is_named.new.store) (N.failures c.args.new_store.now)
+    (N.failures c.read.new.self) fault) (sym c.fault_for.ensures)
+    (unread_untaken t (hash_given H t c.args.since.now.steps c.is_named.new.store) (g.E.Edited.size c.args.edited.now)
+    (length c.args.bytes.now) (H.failures c.args.hash_store.now) (H.failures c.is_named.new.store) (N.failures c.args.new_store.now)
+    (N.failures c.read.new.self) c.in-Err.why unfailed c.in-Err.ensures.refused_unfailed c.in-Err.ensures.err)

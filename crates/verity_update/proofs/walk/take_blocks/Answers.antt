@@ -1,11 +1,17 @@
-use Rattle.std.proofs.Common.{rules, ◌≡◌, ◌<◌, ℕ, length, sym, ◌∙◌, subst, arith}
+use Rattle.std.proofs.Common.{rules, ◌≡◌, ◌+◌, ◌<◌, ℕ, cond, Err, length, sym, ap, ◌∙◌, subst, arith}
 use Rattle.verity_store.proofs.GivenLemmas.{goes_on_len}
+use Rattle.verity_chain.specs.Table.{Table}
 use Rattle.verity_chain.specs.Stores.{Gave, hash_given}
 use Rattle.verity_chain.specs.Notes.{AreChecked}
 use Rattle.verity_chain.proofs.ChainLemmas.{gave_here, hash_given-grows}
 use Rattle.verity_update.specs.Walk.{Spares, Takes, TakesTo}
+use Rattle.verity_update.specs.Refused.{ExplainsUntaken}
+use Rattle.verity_update.specs.Update.{changed_count}
+use Rattle.verity_update.proofs.CountLemmas.{count_more}
+use Rattle.verity_update.proofs.RefusedLemmas.{has_taken, untaken_since}
 use Rattle.verity_update.proofs.WalkLemmas.{takes_next, read_on, store_on}
 use Rattle.verity_update.proofs.walk.take_blocks.Goals as goal
+use Rattle.verity_update.proofs.walk.take_blocks.Goals.{then-branch, else-branch}
 
 pub take_block-requires-clause-checked : goal.take_block-requires-clause-checked
 take_block-requires-clause-checked g c =
@@ -38,6 +44,11 @@ loop-n-preserved g c =
     (g.E.Edited.changed mid.edited) =
     subst (λ tr. Spares tr (hash_given H tr mark mid.hash_store) n mid.bytes (g.E.Edited.changed c.loop-n.edited)
     (g.E.Edited.changed mid.edited)) inv.same one.spares in
+    let written : c.loop-n.changed + cond c.in_ok-take_block.field-0 1 0 ≡ changed_count (g.E.Edited.changed mid.edited) (n + 1) =
+    count_more (g.E.Edited.changed c.loop-n.edited) (g.E.Edited.changed mid.edited) n c.loop-n.changed c.in_ok-take_block.field-0 one.others
+    (one.written (λ low. inv.taken.rest n (omega arith)
+    ∙ c.requires.fresh n (subst (λ (tr : Table). n < tr.data_blocks) inv.same low) less))
+    inv.written in
     record {
       same = same;
       store = store_on H t c.loop-n.hash_store mid.hash_store one.keeps inv.store;
@@ -57,7 +68,15 @@ loop-n-preserved g c =
       reads = omega (arith, one.reads, inv.reads);
       content = one.content ∙ inv.content;
       data_reads = one.data_reads ∙ inv.data_reads;
+      count = one.count ∙ inv.count;
+      size = one.size ∙ inv.size;
+      broken = one.broken ∙ inv.broken;
       most = search rules;
+      written = elim c.if-branch.branch [
+        | then-branch w ↦ w.changed-is ∙ ap (λ b. c.loop-n.changed + cond b 1 0) (sym w.if-branch.true) ∙ written
+        | else-branch w ↦ let none : c.if-branch.changed ≡ c.loop-n.changed + 0 = omega (arith, w.changed-is) in
+            none ∙ ap (λ b. c.loop-n.changed + cond b 1 0) (sym w.if-branch.false) ∙ written
+      ];
     }
 
 pub returns-clause-taken : goal.returns-clause-taken
@@ -68,3 +87,42 @@ returns-clause-taken g c =
     c.args.new_store.now c.loop-n.new_store n (g.E.Edited.working c.args.edited.now) (g.E.Edited.working c.loop-n.edited)
     (g.E.Edited.changed c.args.edited.now) (g.E.Edited.changed c.loop-n.edited)) end
     c.loop-n.invariant.taken
+
+pub returns-clause-written : goal.returns-clause-written
+returns-clause-written g c =
+    let end : c.loop-n.n ≡ c.args.count = omega (arith, c.loop-n.auto.n-end, c.loop-n-test.false) in
+    subst (λ n. c.loop-n.changed ≡ changed_count (g.E.Edited.changed c.loop-n.edited) n) end c.loop-n.invariant.written
+
+pub returns-in_err-take_block-clause-refused : goal.returns-in_err-take_block-clause-refused
+returns-in_err-take_block-clause-refused g c =
+    let H = g.H.BlockStore in
+    let N = g.N.BlockStore in
+    let inv = c.loop-n.invariant in
+    let one = c.take_block.ensures in
+    let mid = c.take_block.new in
+    let t = c.args.tree.now in
+    let mark : ℕ = c.args.since.now.steps in
+    let n : ℕ = c.loop-n.n in
+    let same : mid.edited ≡ c.loop-n.edited = c.in_err-take_block.ensures.unchanged in
+    let fault = c.in_err-take_block.field-0.0 in
+    let back : c.from_residual.result ≡ Err fault = search rules in
+    let why : ExplainsUntaken t (hash_given H t mark mid.hash_store) (g.E.Edited.size c.loop-n.edited) (length c.loop-n.bytes)
+    (H.failures c.loop-n.hash_store) (H.failures mid.hash_store) (N.failures c.loop-n.new_store) (N.failures mid.new_store) fault =
+    subst (λ tr. ExplainsUntaken tr (hash_given H tr mark mid.hash_store) (g.E.Edited.size c.loop-n.edited) (length c.loop-n.bytes)
+    (H.failures c.loop-n.hash_store) (H.failures mid.hash_store) (N.failures c.loop-n.new_store) (N.failures mid.new_store) fault)
+    inv.same c.in_err-take_block.ensures.refused in
+    rw back (
+      n,
+      record {
+        within = omega (arith, c.loop-n-test.true, c.requires.all);
+        reads = omega (arith, one.reads, inv.reads);
+        count = one.count ∙ inv.count ∙ c.requires.counted ∙ c.requires.all;
+        taken = has_taken g.E.Edited H N t mark c.loop-n.hash_store mid.hash_store c.args.new_store.now c.loop-n.new_store mid.new_store
+            c.loop-n.edited mid.edited n (g.E.Edited.working c.args.edited.now) (g.E.Edited.changed c.args.edited.now)
+            (g.E.Edited.changed c.loop-n.edited) one.keeps one.keeps_new same inv.taken;
+        why = untaken_since t (hash_given H t mark mid.hash_store) (g.E.Edited.size c.loop-n.edited) (g.E.Edited.size c.args.edited.now)
+            (length c.loop-n.bytes) t.data_block_size (H.failures c.loop-n.hash_store) (H.failures c.args.hash_store.now)
+            (H.failures mid.hash_store) (N.failures c.loop-n.new_store) (N.failures c.args.new_store.now) (N.failures mid.new_store)
+            fault inv.size (inv.whole ∙ c.requires.data_sized) inv.unfailed inv.new_unfailed why;
+      },
+    )

@@ -2,6 +2,7 @@ use Rattle.std.proofs.Common.{◌≡◌, ◌+◌, ◌≤◌, length}
 use Rattle.verity_store.specs.Stores.{IsOnlyRead}
 use Rattle.verity_chain.specs.Stores.{hash_given, IsHashStoreOf}
 use Rattle.verity_chain.specs.Notes.{AreChecked, WereGiven}
+use Rattle.verity_update.specs.Update.{changed_count}
 use Rattle.verity_update.specs.Walk.{TakesTo}
 use Rattle.verity_update.proofs.walk.take_blocks.Given as goal
 
@@ -23,5 +24,9 @@ invariant-loop-n g l = let H = g.H.BlockStore in let N = g.N.BlockStore in recor
   reads : N.reads l.new_store ≡ N.reads l.initial.new_store + l.n;
   content : g.E.Edited.content l.edited ≡ g.E.Edited.content l.initial.edited;
   data_reads : g.E.Edited.data_reads l.edited ≡ g.E.Edited.data_reads l.initial.edited;
+  count : g.E.Edited.count l.edited ≡ g.E.Edited.count l.initial.edited;
+  size : g.E.Edited.size l.edited ≡ g.E.Edited.size l.initial.edited;
+  broken : g.E.Edited.broken l.edited ≡ g.E.Edited.broken l.initial.edited;
   most : l.changed ≤ l.n;
+  written : l.changed ≡ changed_count (g.E.Edited.changed l.edited) l.n;
 }

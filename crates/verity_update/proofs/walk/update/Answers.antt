@@ -1,7 +1,10 @@
-use Rattle.std.proofs.Common.{subst, sym, ap, ◌∙◌, ◌<◌, ℕ}
+use Rattle.std.proofs.Common.{rules, subst, sym, ap, ◌∙◌, ◌<◌, ℕ, length}
 use Rattle.verity_chain.specs.Table.{Table}
 use Rattle.verity_chain.specs.Stores.{hash_given}
 use Rattle.verity_update.specs.Walk.{TakesTo}
+use Rattle.verity_update.specs.declared.fault.UpdateFault.{UpdateFault}
+use Rattle.verity_update.specs.Refused.{CanBegin}
+use Rattle.verity_update.proofs.RefusedLemmas.{err_weaker, refused_later, stops_from}
 use Rattle.verity_update.proofs.WalkLemmas.{updates_all}
 use Rattle.verity_update.proofs.DraftLemmas.{ok_weaker}
 use Rattle.verity_update.proofs.walk.update.Goals as goal
@@ -23,3 +26,21 @@ returns-clause-updated g c =
     (g.E.Edited.working c.prepare.new.edited) (g.E.Edited.working now.edited) (g.E.Edited.changed c.prepare.new.edited)
     (g.E.Edited.changed now.edited)) c.end_of-since.ensures taken))
     c.take_blocks.ensures.taken
+
+pub returns-clause-refused : goal.returns-clause-refused
+returns-clause-refused g c =
+    let E = g.E.Edited in
+    let H = g.H.BlockStore in
+    let N = g.N.BlockStore in
+    let t = c.args.tree.now in
+    let h = c.args.hash_store.now in
+    let s = c.args.new_store.now in
+    let e = c.args.edited.now in
+    let now = c.take_blocks.new in
+    let begun : CanBegin E H N t h s e = search rules in
+    let stop = λ (fault : UpdateFault) (n : ℕ). stops_from E H N t c.end_of-since.result.steps (length (H.given h)) h now.hash_store s
+    now.new_store c.prepare.new.edited e now.edited fault n c.end_of-since.ensures c.prepare.ensures.size in
+    err_weaker c.take_blocks.result
+    (λ fault stops. refused_later E H N t h now.hash_store s now.new_store e now.edited fault begun stops.0
+    (stop fault stops.0 stops.1))
+    c.take_blocks.ensures.refused

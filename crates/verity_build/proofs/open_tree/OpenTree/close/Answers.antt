@@ -1,29 +1,30 @@
-use Rattle.std.proofs.Common.{◌≡◌, ℕ, ◌+◌, [], length, ◌++◌, sym, ap, ◌∙◌}
-use Rattle.std.proofs.lemmas.List.{get_or_read}
-use Rattle.verity_digest.proofs.Sha.{length-digest_of}
-use Rattle.verity_digest.specs.Hash.{hashing, salted_digest}
-use Rattle.verity_digest.specs.Tree.{hash_block}
+use Rattle.std.proofs.Common.{◌≡◌, ◌≢◌, ℕ, suc, ◌<◌, List, length, sym, ap, ◌∙◌, subst, arith}
+use Rattle.verity_digest.specs.Hash.{hashing}
 use Rattle.verity_build.specs.Open.{Open}
-use Rattle.verity_build.specs.Climb.{open_at, nothing_open}
-use Rattle.verity_build.proofs.Changes.{closes_by}
+use Rattle.verity_build.specs.Climb.{open_at}
+use Rattle.verity_build.specs.Opens.{hashing_of, opens}
+use Rattle.verity_build.proofs.Trees.{closes_as}
 use Rattle.verity_build.proofs.open_tree.OpenTree.close.Goals as goal
 
-pub put-requires-clause-sized : goal.put-requires-clause-sized
-put-requires-clause-sized g c =
-    let tree = c.args.self.now in
-    ap length c.digest-digest.ensures.digest ∙ length-digest_of tree.hasher.salted.algorithm
-    (tree.hasher.salted.salt ++ c.bytes.result.now) ∙ tree.sized
+pub make_room-requires-clause-most : goal.make_room-requires-clause-most
+make_room-requires-clause-most g c =
+    let below = c.requires.room (omega (arith, c.requires.level, c.len.ensures, c.if-level-len.false)) in
+    omega (arith, below)
+
+pub wait-requires-clause-settled : goal.wait-requires-clause-settled
+wait-requires-clause-settled g c = c.make_room.ensures.others c.args.level (λ e. absurd (omega arith)) ∙ c.requires.settled
+
+pub wait-requires-clause-few : goal.wait-requires-clause-few
+wait-requires-clause-few g c =
+    omega (arith, c.requires.few, ap (λ os. (open_at os c.args.level).index) c.make_room.ensures.opens)
 
 pub returns-clause-closes : goal.returns-clause-closes
 returns-clause-closes g c =
     let tree = c.args.self.now in
-    let h = hashing tree.hasher.salted tree.geometry.hash_size in
-    let block = c.index_mut-block.result.now in
-    let is = get_or_read tree.blocks.items c.args.level block c.requires.level c.index_mut-block.ensures.value nothing_open in
-    let size = (tree.alike c.args.level c.requires.level).0 in
-    let digest = c.digest-digest.ensures.digest
-    ∙ ap (salted_digest tree.hasher.salted) (c.bytes.ensures.value h (sym size ∙ ap (λ o. o.block_size) (sym is))
-    ∙ ap (λ o. hash_block h o.digests) is) in
-    let next = c.next.ensures ∙ ap {A = Open} {B = Open} (λ o. record o { digests = []; index = o.index + 1 }) is in
-    closes_by h c.args.level tree.blocks.items c.put.new.self.blocks.items c.next.new.self c.digest-digest.result tree.root
-    c.put.new.self.root c.requires.level next digest c.put.ensures.comes
+    let mid = c.make_room.new.self in
+    let new = c.wait.new.self in
+    let level : ℕ = c.args.level in
+    let room = c.make_room.ensures in
+    let hashes : hashing_of mid ≡ hashing_of tree = λ i. hashing (room.salted i) (room.geometry i).hash_size in
+    closes_as (hashing_of tree) (hashing_of mid) level (opens mid) (opens tree) (opens new) mid.root tree.root new.root hashes room.opens
+    room.root c.wait.ensures.closes

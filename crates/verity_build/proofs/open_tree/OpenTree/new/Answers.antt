@@ -1,38 +1,27 @@
-use Rattle.std.proofs.Common.{◌≡◌, ℕ, ◌+◌, ◌<◌, [], ◌∷◌, ◌++◌, length, replicate, sym, ap, ◌∙◌, arith}
+use Rattle.std.proofs.Common.{◌≡◌, ℕ, ◌+◌, ◌<◌, ◌≤◌, [], ◌∷◌, ◌++◌, length, replicate, refl, sym, ap, ◌∙◌, arith}
 use Rattle.std.proofs.lemmas.List.{length-replicate, get_or-replicate, replicate-append-replicate}
 use Rattle.verity_geometry.specs.Geometry.{levels_of}
 use Rattle.verity_build.specs.Open.{Open}
+use Rattle.verity_build.specs.Waits.{Waits}
 use Rattle.verity_build.specs.Climb.{open_at, nothing_open, empty}
+use Rattle.verity_build.specs.Coming.{none_wait, waits_at}
+use Rattle.verity_digest.specs.Hash.{hashing}
+use Rattle.verity_profile.proofs.Bounds.{block_size_high}
+use Rattle.verity_build.proofs.Comings.{opens_empty, no_waits}
 use Rattle.verity_build.proofs.open_tree.OpenTree.new.Goals as goal
 
-pub loop-preserved : goal.loop-preserved
-loop-preserved g c =
-    let e : Open = empty c.args.geometry.hash_size c.args.geometry.digest_size in
-    c.in_ok-push.ensures.items
-    ∙ ap (λ xs. xs ++ c.in_ok-block.block ∷ []) c.loop.invariant
-    ∙ ap {A = Open} (λ o. replicate c.loop.counter e ++ o ∷ []) (c.in_ok-block.ensures
-    ∙ (λ i. empty (c.hash_size.ensures.value i) (c.digest_size.ensures.value i)))
-    ∙ replicate-append-replicate c.loop.counter 1 e
-
-pub invariant_of-result : goal.invariant_of-result
-invariant_of-result g c =
-    let e : Open = empty c.args.geometry.hash_size c.args.geometry.digest_size in
-    let all : c.loop.counter ≡ levels_of c.args.geometry = omega (arith, c.levels-end.ensures.value) in
-    let count : length c.loop.blocks.items ≡ c.loop.counter = ap length c.loop.invariant ∙ length-replicate c.loop.counter e in
-    let each = λ (l : ℕ) (below : l < length c.loop.blocks.items).
-    let there : l < c.loop.counter = omega arith in
-    ap (λ xs. open_at xs l) c.loop.invariant ∙ get_or-replicate c.loop.counter l e nothing_open there in
-    record {
-      shaped = c.levels-end.ensures.shaped;
-      sized = c.requires;
-      levels = count ∙ all;
-      alike = λ l below. (ap (λ o. o.block_size) (each l below), ap (λ o. o.digest_size) (each l below));
-    }
+pub new-requires-in-loop-clause-small : goal.new-requires-in-loop-clause-small
+new-requires-in-loop-clause-small g c =
+    let high = block_size_high c.hash_size-hash_size.result c.hash_size-hash_size.ensures.allowed in omega arith
 
 pub returns-clause-empty : goal.returns-clause-empty
-returns-clause-empty g c = λ l below.
-    let e : Open = empty c.args.geometry.hash_size c.args.geometry.digest_size in
-    let count : length c.loop.blocks.items ≡ c.loop.counter = ap length c.loop.invariant ∙ length-replicate c.loop.counter e in
-    let there : l < c.loop.counter = omega arith in
-    let is = ap (λ xs. open_at xs l) c.loop.invariant ∙ get_or-replicate c.loop.counter l e nothing_open there in
-    (ap (λ o. o.digests) is, ap (λ o. o.index) is)
+returns-clause-empty g c =
+    let n : ℕ = c.loop.counter in
+    let e : Open = empty c.hash_size-hash_size.result c.digest_size-digest_size.result in
+    let w : Waits = record { size = c.hash_size-hash_size.result; room = c.most_waiting-room.result; blocks = [] } in
+    opens_empty (hashing c.args.hasher.salted c.args.geometry.hash_size) c.loop.waiting.items c.loop.blocks.items
+    (λ l below.
+    let there : l < n = omega (arith, ap length c.loop.invariant.blocks, length-replicate n e) in
+    let is = ap (λ xs. open_at xs l) c.loop.invariant.blocks ∙ get_or-replicate n l e nothing_open there in
+    (ap (λ (o : Open). o.digests) is, ap (λ (o : Open). o.index) is))
+    (λ l. ap (λ xs. (waits_at xs l).blocks) c.loop.invariant.waiting ∙ no_waits n w l refl)

@@ -13,12 +13,12 @@ invariant_of-self-in-Ok g c =
       hash_store = i.hash_store;
       notes = i.notes.items;
       given = i.given.blocks;
+      hashed = i.hashed.steps;
       asked = i.asked.steps;
       refused = i.refused.steps;
       refusal = i.refusal;
       blocks = i.blocks;
-      since =
-          i.since.steps;
+      since = i.since.steps;
       origin = i.origin.rows;
     } in
     subst (λ (t : Table). IsChecking {H = g.row.H.Denot} g.H.BlockStore (record was {
@@ -26,11 +26,13 @@ invariant_of-self-in-Ok g c =
       hash_store = c.look_up.new.store;
       notes = c.look_up.new.notes.items;
       given = c.note.new.self.blocks;
+      hashed = c.look_up.new.hashed.steps;
       asked = c.step.new.self.steps;
     })) (sym e.same)
     (checking_answered g.H.BlockStore was c.look_up.new.store c.look_up.new.notes.items c.self.invariant e.keeps e.checked e.given
-    e.kept (not_some i.refusal (sym c.is_some.ensures ∙ c.if-is_some.false)) e.apart c.note.new.self.blocks c.step.new.self.steps
-    c.args.n c.look_up.new.out c.note.ensures e.gave e.unfailed e.within e.read)
+    e.kept (not_some i.refusal (sym c.is_some.ensures ∙ c.if-is_some.false)) e.apart c.note.new.self.blocks
+    c.look_up.new.hashed.steps c.step.new.self.steps c.args.n c.look_up.new.out c.note.ensures e.gave e.unfailed e.within e.read
+    e.hashed_each)
 
 pub invariant_of-self-in-Err : goal.invariant_of-self-in-Err
 invariant_of-self-in-Err g c =
@@ -41,26 +43,27 @@ invariant_of-self-in-Err g c =
       hash_store = i.hash_store;
       notes = i.notes.items;
       given = i.given.blocks;
+      hashed = i.hashed.steps;
       asked = i.asked.steps;
       refused = i.refused.steps;
       refusal = i.refusal;
       blocks = i.blocks;
-      since =
-          i.since.steps;
+      since = i.since.steps;
       origin = i.origin.rows;
     } in
     subst (λ (t : Table). IsChecking {H = g.row.H.Denot} g.H.BlockStore (record was {
       table = t;
       hash_store = c.look_up.new.store;
       notes = c.look_up.new.notes.items;
+      hashed = c.look_up.new.hashed.steps;
       asked = c.step.new.self.steps;
       refused = c.step-in-Err.new.self.steps;
       refusal =
           Some c.in-Err.why;
     })) (sym e.same)
     (checking_refused g.H.BlockStore was c.look_up.new.store c.look_up.new.notes.items c.self.invariant e.keeps e.checked e.given
-    e.kept (not_some i.refusal (sym c.is_some.ensures ∙ c.if-is_some.false)) e.apart c.step.new.self.steps
-    c.step-in-Err.new.self.steps c.in-Err.why c.step-in-Err.ensures e.err e.refused_unfailed e.few)
+    e.kept (not_some i.refusal (sym c.is_some.ensures ∙ c.if-is_some.false)) e.apart c.look_up.new.hashed.steps c.step.new.self.steps
+    c.step-in-Err.new.self.steps c.in-Err.why c.step-in-Err.ensures e.err e.refused_unfailed e.few e.hashed)
 
 pub invariant_of-self : goal.invariant_of-self
 invariant_of-self g c =
@@ -70,6 +73,7 @@ invariant_of-self g c =
       hash_store = i.hash_store;
       notes = i.notes.items;
       given = i.given.blocks;
+      hashed = i.hashed.steps;
       asked = i.asked.steps;
       refused = i.refused.steps;
       refusal = i.refusal;

@@ -1,15 +1,15 @@
-use Rattle.std.proofs.Common.{◌≡◌, ℕ, ◌+◌, ◌≤◌, true, false, length, sym, ap, subst}
+use Rattle.std.proofs.Common.{◌≡◌, ℕ, ◌+◌, ◌≤◌, true, false, length, arith, sym, ap, subst}
 use Rattle.verity_superblock.specs.Superblock.{Volume}
 use Rattle.verity_chain.specs.Table.{Table, height}
 use Rattle.verity_edit.specs.declared.command.Committed.{Committed}
 use Rattle.verity_edit.specs.declared.fault.EditFault.{EditFault}
 use Rattle.verity_edit.specs.declared.under.PlanUnder.{PlanUnder}
 use Rattle.verity_edit.specs.Draft.{Draft}
-use Rattle.verity_edit.specs.Planning.{IsPlan, IsRight, ReadsPaths}
+use Rattle.verity_edit.specs.Planning.{IsPlan, IsRight, ReadsPaths, moves_of}
 use Rattle.verity_edit.specs.Committing.{IsCarriedOut}
 use Rattle.verity_edit.specs.Editing.{Stays}
 use Rattle.verity_edit.specs.Under.{ExplainsUncommitted, IsRightUnder, LeavesWhole}
-use Rattle.verity_edit.specs.Line.{LineEditing, CommitsUnder, IsRefusalUnder, editing_of, paths_in}
+use Rattle.verity_edit.specs.Line.{LineEditing, CommitsUnder, IsRefusalUnder, editing_of, paths_in, moved_in}
 use Rattle.verity_edit.proofs.Frames.{stays_of}
 use Rattle.verity_edit.proofs.UnderLemmas.{from_ok}
 use Rattle.verity_edit.proofs.LineCommits.{commits_under, refused_under, at_ok, at_err}
@@ -30,6 +30,7 @@ returns-in-Ok-clause-committed g c =
     let new_data = c.commit_under-tree.new.data_store in
     let new_hash = c.commit_under-tree.result.1 in
     let hashed : ℕ = c.commit_under-tree.new.hasher.hashed in
+    let checked : ℕ = c.commit_under-tree.new.checks.steps in
     let made : PlanUnder g.row.A.Denot = c.in-Ok.made in
     let is = c.in-Ok.is in
     let old : LineEditing g.row.D.Denot g.row.H.Denot = record {
@@ -39,6 +40,7 @@ returns-in-Ok-clause-committed g c =
       volume = v;
       draft = d;
       hashed = s.hasher.hashed;
+      checks = s.checks.steps;
       broken = s.broken;
     } in
     let new : LineEditing g.row.D.Denot g.row.H.Denot = record {
@@ -48,6 +50,7 @@ returns-in-Ok-clause-committed g c =
       volume = made.plan.superblock;
       draft = c.settle.new.self;
       hashed = hashed;
+      checks = checked;
       broken = false;
     } in
     let committed : Committed = record { root = made.plan.root; hashed = made.plan.hashed } in
@@ -62,11 +65,14 @@ returns-in-Ok-clause-committed g c =
     told.unfailed in
     let counts = from_ok r made (λ m. hashed ≡ s.hasher.hashed + m.plan.hashed) is told.counts in
     let reads = at_ok r made (d.working ≡ d.committed → ReadsPaths v d 0 (H.reads s.hash_store) (H.reads new_hash)) is told.reads in
+    let moved_reads = at_ok r made (ReadsPaths v d (moves_of v d) (H.reads s.hash_store) (H.reads new_hash)) is told.moved_reads in
+    let checks = at_ok r made (ReadsPaths v d 0 0 checked) is told.checks in
+    let each = at_ok r made (H.reads new_hash ≤ H.reads s.hash_store + checked + moves_of v d) is told.checks_each in
     let P : LineEditing g.row.D.Denot g.row.H.Denot → Type 0 = λ e. CommitsUnder D H e new committed in
     subst P c.self.view_is
-    (commits_under D H old made.plan new_data new_hash hashed c.facts.ensures invariant.line invariant.behind (invariant.fits sound)
-    done planned tells told.data_store.later.tells told.hash_store.tells sound right unfailed.0 unfailed.1 counts reads made.tree
-    c.settle.new.self next c.settle.ensures)
+    (commits_under D H old made.plan new_data new_hash hashed checked c.facts.ensures invariant.line invariant.behind (invariant.fits sound)
+    done planned tells told.data_store.later.tells told.hash_store.tells sound right unfailed.0 unfailed.1 counts reads moved_reads checks
+    each made.tree c.settle.new.self next c.settle.ensures)
 
 pub returns-in-Ok-clause-stays : goal.returns-in-Ok-clause-stays
 returns-in-Ok-clause-stays g c =
@@ -89,6 +95,7 @@ returns-in-Ok-clause-stays g c =
       volume = made.plan.superblock;
       draft = c.settle.new.self;
       hashed = c.commit_under-tree.new.hasher.hashed;
+      checks = c.commit_under-tree.new.checks.steps;
       broken = false;
     } in
     let P : LineEditing g.row.D.Denot g.row.H.Denot → Type 0 = λ e. Stays D H (editing_of e) (editing_of new) in
@@ -120,6 +127,7 @@ returns-in-Err-clause-refused g c =
       volume = s.superblock;
       draft = s.pending;
       hashed = c.commit_under-tree.new.hasher.hashed;
+      checks = c.commit_under-tree.new.checks.steps;
       broken = c.commit_under-tree.new.broken;
     } in
     let old : LineEditing g.row.D.Denot g.row.H.Denot = record {
@@ -129,6 +137,7 @@ returns-in-Err-clause-refused g c =
       volume = s.superblock;
       draft = s.pending;
       hashed = s.hasher.hashed;
+      checks = s.checks.steps;
       broken = s.broken;
     } in
     let why = at_err r c.in-Err.why (ExplainsUncommitted D H t (length (H.given s.hash_store)) s.data_store new_data s.hash_store
@@ -152,9 +161,54 @@ returns-in-Err-clause-refused_reads g c = λ whole.
       volume = s.superblock;
       draft = s.pending;
       hashed = s.hasher.hashed;
+      checks = s.checks.steps;
       broken = s.broken;
     } in
     let P : LineEditing g.row.D.Denot g.row.H.Denot → Type 0 = λ e. H.reads c.commit_under-tree.result.1
     ≤ H.reads e.hash_store + paths_in D e + height e.table in
     let here : P old = c.commit_under-tree.ensures.most_reads whole (D.content s.data_store) (c.self.invariant.fits sound).committed in
+    subst P c.self.view_is here
+
+pub returns-in-Err-clause-most_reads : goal.returns-in-Err-clause-most_reads
+returns-in-Err-clause-most_reads g c =
+    let D = g.D.BlockStore in
+    let H = g.H.BlockStore in
+    let s = c.self.inside in
+    let sound : s.broken ≡ false = c.if-self.false in
+    let old : LineEditing g.row.D.Denot g.row.H.Denot = record {
+      data_store = s.data_store;
+      hash_store = s.hash_store;
+      table = s.tree;
+      volume = s.superblock;
+      draft = s.pending;
+      hashed = s.hasher.hashed;
+      checks = s.checks.steps;
+      broken = s.broken;
+    } in
+    let P : LineEditing g.row.D.Denot g.row.H.Denot → Type 0 = λ e. H.reads c.commit_under-tree.result.1
+    ≤ H.reads e.hash_store + paths_in D e + height e.table + moved_in e in
+    let all = c.commit_under-tree.ensures.all_reads (D.content s.data_store) (c.self.invariant.fits sound).committed in
+    let here : P old = omega arith in
+    subst P c.self.view_is here
+
+pub returns-in-Err-clause-refused_checks : goal.returns-in-Err-clause-refused_checks
+returns-in-Err-clause-refused_checks g c = λ whole.
+    let D = g.D.BlockStore in
+    let H = g.H.BlockStore in
+    let s = c.self.inside in
+    let sound : s.broken ≡ false = c.if-self.false in
+    let old : LineEditing g.row.D.Denot g.row.H.Denot = record {
+      data_store = s.data_store;
+      hash_store = s.hash_store;
+      table = s.tree;
+      volume = s.superblock;
+      draft = s.pending;
+      hashed = s.hasher.hashed;
+      checks = s.checks.steps;
+      broken = s.broken;
+    } in
+    let P : LineEditing g.row.D.Denot g.row.H.Denot → Type 0 = λ e. c.commit_under-tree.new.checks.steps
+    ≤ paths_in D e + height e.table in
+    let most = c.commit_under-tree.ensures.most_checks (D.content s.data_store) (c.self.invariant.fits sound).committed in
+    let here : P old = omega arith in
     subst P c.self.view_is here
