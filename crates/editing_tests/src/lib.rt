@@ -14,6 +14,8 @@ mod memory;
 #[cfg(test)]
 mod opening;
 #[cfg(test)]
+mod rooms;
+#[cfg(test)]
 mod running;
 #[cfg(test)]
 mod steps;

@@ -12,6 +12,7 @@ pub mod Texts
 pub mod Faults
 pub mod Children
 pub mod Spread
+pub mod Rooms
 pub mod Slots
 pub mod Remade
 pub mod Plan

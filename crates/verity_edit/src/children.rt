@@ -1,5 +1,5 @@
 //! The blocks below the hash blocks of a level that is made again, of which many may have one digest.
-ghost use Rattle.std.specs.Prelude.{◌≡◌, ℕ, ◌+◌, ◌-◌, ◌<◌, ◌≤◌, ◌^◌, nat_lt, true, false, [], ◌∷◌, ◌++◌, length, take, OnOk};
+ghost use Rattle.std.specs.Prelude.{◌≡◌, ℕ, ◌+◌, ◌-◌, ◌<◌, ◌≤◌, ◌^◌, nat_lt, true, false, [], ◌∷◌, ◌++◌, length, take, IfOk, OnOk};
 ghost use Rattle.std.specs.List.Sorted.{IsNonDecreasingBy, IsPartitionPoint};
 ghost use Rattle.verity_edit.specs.Slots.{child_at};
 ghost use Rattle.verity_edit.specs.Children.{digest_among, spread};
@@ -46,30 +46,32 @@ fn digest_among(named: &[Child], common: Digest, number: u64) -> Digest
 }
 
 impl<A: Allocator + Copy> Children<A> {
-    /// None yet.
-    pub fn new(alloc: A) -> Self
-        ensures { result.items ≡ [] }
+    /// None yet, and room for this many.
+    pub fn with_room(alloc: A, count: usize) -> Result<Self, AllocError>
+        ensures { IfOk result (λ children. children.items ≡ []) }
     {
-        Children {
+        let behind = Vec::with_capacity(alloc, count)?;
+        Ok(Children {
             named: Vec::new(alloc),
             before: 0,
             from: 0,
             to: 0,
             common: Digest::from_bytes([0; 32]),
-            behind: Vec::new(alloc),
-        }
+            behind,
+        })
     }
 
     /// The first `before` of these, whose numbers rise, and all blocks from `from` to before `to`: with the digest of the one of
-    /// these that has its number, or else the common one. It takes no memory.
+    /// these that has its number, or else the common one. Those that are added behind them take the room of `behind`.
     pub fn spread(
-        alloc: A,
         named: Vec<Child, A>,
         before: usize,
         from: u64,
         to: u64,
         common: Digest,
+        behind: Vec<Child, A>,
     ) -> Self
+        requires none_behind { behind.items ≡ [] }
         requires before { before ≤ length named.items }
         requires order { from ≤ to }
         requires few { before + to < 2 ^ 63 }
@@ -82,7 +84,7 @@ impl<A: Allocator + Copy> Children<A> {
             from,
             to,
             common,
-            behind: Vec::new(alloc),
+            behind,
         }
     }
 

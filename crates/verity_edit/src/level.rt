@@ -161,7 +161,7 @@ fn make_block<H: BlockStore, A: Allocator + Copy>(
     }
 }
 
-/// Makes the hash blocks of these numbers of a level again, adds them to the plan and answers their digests.
+/// Makes the hash blocks of these numbers of a level again, adds them to the plan and answers their digests, in this room.
 pub fn make_level<H: BlockStore, A: Allocator + Copy>(
     alloc: A,
     hash_store: &mut H,
@@ -169,12 +169,14 @@ pub fn make_level<H: BlockStore, A: Allocator + Copy>(
     level: &Level,
     children: &Children<A>,
     numbers: &[u64],
+    room: Children<A>,
     block: &mut [u8],
     plan: &mut Vec<Made<A>, A>,
 ) -> Result<Children<A>, EditFault>
     requires level { IsLevel level.now (length (H.content hash_store.old)) (H.size hash_store.old) (size_of hasher.old.salted.algorithm) }
     requires children { AreChildren level.now children.now.items }
     requires sized { length block.old ≡ H.size hash_store.old }
+    requires empty { room.items ≡ [] }
     requires below { (t : ℕ) → t < length numbers.now → slice_index numbers.now t * level.now.per_block < level.now.digests }
     ensures made { IfOk result (λ next. (content : List (List ℕ)) → Shows H.BlockStore hash_store.new content → (old new : List (List ℕ))
         → let h = hashing hasher.old.salted (length block.old) in
@@ -193,7 +195,7 @@ pub fn make_level<H: BlockStore, A: Allocator + Copy>(
     ensures gives { GivesAt (IsOldOf level.now numbers.now) (H.given hash_store.old) (H.given hash_store.new) }
     ensures read_only { IsOnlyRead H.BlockStore hash_store.old hash_store.new }
 {
-    let mut next = Children::new(alloc);
+    let mut next = room;
     for index in numbers {
         make_block(
             alloc, hash_store, hasher, level, children, *index, block, plan, &mut next,

@@ -51,6 +51,7 @@ mod opening;
 mod pending;
 mod plan;
 mod planning;
+mod rooms;
 mod running;
 mod tree;
 mod under;

@@ -21,6 +21,7 @@ use crate::EditFault;
 use crate::last::add_fallen;
 use crate::made::Made;
 use crate::pending::Pending;
+use crate::rooms::{most_made, rooms_for};
 use crate::tree::{Change, make_tree};
 use std::alloc::Allocator;
 use verity_digest::{Digest, Hasher};
@@ -160,13 +161,17 @@ fn plan_tree<H: BlockStore, A: Allocator + Copy>(
 {
     pending.facts();
     let algorithm = hasher.algorithm();
+    let (named, others) = pending.most_leaves();
+    let rooms = rooms_for(alloc, &change.new, named, others)?;
+    let mut made = Vec::with_capacity(alloc, most_made(&change.new, named, others))?;
     let Ok(changed) = pending.leaves(hasher, zero) else {
         return Err(EditFault::NoMemory);
     };
     let (mut leaves, leaf_hashes) = changed;
     add_fallen(pending, hash_store, change, algorithm, block, &mut leaves)?;
-    let mut made = Vec::new(alloc);
-    let root = make_tree(alloc, hash_store, hasher, change, leaves, block, &mut made)?;
+    let root = make_tree(
+        alloc, hash_store, hasher, change, leaves, rooms, block, &mut made,
+    )?;
     let hashed = leaf_hashes + made.len() as u64;
     Ok(NewTree { made, root, hashed })
 }

@@ -20,6 +20,7 @@ use crate::children::Children;
 use crate::level::{Level, OldLevel, make_level};
 use crate::made::Made;
 use crate::plan::parents;
+use crate::rooms::{Room, next_room};
 use std::alloc::Allocator;
 use verity_digest::{Digest, Hasher};
 use verity_geometry::Geometry;
@@ -101,6 +102,7 @@ fn make_next<H: BlockStore, A: Allocator + Copy>(
     change: &Change,
     level: usize,
     children: &Children<A>,
+    room: Room<A>,
     block: &mut [u8],
     plan: &mut Vec<Made<A>, A>,
 ) -> Result<Children<A>, EditFault>
@@ -137,11 +139,12 @@ fn make_next<H: BlockStore, A: Allocator + Copy>(
     ensures read_only { IsOnlyRead H.BlockStore hash_store.old hash_store.new }
 {
     let made = change.level(level);
-    let Ok(numbers) = parents(alloc, children, made.per_block) else {
+    let (places, digests) = room.open();
+    let Ok(numbers) = parents(places, children, made.per_block) else {
         return Err(EditFault::NoMemory);
     };
     make_level(
-        alloc, hash_store, hasher, &made, children, &numbers, block, plan,
+        alloc, hash_store, hasher, &made, children, &numbers, digests, block, plan,
     )
 }
 
@@ -164,6 +167,7 @@ pub fn make_tree<H: BlockStore, A: Allocator + Copy>(
     hasher: &mut Hasher<A>,
     change: &Change,
     leaves: Children<A>,
+    rooms: Vec<Room<A>, A>,
     block: &mut [u8],
     plan: &mut Vec<Made<A>, A>,
 ) -> Result<Digest, EditFault>
@@ -195,9 +199,11 @@ pub fn make_tree<H: BlockStore, A: Allocator + Copy>(
     ensures read_only { IsOnlyRead H.BlockStore hash_store.old hash_store.new }
 {
     let mut children = leaves;
+    let mut rooms = rooms;
     for level in 0..change.new.levels() {
+        let room = next_room(alloc, &mut rooms)?;
         children = make_next(
-            alloc, hash_store, hasher, change, level, &children, block, plan,
+            alloc, hash_store, hasher, change, level, &children, room, block, plan,
         )?;
     }
     Ok(top_digest(&children, change.root))

@@ -153,6 +153,16 @@ loop-level-preserved g c =
       read_only = only_read_then g.H.BlockStore _ _ _ inv.read_only one.read_only;
     }
 
+pub returns-in_err-room-clause-reads : goal.returns-in_err-room-clause-reads
+returns-in_err-room-clause-reads g c = λ e ed.
+    let change = c.args.change.now in
+    let k : ℕ = digests_per_block change.new in
+    let l : ℕ = c.loop-level.level in
+    let count : levels_of change.new ≡ level_count k (length e.working) = ap (level_count k) (sym ed.working) in
+    let most = touched_below-mono k e l (level_count k (length e.working)) (omega arith) in
+    let was = c.loop-level.invariant.reads e ed in
+    omega arith
+
 pub returns-in_err-children-clause-reads : goal.returns-in_err-children-clause-reads
 returns-in_err-children-clause-reads g c = λ e ed.
     let inv = c.loop-level.invariant in
