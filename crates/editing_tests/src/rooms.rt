@@ -12,7 +12,7 @@ use verity_edit::{EditFault, Editor};
 // How much more room a run has than the one before.
 const STRIDE: usize = 256;
 
-// What one block grows to: level 0 then has 256 hash blocks.
+// What 17 blocks grow to: level 0 then has 256 hash blocks, of which the second has to be read.
 const COUNT: u64 = 4096;
 
 // How often a commit called the hash store that was refused memory, with so much room. None where it is done.
@@ -41,7 +41,7 @@ fn calls_when_refused(alloc: Global, volume: Volume, room: usize) -> Result<Opti
 fn least_rooms(alloc: Global) -> Result<(usize, usize), Fail> {
     let mut reads = usize::MAX;
     for runs in 0..256usize {
-        match calls_when_refused(alloc, volume_of(alloc, 1)?, runs.saturating_mul(STRIDE))? {
+        match calls_when_refused(alloc, volume_of(alloc, 17)?, runs.saturating_mul(STRIDE))? {
             Some(0) => {}
             Some(_) => reads = reads.min(runs),
             None => return Ok((reads, runs)),
