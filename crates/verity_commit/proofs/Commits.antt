@@ -3,7 +3,7 @@ use Rattle.std.proofs.Common.{◌≡◌, ◌⊎◌, ◌≤◌, ℕ, List, ⊎_el
 use Rattle.std.specs.List.{concat}
 use Rattle.verity_journal.specs.Disks.{Contents, LeavesOnly}
 use Rattle.verity_journal.specs.Plan.{Plan}
-use Rattle.verity_journal.specs.Journal.{Pair, Suits, IsOldOrNew, made_pair, volume}
+use Rattle.verity_journal.specs.Journal.{Pair, Suits, IsOldOrNew, made_pair, recovered_pair}
 use Rattle.verity_stage.specs.Stage.{Stage, staged, below_of, plan_of}
 use Rattle.verity_stage.proofs.PlaceLemmas.{below-same}
 use Rattle.verity_commit.specs.Committing.{IsOneOf}

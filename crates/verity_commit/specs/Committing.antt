@@ -3,7 +3,7 @@ use Rattle.std.specs.Prelude.{◌≡◌, ◌⊎◌, ⊤, Result, Ok, Err}
 use Rattle.std.specs.List.{concat}
 use Rattle.verity_store.specs.declared.store.BlockStore as store
 use Rattle.verity_journal.specs.Disks.{Contents}
-use Rattle.verity_journal.specs.Journal.{Pair, pair_of, volume}
+use Rattle.verity_journal.specs.Journal.{Pair, pair_of, recovered_pair}
 use Rattle.verity_edit.specs.declared.command.Committed.{Committed}
 use Rattle.verity_edit.specs.Line.{LineEditing, IsRefusalUnder}
 use Rattle.verity_commit.specs.declared.fault.CommitFault.{CommitFault}
@@ -27,4 +27,4 @@ Holds data_facts hash_facts data_store hash_store seen =
 
 -- recovery makes the one pair or the other
 abbrev pub IsOneOf : Pair → Pair → Contents → Type 0
-IsOneOf old new contents = (volume contents ≡ old) ⊎ (volume contents ≡ new)
+IsOneOf old new contents = (recovered_pair contents ≡ old) ⊎ (recovered_pair contents ≡ new)

@@ -2,7 +2,7 @@
 ghost use Rattle.std.specs.Prelude.{◌≡◌, ◌⊎◌, true, IfErr, IfOk, OnOk};
 ghost use Rattle.std.specs.List.{concat};
 ghost use Rattle.verity_journal.specs.Disks.{LeavesOnly};
-ghost use Rattle.verity_journal.specs.Journal.{pair_of, volume};
+ghost use Rattle.verity_journal.specs.Journal.{pair_of, recovered_pair};
 ghost use Rattle.verity_edit.specs.Editing.{Commits, Stays};
 ghost use Rattle.verity_edit.specs.Line.{CommitsUnder, editing_of};
 ghost use Rattle.verity_commit.specs.Committing.{IsEdit, ExplainsEdit, Holds, IsOneOf};
