@@ -1,18 +1,14 @@
 //! The command `edit`: does a script's lines over a volume.
 
-use crate::commits::Commits;
-use crate::edits::Edits;
-use crate::lines::Devices;
 use crate::over::{Words, Work, do_over};
 use crate::script::{Script, read_script, run_script};
-use crate::volume::offset_of;
-use crate::watching::is_watched;
 use std::fs::File;
 use std::io::{Eprint, IsTerminal, Write};
 use std::rt::Files;
 use std::time::Clock;
 use verity_files::{Command, Failure, Opened, check_paths, fault_of};
 use verity_update::Edited;
+use verity_volume::{Commits, Devices, Edits, is_watched, offset_of};
 use verity_words::EditWords;
 
 /// Does the lines of SCRIPT over the volume in DATA and HASH, and prints their answers; why one wasn't done goes to `errors`.

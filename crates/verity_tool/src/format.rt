@@ -1,8 +1,5 @@
 //! The command `format`: makes the hash device of a block image.
 
-use crate::journal::check_gate;
-use crate::lines::{LineParts, table_line};
-use crate::watching::{end_progress, is_watched, progress_of};
 use std::alloc::Global;
 use std::fs::File;
 use std::io::{Eprint, IsTerminal, Write};
@@ -19,6 +16,7 @@ use verity_files::{
 };
 use verity_store::{BlockStore, StoreFault, Which};
 use verity_superblock::tree_start;
+use verity_volume::{LineParts, check_gate, end_progress, is_watched, progress_of, table_line};
 use verity_watch::Watched;
 use verity_words::FormatWords;
 

@@ -1,6 +1,5 @@
 //! The volume that a table line names, opened to be read.
 
-use crate::journal::check_gate;
 use nbd_session::ExportName;
 use std::fs::File;
 use std::rt::Files;
@@ -9,6 +8,7 @@ use verity_files::{Command, Failure, VolumeStore, open_locked, store_of_most};
 use verity_hub::Hub;
 use verity_store::Which;
 use verity_superblock::Table;
+use verity_volume::check_gate;
 
 /// A hub over two files.
 pub type FileHub = Hub<VolumeStore, VolumeStore>;

@@ -1,12 +1,5 @@
 //! What `edit` and `update` have in common: a volume, opened to be edited, and its journal.
 
-use crate::commits::{Commits, Direct, Journalled};
-use crate::edits::Edits;
-use crate::journal::{FileKeeper, check_other_gate, journal_path, recover_files, volume_names};
-use crate::lines::Devices;
-use crate::staging::OverFile;
-use crate::volume::{Sizes, Volume, open_both, open_volume};
-use crate::watching::{end_progress, progress_of};
 use std::alloc::Global;
 use std::fs::File;
 use std::io::{Eprint, Write};
@@ -18,6 +11,11 @@ use verity_stage::Staged;
 use verity_store::{BlockStore, StoreFault};
 use verity_superblock::Table;
 use verity_update::Edited;
+use verity_volume::{
+    Commits, Devices, Direct, Edits, FileKeeper, Journalled, OpenedVolume, OverFile, Sizes,
+    check_other_gate, end_progress, journal_path, open_both, open_volume, progress_of,
+    recover_files, volume_names,
+};
 use verity_watch::{Progress, Watched};
 use verity_words::{explain_no_journal, explain_recovered};
 

@@ -1,11 +1,10 @@
 //! The command `recover`: makes whole a commit that a stop cut short.
 
-use crate::journal::{journal_path, recover_files, remove_journal, volume_names};
-use crate::volume::open_both;
 use std::fs::File;
 use std::io::Write;
 use std::rt::Files;
 use verity_files::{Command, Failure, Word, check_paths};
+use verity_volume::{journal_path, open_both, recover_files, remove_journal, volume_names};
 use verity_words::RecoverWords;
 
 /// Makes the changes that stand behind an open gate of the volume's journal, and removes the journal. It prints whether there

@@ -1,7 +1,5 @@
 //! The run without words: a volume in memory, and a script over it.
 
-use crate::commits::Direct;
-use crate::lines::{Devices, committed_line};
 use crate::script::{Script, read_script, run_script};
 use std::alloc::Global;
 use std::io::{Read, Write};
@@ -11,6 +9,7 @@ use verity_digest::Algorithm;
 use verity_edit::Editor;
 use verity_files::{Failure, salt};
 use verity_store::MemStore;
+use verity_volume::{Devices, Direct, committed_line};
 
 const DATA_BLOCK_SIZE: usize = 1024;
 

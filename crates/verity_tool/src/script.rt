@@ -1,8 +1,5 @@
 //! A script over a volume: read whole, then done line by line.
 
-use crate::commits::Commits;
-use crate::edits::Edits;
-use crate::lines::{Devices, committed_line};
 use std::alloc::{AllocError, Global};
 use std::io::{ErrorKind, Read, Write};
 use std::{io, str};
@@ -11,6 +8,7 @@ use verity_files::{DONE, Failure, Fault, REFUSED};
 use verity_geometry::Geometry;
 use verity_script::{Line, read_line};
 use verity_store::{Block, StoreFault, Which};
+use verity_volume::{Commits, Devices, Edits, committed_line};
 use verity_words::{Refusal, Where, explain_line};
 
 /// The most bytes of a script.

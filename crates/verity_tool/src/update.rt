@@ -1,12 +1,7 @@
 //! The command `update`: makes a volume that of another image.
 
-use crate::commits::Commits;
-use crate::edits::Edits;
-use crate::lines::{Devices, LineParts, committed_line, table_of};
 use crate::over::{Words, Work, do_over};
 use crate::script::commit;
-use crate::volume::offset_of;
-use crate::watching::{end_progress, is_watched, progress_of};
 use std::alloc::Global;
 use std::fs::File;
 use std::io::{Eprint, IsTerminal, Write};
@@ -20,6 +15,10 @@ use verity_files::{
 };
 use verity_store::{BlockStore, StoreFault, Which};
 use verity_update::{Edited, UpdateFault};
+use verity_volume::{
+    Commits, Devices, Edits, LineParts, committed_line, end_progress, is_watched, offset_of,
+    progress_of, table_of,
+};
 use verity_watch::Watched;
 use verity_words::UpdateWords;
 

@@ -1,7 +1,6 @@
 //! The command `verify`: reports what is wrong in a volume.
 
 use crate::opened::open_stores;
-use crate::watching::{end_progress, is_watched, progress_of};
 use std::fs::File;
 use std::io::{Eprint, IsTerminal, Write};
 use std::rt::Files;
@@ -9,6 +8,7 @@ use std::time::Clock;
 use verity_check::{Place, Report, Verdict, Verifier};
 use verity_files::{Command, DONE, Failure, REFUSED};
 use verity_superblock::Table;
+use verity_volume::{end_progress, is_watched, progress_of};
 use verity_watch::Watched;
 use verity_words::VerifyWords;
 

@@ -1,6 +1,6 @@
 //! A volume's files, opened to be edited.
 
-use crate::dump::read_superblock;
+use crate::superblock::read_superblock;
 use std::alloc::Global;
 use std::fs::File;
 use std::rt::Files;
@@ -14,7 +14,7 @@ use verity_superblock::{SuperFault, Table};
 
 /// A volume's stores, and what they were opened with.
 #[derive(Drop)]
-pub struct Volume {
+pub struct OpenedVolume {
     pub data_store: VolumeStore,
     pub hash_store: VolumeStore,
     /// HASH, to be read once more.
@@ -67,11 +67,11 @@ pub fn open_volume(
     offset: u64,
     data: Result<Opened, StoreFault>,
     hash: Opened,
-) -> Result<Volume, Failure> {
+) -> Result<OpenedVolume, Failure> {
     let again = hash.again()?;
     let sizes = sizes_of(alloc, line, &hash, offset)?;
     let (data_store, hash_store, sizes) = open_stores(data, hash, sizes)?;
-    Ok(Volume {
+    Ok(OpenedVolume {
         data_store,
         hash_store,
         again,

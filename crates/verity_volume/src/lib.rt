@@ -1,0 +1,26 @@
+//! A volume as the commands work on it: its two files and its journal, the stores over them, staged or not, the editors over
+//! these and how their commits are carried out, the lines that are printed of it, and how far a command is.
+//!
+//! What it prints and refuses is shown by tests. The work is done by the layers below, whose contracts say what it is worth.
+#![tactic(auto)]
+
+mod commits;
+mod edits;
+mod journal;
+mod lines;
+mod opened_volume;
+mod staging;
+mod superblock;
+mod watching;
+
+pub use commits::{Commits, Direct, Journalled};
+pub use edits::Edits;
+pub use journal::{
+    FileKeeper, Found, check_gate, check_other_gate, journal_path, recover_files, remove_journal,
+    volume_names,
+};
+pub use lines::{Devices, LineParts, committed_line, print_superblock, table_line, table_of};
+pub use opened_volume::{OpenedVolume, Sizes, offset_of, open_both, open_volume};
+pub use staging::{OverFile, StagedEdits};
+pub use superblock::read_superblock;
+pub use watching::{WatchedFile, end_progress, is_watched, progress_of};

@@ -1,0 +1,41 @@
+//! The superblock of a hash device, read before the sizes that it names are known.
+
+use std::alloc::Global;
+use verity_files::{Fault, Opened, store_of_most};
+use verity_store::BlockStore;
+use verity_superblock::{SuperFault, Superblock, tree_start};
+
+/// The bytes of a superblock, and of the blocks in which a hash device is read before its own block size is known.
+const SUPERBLOCK_SIZE: usize = 512;
+
+/// The superblock that stands at a byte offset of a file, and the hash block at which its tree begins. B10 where the
+/// offset is no multiple of 512, or of the superblock's own hash blocks; B1 where the file ends before it.
+pub fn read_superblock(
+    alloc: Global,
+    hash: Opened,
+    offset: u64,
+) -> Result<(Superblock, u64), Fault> {
+    let mut hash_store = store_of_most(hash, SUPERBLOCK_SIZE, u64::MAX)?;
+    let mut bytes = [0; SUPERBLOCK_SIZE];
+    read_bytes(&mut hash_store, offset, &mut bytes)?;
+    let superblock = Superblock::decode(alloc, &bytes)?;
+    let start = tree_start(offset, superblock.hash_block_size())?;
+    Ok((superblock, start))
+}
+
+/// Reads the 512 bytes at a byte offset of a hash device.
+fn read_bytes<S: BlockStore>(
+    hash_store: &mut S,
+    offset: u64,
+    bytes: &mut [u8; SUPERBLOCK_SIZE],
+) -> Result<(), Fault> {
+    if offset % SUPERBLOCK_SIZE as u64 != 0 {
+        return Err(SuperFault::Offset.into());
+    }
+    let place = offset / SUPERBLOCK_SIZE as u64;
+    if hash_store.block_size() != SUPERBLOCK_SIZE || place >= hash_store.len() {
+        return Err(SuperFault::Short.into());
+    }
+    hash_store.read(place, bytes)?;
+    Ok(())
+}
