@@ -4,14 +4,14 @@ use std::alloc::Global;
 use std::process::Abort;
 use std::test::Fail;
 use test_stores::FailStore;
-use test_volumes::{Volume, copy};
+use test_volumes::{BuiltVolume, copy};
 use verity_build::{BuildFault, Compared};
 use verity_store::{BlockStore, MemStore, Which};
 
 // Whether a build at which no call fails gives the volume.
 fn is_built<D: BlockStore + Drop>(
     alloc: Global,
-    volume: &Volume,
+    volume: &BuiltVolume,
     data_store: D,
     hash_store: MemStore,
 ) -> Result<bool, Fail> {
@@ -21,7 +21,7 @@ fn is_built<D: BlockStore + Drop>(
 }
 
 // Whether a build whose data store fails at this call names it, and the next build is done.
-fn names_the_data_store(alloc: Global, volume: &Volume, call: u64) -> Result<bool, Fail> {
+fn names_the_data_store(alloc: Global, volume: &BuiltVolume, call: u64) -> Result<bool, Fail> {
     let mut data_store = FailStore::at(copy(alloc, &volume.data_store)?, call);
     let mut hash_store = MemStore::zeroed(alloc, 512, 0)?;
     let answer = build_now(alloc, &mut data_store, &mut hash_store)?;
@@ -32,7 +32,7 @@ fn names_the_data_store(alloc: Global, volume: &Volume, call: u64) -> Result<boo
 // Whether a build whose hash store fails at this call names it, leaves the whole device or not, and the next is done.
 fn names_the_hash_store(
     alloc: Global,
-    volume: &Volume,
+    volume: &BuiltVolume,
     call: u64,
     leaves_all: bool,
 ) -> Result<bool, Fail> {
@@ -46,7 +46,7 @@ fn names_the_hash_store(
 }
 
 // How many calls of each store a build makes.
-fn calls_of_a_build(alloc: Global, volume: &Volume) -> Result<(u64, u64), Fail> {
+fn calls_of_a_build(alloc: Global, volume: &BuiltVolume) -> Result<(u64, u64), Fail> {
     let mut data_store = FailStore::at(copy(alloc, &volume.data_store)?, 0);
     let mut hash_store = FailStore::at(MemStore::zeroed(alloc, 512, 0)?, 0);
     let answer = build_now(alloc, &mut data_store, &mut hash_store)?;
@@ -88,7 +88,7 @@ fn a_build_names_the_hash_store(rt: HostRuntime) -> Result<(), Fail> {
 // What a comparison answers whose stores fail at these calls, where it changes none and the next finds no difference.
 fn compared(
     alloc: Global,
-    volume: &Volume,
+    volume: &BuiltVolume,
     data_call: u64,
     hash_call: u64,
 ) -> Result<Option<Result<Compared, BuildFault>>, Fail> {

@@ -4,7 +4,7 @@ use linked_list_allocator::LocalHeap;
 use std::alloc::Global;
 use std::process::Abort;
 use std::test::Fail;
-use test_volumes::{STEP, Volume, copy, numbered, params};
+use test_volumes::{BuiltVolume, STEP, copy, numbered, params};
 use verity_build::{BuildFault, Compared, build, compare};
 use verity_digest::Digest;
 use verity_store::{BlockStore, MemStore};
@@ -55,7 +55,7 @@ fn the_count_costs_a_build_no_memory(rt: HostRuntime) -> Result<(), Fail> {
 }
 
 // Whether both stores hold what a volume's do.
-fn are_of(volume: &Volume, data_store: &MemStore, hash_store: &MemStore) -> bool {
+fn are_of(volume: &BuiltVolume, data_store: &MemStore, hash_store: &MemStore) -> bool {
     data_store.bytes() == volume.data_store.bytes()
         && hash_store.bytes() == volume.hash_store.bytes()
 }
@@ -63,7 +63,7 @@ fn are_of(volume: &Volume, data_store: &MemStore, hash_store: &MemStore) -> bool
 // Whether a build with memory gives the volume.
 fn is_built(
     alloc: Global,
-    volume: &Volume,
+    volume: &BuiltVolume,
     data_store: MemStore,
     hash_store: MemStore,
 ) -> Result<bool, Fail> {
@@ -73,7 +73,7 @@ fn is_built(
 }
 
 // Whether a build with this room is refused, changes no store, and is done once it has memory.
-fn refuses_a_build(alloc: Global, volume: &Volume, steps: usize) -> Result<bool, Fail> {
+fn refuses_a_build(alloc: Global, volume: &BuiltVolume, steps: usize) -> Result<bool, Fail> {
     let mut data_store = copy(alloc, &volume.data_store)?;
     let mut hash_store = numbered(alloc, 1)?;
     let before = numbered(alloc, 1)?;
@@ -118,7 +118,7 @@ fn a_hash_store_without_room_stays(rt: HostRuntime) -> Result<(), Fail> {
 // What a comparison of the volume with this room answers, where it changes no store.
 fn compared(
     alloc: Global,
-    volume: &Volume,
+    volume: &BuiltVolume,
     steps: usize,
 ) -> Result<Option<Result<Compared, BuildFault>>, Fail> {
     let mut data_store = copy(alloc, &volume.data_store)?;

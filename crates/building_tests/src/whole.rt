@@ -2,7 +2,7 @@
 use std::alloc::Global;
 use std::process::Abort;
 use std::test::Fail;
-use test_volumes::{Volume, make_volume, numbered, params};
+use test_volumes::{BuiltVolume, make_volume, numbered, params};
 use verity_build::{BuildFault, Compared, build, compare};
 use verity_digest::Digest;
 use verity_store::BlockStore;
@@ -11,7 +11,7 @@ use verity_store::BlockStore;
 const ROOT: &str = "234259a12cf4cba78bef127291893994c9f0193ae855cdd6a74e8538a6e6665c";
 
 // The volume, built in one go.
-pub fn whole(rt: &impl Abort, alloc: Global) -> Result<Volume, Fail> {
+pub fn whole(rt: &impl Abort, alloc: Global) -> Result<BuiltVolume, Fail> {
     let volume = make_volume(alloc, numbered(alloc, 17)?)?;
     let digits = hex::encode(alloc, volume.root.bytes())?;
     assert_eq!(rt; digits.as_str(), ROOT);

@@ -10,14 +10,14 @@ use verity_store::{BlockStore, MemStore, Which};
 
 // A verifier of 17 data blocks whose data store fails at this call.
 fn failing_data(alloc: Global, call: u64) -> Result<Verifier<FailStore<MemStore>, MemStore>, Fail> {
-    let (data, hash) = volume(alloc, Algorithm::Sha256)?;
+    let (data, hash) = data_and_tree(alloc, Algorithm::Sha256)?;
     let data = FailStore::at(store(data)?, call);
     over(alloc, Algorithm::Sha256, data, store(hash)?, 4)
 }
 
 // A verifier of 17 data blocks whose hash store fails at this call.
 fn failing_hash(alloc: Global, call: u64) -> Result<Verifier<MemStore, FailStore<MemStore>>, Fail> {
-    let (data, hash) = volume(alloc, Algorithm::Sha256)?;
+    let (data, hash) = data_and_tree(alloc, Algorithm::Sha256)?;
     let hash = FailStore::at(store(hash)?, call);
     over(alloc, Algorithm::Sha256, store(data)?, hash, 4)
 }

@@ -20,7 +20,7 @@ fn fills(alloc: Global, bytes: [u8; 3]) -> Result<ScriptStore, Fail> {
 #[test]
 fn a_second_read_is_checked_again(rt: HostRuntime) -> Result<(), Fail> {
     let alloc = rt.alloc();
-    let (_, hash) = volume(alloc, Algorithm::Sha256)?;
+    let (_, hash) = data_and_tree(alloc, Algorithm::Sha256)?;
     let mut verifier = over(
         alloc,
         Algorithm::Sha256,
@@ -55,7 +55,7 @@ fn picks(alloc: Global, bytes: &[u8], numbers: [usize; 3]) -> Result<ScriptStore
 #[test]
 fn a_refused_hash_block_is_not_read_again(rt: HostRuntime) -> Result<(), Fail> {
     let alloc = rt.alloc();
-    let (data, hash) = volume(alloc, Algorithm::Sha256)?;
+    let (data, hash) = data_and_tree(alloc, Algorithm::Sha256)?;
     let mut verifier = over(
         alloc,
         Algorithm::Sha256,

@@ -6,7 +6,7 @@ use std::alloc::{Allocator, Global};
 use std::process::Abort;
 use std::test::Fail;
 use test_stores::FailStore;
-use test_volumes::{STEP, Volume, copy};
+use test_volumes::{BuiltVolume, STEP, copy};
 use verity_check::{CheckFault, Verifier};
 use verity_store::BlockStore;
 
@@ -56,7 +56,7 @@ fn judged<D: BlockStore + Drop, H: BlockStore + Drop, A: Allocator + Copy + Drop
 }
 
 // What comes of a verifier over a heap of so many steps.
-fn try_room(alloc: Global, volume: &Volume, steps: usize) -> Result<Outcome, Fail> {
+fn try_room(alloc: Global, volume: &BuiltVolume, steps: usize) -> Result<Outcome, Fail> {
     let data_store = copy(alloc, &volume.data_store)?;
     let hash_store = copy(alloc, &volume.hash_store)?;
     let heap = LocalHeap::new(alloc, steps.saturating_mul(STEP))?;
@@ -70,7 +70,7 @@ fn try_room(alloc: Global, volume: &Volume, steps: usize) -> Result<Outcome, Fai
 // With how many steps, from so many on, the outcome is first another than this, and which; at the end of 600, it itself.
 fn next_outcome(
     alloc: Global,
-    volume: &Volume,
+    volume: &BuiltVolume,
     from: usize,
     kind: Outcome,
 ) -> Result<(usize, Outcome), Fail> {
@@ -113,7 +113,7 @@ fn times<D: BlockStore + Drop, H: BlockStore + Drop, A: Allocator + Copy + Drop>
 }
 
 // How often a verifier over a heap of so many steps serves data block 0 from four reads of hash blocks, where there is one.
-fn served(alloc: Global, volume: &Volume, steps: usize) -> Result<Option<u32>, Fail> {
+fn served(alloc: Global, volume: &BuiltVolume, steps: usize) -> Result<Option<u32>, Fail> {
     let data_store = copy(alloc, &volume.data_store)?;
     let hash_store = FailStore::reads_after(copy(alloc, &volume.hash_store)?, 4);
     let heap = LocalHeap::new(alloc, steps.saturating_mul(STEP))?;

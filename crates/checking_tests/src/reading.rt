@@ -60,7 +60,7 @@ fn a_flipped_hash_bit_is_refused_under_sha512(rt: HostRuntime) -> Result<(), Fai
 
 // A verifier of 17 data blocks whose tree's level 0 has its blocks swapped.
 fn swapped(alloc: Global) -> Result<Verifier<MemStore, MemStore>, Fail> {
-    let (data, mut hash) = volume(alloc, Algorithm::Sha256)?;
+    let (data, mut hash) = data_and_tree(alloc, Algorithm::Sha256)?;
     if hash.len() == 1536 {
         let (front, last) = hash.split_at_mut(1024);
         front[512..].swap_with_slice(last);
@@ -89,7 +89,7 @@ fn two_hash_reads(
     alloc: Global,
     cache: usize,
 ) -> Result<Verifier<MemStore, FailStore<MemStore>>, Fail> {
-    let (data, hash) = volume(alloc, Algorithm::Sha256)?;
+    let (data, hash) = data_and_tree(alloc, Algorithm::Sha256)?;
     let hash = FailStore::reads_after(store(hash)?, 2);
     over(alloc, Algorithm::Sha256, store(data)?, hash, cache)
 }

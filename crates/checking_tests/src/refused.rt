@@ -5,7 +5,7 @@ use linked_list_allocator::LocalHeap;
 use std::alloc::{AllocError, Allocator, Global};
 use std::process::Abort;
 use std::test::Fail;
-use test_volumes::{STEP, Volume, copy, fill, flip, image};
+use test_volumes::{BuiltVolume, STEP, copy, fill, flip, image};
 use verity_check::{CheckFault, Place, Report, Verdict, Verifier};
 use verity_store::MemStore;
 
@@ -59,7 +59,7 @@ const BAD: [(Place, Verdict); 1] = [(Place::Data(5), Verdict::Bad)];
 fn flipped<'a>(
     alloc: Global,
     heap: &'a LocalHeap,
-    volume: &Volume,
+    volume: &BuiltVolume,
 ) -> Result<Verifier<MemStore, MemStore, &'a LocalHeap>, Fail> {
     let hash_store = copy(alloc, &volume.hash_store)?;
     let mut image = image(alloc, 17)?;
@@ -103,7 +103,7 @@ fn is_usable<'a>(
 }
 
 // Whether a report that finds so much room is given, where that and what comes next is right.
-fn reported(alloc: Global, volume: &Volume, steps: usize) -> Result<Option<bool>, Fail> {
+fn reported(alloc: Global, volume: &BuiltVolume, steps: usize) -> Result<Option<bool>, Fail> {
     let heap = LocalHeap::new(alloc, 16_384)?;
     let mut verifier = flipped(alloc, &heap, volume)?;
     let given = report_with(alloc, &heap, &mut verifier, steps)?;

@@ -1,7 +1,7 @@
 //! The volume of 17 data blocks with a salt, which memory is refused over.
 use std::alloc::{Allocator, Global};
 use std::test::Fail;
-use test_volumes::{Volume, make_volume, numbered, table};
+use test_volumes::{BuiltVolume, make_volume, numbered, table};
 use verity_digest::Digest;
 use verity_superblock::{Table, TableFault};
 
@@ -11,7 +11,7 @@ const ROOT: [u8; 32] = [
     0xc9, 0xf0, 0x19, 0x3a, 0xe8, 0x55, 0xcd, 0xd6, 0xa7, 0x4e, 0x85, 0x38, 0xa6, 0xe6, 0x66, 0x5c,
 ];
 
-pub fn salted(alloc: Global) -> Result<Volume, Fail> {
+pub fn salted(alloc: Global) -> Result<BuiltVolume, Fail> {
     make_volume(alloc, numbered(alloc, 17)?)
 }
 

@@ -111,7 +111,7 @@ pub fn over<D: BlockStore + Drop, H: BlockStore + Drop>(
 }
 
 // The data and the tree of 17 data blocks.
-pub fn volume(alloc: Global, algorithm: Algorithm) -> Result<(Vec<u8>, Vec<u8>), Fail> {
+pub fn data_and_tree(alloc: Global, algorithm: Algorithm) -> Result<(Vec<u8>, Vec<u8>), Fail> {
     let data = image(alloc, 17)?;
     let hash = tree(alloc, algorithm, &data)?;
     Ok((data, hash))
@@ -126,7 +126,7 @@ pub fn flipped(
     data_at: usize,
     hash_at: usize,
 ) -> Result<Verifier<MemStore, MemStore>, Fail> {
-    let (mut data, mut hash) = volume(alloc, algorithm)?;
+    let (mut data, mut hash) = data_and_tree(alloc, algorithm)?;
     flip(&mut data, data_at);
     flip(&mut hash, hash_at);
     over(alloc, algorithm, store(data)?, store(hash)?, 2)

@@ -4,13 +4,13 @@ use crate::volumes::*;
 use std::alloc::Global;
 use std::test::Fail;
 use test_stores::FailStore;
-use test_volumes::{Volume, image, make_volume};
+use test_volumes::{BuiltVolume, image, make_volume};
 use verity_edit::Editor;
 use verity_store::MemStore;
 
 // The stores of a volume after a block that was added and written, over a data store that fails every read after `open`.
 // None where the commit was refused, or hashed more than the block, its level-0 block and the top.
-fn one_more(alloc: Global, volume: Volume) -> Option<(MemStore, MemStore)> {
+fn one_more(alloc: Global, volume: BuiltVolume) -> Option<(MemStore, MemStore)> {
     let data_store = FailStore::reads_after(volume.data_store, 16);
     let mut editor = Editor::open(alloc, data_store, volume.hash_store).ok()?;
     if editor.grow(17).is_err() || editor.write(16, &[9; 512]).is_err() {
@@ -42,7 +42,7 @@ fn a_commit_reads_no_data_block(rt: HostRuntime) -> Result<(), Fail> {
 
 // The calls at both stores of a volume that is opened and of which a block is written, the data store's first. None where
 // the commit was refused, or hashed more than the block and the four above it.
-fn calls_of_one_write(alloc: Global, volume: Volume) -> Option<(u64, u64)> {
+fn calls_of_one_write(alloc: Global, volume: BuiltVolume) -> Option<(u64, u64)> {
     let data_store = FailStore::at(volume.data_store, 0);
     let hash_store = FailStore::at(volume.hash_store, 0);
     let mut editor = Editor::open(alloc, data_store, hash_store).ok()?;

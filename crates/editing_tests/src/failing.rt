@@ -5,7 +5,7 @@ use std::alloc::Global;
 use std::process::Abort;
 use std::test::Fail;
 use test_stores::FailStore;
-use test_volumes::{Volume, make_volume, params};
+use test_volumes::{BuiltVolume, make_volume, params};
 use verity_build::build;
 use verity_edit::{EditFault, Editor};
 use verity_store::{MemStore, Which};
@@ -21,7 +21,7 @@ struct Failure {
     call: u64,
 }
 
-fn over(volume: Volume, failure: Failure) -> (Failing, Failing) {
+fn over(volume: BuiltVolume, failure: Failure) -> (Failing, Failing) {
     let (data_call, hash_call) = match failure.which {
         Which::Data => (failure.call, 0),
         Which::Hash => (0, failure.call),
@@ -33,7 +33,7 @@ fn over(volume: Volume, failure: Failure) -> (Failing, Failing) {
 }
 
 // The volume that the commit leaves, made from scratch.
-fn edited_volume(alloc: Global) -> Result<Volume, Fail> {
+fn edited_volume(alloc: Global) -> Result<BuiltVolume, Fail> {
     let mut bytes = Vec::new(alloc);
     for n in 0..17 {
         let fill = match n {

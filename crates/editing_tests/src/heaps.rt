@@ -3,7 +3,7 @@
 use linked_list_allocator::LocalHeap;
 use std::alloc::{Allocator, Global};
 use std::test::Fail;
-use test_volumes::{Volume, fill};
+use test_volumes::{BuiltVolume, fill};
 use verity_edit::Editor;
 use verity_store::MemStore;
 
@@ -38,7 +38,7 @@ pub fn copy_in<S: Allocator + Copy>(
 pub fn opened_in<S: Allocator + Copy, A: Allocator + Copy>(
     store_alloc: S,
     alloc: A,
-    volume: &Volume,
+    volume: &BuiltVolume,
     size: usize,
 ) -> Result<Editor<MemStore<S>, MemStore<S>, A>, Fail> {
     let data_store = copy_in(store_alloc, &volume.data_store, size)?;

@@ -5,7 +5,7 @@ use crate::volumes::*;
 use linked_list_allocator::LocalHeap;
 use std::alloc::{Allocator, Global};
 use std::test::Fail;
-use test_volumes::{STEP, Volume, image, make_volume};
+use test_volumes::{BuiltVolume, STEP, image, make_volume};
 use verity_digest::Digest;
 use verity_edit::{EditFault, Editor, OpenRefused};
 use verity_store::MemStore;
@@ -14,7 +14,7 @@ use verity_store::MemStore;
 fn open_in(
     alloc: Global,
     bytes: usize,
-    volume: Volume,
+    volume: BuiltVolume,
 ) -> Result<Result<Digest, OpenRefused<MemStore, MemStore>>, Fail> {
     let heap = LocalHeap::new(alloc, bytes)?;
     match Editor::open(&heap, volume.data_store, volume.hash_store) {
@@ -38,7 +38,7 @@ fn an_open_gives_both_stores_back(rt: HostRuntime) -> Result<(), Fail> {
             Err(refused) => {
                 assert_eq!(rt; refused.fault, EditFault::NoMemory);
                 assert!(rt; is_same(&refused.data_store, &refused.hash_store, &kept));
-                volume = Volume {
+                volume = BuiltVolume {
                     data_store: refused.data_store,
                     hash_store: refused.hash_store,
                     root: kept.root,
@@ -53,8 +53,8 @@ fn an_open_gives_both_stores_back(rt: HostRuntime) -> Result<(), Fail> {
 // A volume, and what it becomes: block 3 is filled with 0x5a, and it grows to `count` blocks.
 #[derive(Drop)]
 struct Case {
-    old: Volume,
-    new: Volume,
+    old: BuiltVolume,
+    new: BuiltVolume,
     count: u64,
 }
 
@@ -76,7 +76,7 @@ fn make_case(alloc: Global, old: usize, count: usize) -> Result<Case, Fail> {
 // Whether an editor commits, and then holds a volume.
 fn commits_to<S: Allocator + Drop, A: Allocator + Copy>(
     editor: Editor<MemStore<S>, MemStore<S>, A>,
-    wanted: &Volume,
+    wanted: &BuiltVolume,
 ) -> bool {
     committed_in(editor).is_some_and(|editor| holds(editor, wanted))
 }

@@ -3,7 +3,7 @@
 use crate::volumes::*;
 use std::alloc::Global;
 use std::test::Fail;
-use test_volumes::Volume;
+use test_volumes::BuiltVolume;
 use verity_edit::{EditFault, Editor};
 use verity_store::{MemStore, Which};
 
@@ -21,7 +21,7 @@ fn wide(alloc: Global, store: &MemStore) -> Result<MemStore, Fail> {
 
 // How a volume is refused of which this store has blocks of 1,024 bytes.
 fn fault_of_wide(alloc: Global, which: Which) -> Result<Option<EditFault>, Fail> {
-    let Volume {
+    let BuiltVolume {
         data_store,
         hash_store,
         ..

@@ -6,7 +6,7 @@ use linked_list_allocator::LocalHeap;
 use std::alloc::Global;
 use std::test::Fail;
 use test_stores::FailStore;
-use test_volumes::Volume;
+use test_volumes::BuiltVolume;
 use verity_edit::{EditFault, Editor};
 
 // How much more room a run has than the one before.
@@ -16,7 +16,11 @@ const STRIDE: usize = 256;
 const COUNT: u64 = 4096;
 
 // How often a commit called the hash store that was refused memory, with so much room. None where it is done.
-fn calls_when_refused(alloc: Global, volume: Volume, room: usize) -> Result<Option<u64>, Fail> {
+fn calls_when_refused(
+    alloc: Global,
+    volume: BuiltVolume,
+    room: usize,
+) -> Result<Option<u64>, Fail> {
     let heap = LocalHeap::new(alloc, AMPLE)?;
     let hash_store = FailStore::at(volume.hash_store, 0);
     let mut editor = match Editor::open(&heap, volume.data_store, hash_store) {

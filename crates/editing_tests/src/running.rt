@@ -7,7 +7,7 @@ use crate::volumes::*;
 use linked_list_allocator::LocalHeap;
 use std::alloc::Global;
 use std::test::Fail;
-use test_volumes::{STEP, Volume};
+use test_volumes::{BuiltVolume, STEP};
 use uuid::Uuid;
 use verity_build::{Params, build};
 use verity_digest::{Algorithm, Digest, Salt};
@@ -33,12 +33,12 @@ const COMMANDS: [Step; 8] = [
 ];
 
 // The volume of data blocks that are filled so.
-fn scratch(alloc: Global, fills: &[u8]) -> Result<Volume, Fail> {
+fn scratch(alloc: Global, fills: &[u8]) -> Result<BuiltVolume, Fail> {
     let mut data_store = store_of(alloc, fills, WIDE)?;
     let mut hash_store = MemStore::zeroed(alloc, SIZE, 0)?;
     let params = Params::new(Salt::new(alloc, b"")?, Uuid::nil(), Algorithm::Sha256);
     let root = build(alloc, &mut data_store, &mut hash_store, &params)?;
-    Ok(Volume {
+    Ok(BuiltVolume {
         data_store,
         hash_store,
         root,

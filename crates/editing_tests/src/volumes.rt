@@ -2,7 +2,7 @@
 
 use std::alloc::{Allocator, Global};
 use std::test::Fail;
-use test_volumes::{Volume, make_volume, numbered};
+use test_volumes::{BuiltVolume, make_volume, numbered};
 use verity_edit::Editor;
 use verity_store::MemStore;
 
@@ -11,11 +11,11 @@ pub const SIZE: usize = 512;
 pub type Plain = Editor<MemStore, MemStore>;
 
 // A volume of so many data blocks.
-pub fn volume_of(alloc: Global, count: usize) -> Result<Volume, Fail> {
+pub fn volume_of(alloc: Global, count: usize) -> Result<BuiltVolume, Fail> {
     make_volume(alloc, numbered(alloc, count)?)
 }
 
-pub fn opened(alloc: Global, volume: Volume) -> Result<Plain, Fail> {
+pub fn opened(alloc: Global, volume: BuiltVolume) -> Result<Plain, Fail> {
     match Editor::open(alloc, volume.data_store, volume.hash_store) {
         Ok(editor) => Ok(editor),
         Err(refused) => Err(refused.fault.into()),
@@ -25,7 +25,7 @@ pub fn opened(alloc: Global, volume: Volume) -> Result<Plain, Fail> {
 // Whether both stores of an editor that isn't broken hold a volume, with its root hash.
 pub fn holds<S: Allocator, A: Allocator + Copy>(
     editor: Editor<MemStore<S>, MemStore<S>, A>,
-    wanted: &Volume,
+    wanted: &BuiltVolume,
 ) -> bool {
     let is_right = !editor.broken() && editor.root() == wanted.root;
     let (data_store, hash_store) = editor.close();
@@ -36,7 +36,7 @@ pub fn holds<S: Allocator, A: Allocator + Copy>(
 pub fn is_same<S: Allocator>(
     data_store: &MemStore<S>,
     hash_store: &MemStore<S>,
-    wanted: &Volume,
+    wanted: &BuiltVolume,
 ) -> bool {
     data_store.bytes() == wanted.data_store.bytes()
         && hash_store.bytes() == wanted.hash_store.bytes()

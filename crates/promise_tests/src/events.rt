@@ -34,7 +34,7 @@ fn client(alloc: Global) -> Result<Vec<Event>, Fail> {
 #[test]
 fn events_are_answered(rt: HostRuntime) -> Result<(), Fail> {
     let alloc = rt.alloc();
-    let (data, hash) = volume(alloc, seventeen(alloc)?)?;
+    let (data, hash) = stores_of(alloc, seventeen(alloc)?)?;
     let events = client(alloc)?;
     let mut replies = Vec::new(alloc);
     let name = ExportName::new(b"vol")?;
@@ -60,7 +60,7 @@ fn events_are_answered(rt: HostRuntime) -> Result<(), Fail> {
 #[test]
 fn no_cache_is_refused(rt: HostRuntime) -> Result<(), Fail> {
     let alloc = rt.alloc();
-    let (data, hash) = volume(alloc, seventeen(alloc)?)?;
+    let (data, hash) = stores_of(alloc, seventeen(alloc)?)?;
     let mut replies = Vec::new(alloc);
     let name = ExportName::new(b"vol")?;
     let done = answer_events(

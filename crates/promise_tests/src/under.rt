@@ -57,8 +57,8 @@ fn has_left(edited: &Edit, data: &[u8], hash: &[u8], root: [u8; 32], blocks: u64
 #[test]
 fn edits_under_a_line_are_from_scratch(rt: HostRuntime) -> Result<(), Fail> {
     let alloc = rt.alloc();
-    let (data, hash) = volume(alloc, sixteen(alloc)?)?;
-    let (want_data, want_hash) = volume(alloc, seventeen(alloc)?)?;
+    let (data, hash) = stores_of(alloc, sixteen(alloc)?)?;
+    let (want_data, want_hash) = stores_of(alloc, seventeen(alloc)?)?;
     let mut replies = Vec::new(alloc);
     let commands = commands(alloc)?;
     let edited = edit_under_line(alloc, data, hash, line(alloc)?, &commands, &mut replies);
@@ -77,7 +77,7 @@ fn edits_under_a_line_are_from_scratch(rt: HostRuntime) -> Result<(), Fail> {
 #[test]
 fn a_changed_data_block_is_refused_under_the_new_line(rt: HostRuntime) -> Result<(), Fail> {
     let alloc = rt.alloc();
-    let (_, hash) = volume(alloc, sixteen(alloc)?)?;
+    let (_, hash) = stores_of(alloc, sixteen(alloc)?)?;
     let mut bytes = Vec::from_elem(alloc, 0x5b, 512)?;
     bytes.extend_from_slice(&[0x5a; 7_680])?;
     let data = MemStore::new(bytes, 512)?;
@@ -116,7 +116,7 @@ fn a_changed_data_block_is_refused_under_the_new_line(rt: HostRuntime) -> Result
 #[test]
 fn a_changed_hash_block_is_not_trusted(rt: HostRuntime) -> Result<(), Fail> {
     let alloc = rt.alloc();
-    let (data, hash) = volume(alloc, sixteen(alloc)?)?;
+    let (data, hash) = stores_of(alloc, sixteen(alloc)?)?;
     let mut changed = Vec::from_slice(alloc, hash.bytes())?;
     if let Some(byte) = changed.get_mut(1024) {
         *byte = 0;

@@ -30,7 +30,7 @@ pub const ROOT: [u8; 32] = [
 ];
 
 /// The data store, and the hash device that is built of it behind a block of 0xee.
-pub fn volume(alloc: Global, bytes: Vec<u8>) -> Result<(MemStore, MemStore), Fail> {
+pub fn stores_of(alloc: Global, bytes: Vec<u8>) -> Result<(MemStore, MemStore), Fail> {
     let params = Params::new(
         Salt::new(alloc, b"")?,
         Uuid::from_bytes([7; 16]),

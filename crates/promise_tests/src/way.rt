@@ -27,8 +27,8 @@ fn has_left(edited: &Edit, data: &[u8], hash: &[u8]) -> bool {
 #[test]
 fn edits_are_from_scratch(rt: HostRuntime) -> Result<(), Fail> {
     let alloc = rt.alloc();
-    let (data, hash) = volume(alloc, sixteen(alloc)?)?;
-    let (want_data, want_hash) = volume(alloc, seventeen(alloc)?)?;
+    let (data, hash) = stores_of(alloc, sixteen(alloc)?)?;
+    let (want_data, want_hash) = stores_of(alloc, seventeen(alloc)?)?;
     let mut replies = Vec::new(alloc);
     let commands = commands(alloc)?;
     let edited = edit_from_scratch(alloc, data, hash, OFFSET, &commands, &mut replies);
@@ -45,7 +45,7 @@ fn edits_are_from_scratch(rt: HostRuntime) -> Result<(), Fail> {
 #[test]
 fn what_was_committed_is_served(rt: HostRuntime) -> Result<(), Fail> {
     let alloc = rt.alloc();
-    let (data, hash) = volume(alloc, sixteen(alloc)?)?;
+    let (data, hash) = stores_of(alloc, sixteen(alloc)?)?;
     let mut want = Vec::from_slice(alloc, GREETING)?;
     want.extend_from_slice(SAID)?;
     want.extend_from_slice(&[0x11; 512])?;

@@ -8,4 +8,4 @@ mod heaps;
 mod volumes;
 
 pub use heaps::{STEP, fill};
-pub use volumes::{Volume, copy, device, flip, image, make_volume, numbered, params, table};
+pub use volumes::{BuiltVolume, copy, device, flip, image, make_volume, numbered, params, table};

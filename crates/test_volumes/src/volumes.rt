@@ -11,7 +11,7 @@ use verity_superblock::{Table, TableFault};
 
 /// A volume in two stores, and its root hash.
 #[derive(Drop)]
-pub struct Volume {
+pub struct BuiltVolume {
     /// The data blocks.
     pub data_store: MemStore,
     /// The superblock and the tree.
@@ -43,11 +43,11 @@ pub fn params(alloc: Global) -> Result<Params, Fail> {
 }
 
 /// The volume of a data store, built from scratch.
-pub fn make_volume(alloc: Global, data_store: MemStore) -> Result<Volume, Fail> {
+pub fn make_volume(alloc: Global, data_store: MemStore) -> Result<BuiltVolume, Fail> {
     let mut data_store = data_store;
     let mut hash_store = MemStore::zeroed(alloc, 512, 0)?;
     let root = build(alloc, &mut data_store, &mut hash_store, &params(alloc)?)?;
-    Ok(Volume {
+    Ok(BuiltVolume {
         data_store,
         hash_store,
         root,

@@ -4,7 +4,7 @@ use Rattle.std.specs.Result.{IsErrOf}
 use Rattle.nbd_session.specs.declared.export.ExportFault.TheVariants as export
 use Rattle.verity_check.specs.declared.fault.CheckFault.{CheckFault}
 use Rattle.verity_check.specs.declared.fault.CheckFault.TheVariants as check
-use Rattle.verity_hub.specs.Volume.{answer_of}
+use Rattle.verity_hub.specs.Verdicts.{answer_of}
 
 pub ok_answer : (a : Result (Unit {0}) CheckFault) (P Q : Type 0) → (P → Q) → OnOk a P → OnOk (answer_of a) Q
 ok_answer (Ok x) P Q f h = f h

@@ -1,3 +1,3 @@
-pub mod VolumeLaws
+pub mod VerdictLaws
 pub mod Saying
 pub mod Answering

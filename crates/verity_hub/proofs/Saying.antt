@@ -11,8 +11,8 @@ use Rattle.nbd_hub.proofs.Steps.{Fair-Given}
 use Rattle.verity_store.specs.declared.store.BlockStore as store
 use Rattle.verity_chain.specs.Right.{Fits}
 use Rattle.verity_check.specs.Verifier.{Verifying, IsVerifier}
-use Rattle.verity_hub.specs.Volume.{HoldsFor, facts_of, IsExactFor, IsRightFor, SaysRight, SaysExact}
-use Rattle.verity_hub.proofs.VolumeLaws.{given_right}
+use Rattle.verity_hub.specs.Verdicts.{HoldsFor, facts_of, IsExactFor, IsRightFor, SaysRight, SaysExact}
+use Rattle.verity_hub.proofs.VerdictLaws.{given_right}
 
 module _ {D H : Type 0} (data_facts : store.Ghosts D) (hash_facts : store.Ghosts H) where
   pub says_right : (v w : Verifying D H) → IsVerifier data_facts hash_facts w → (image : List (List ℕ)) → Fits w.table image →

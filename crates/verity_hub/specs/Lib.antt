@@ -1,2 +1,2 @@
-pub mod Volume
+pub mod Verdicts
 pub mod Reading

@@ -9,9 +9,9 @@ ghost use Rattle.nbd_hub.specs.declared.events.HubReply.{HubReply};
 ghost use Rattle.nbd_hub.specs.Sessions.{OpensOne, FeedsOne, EndsOne, lookup, max_open, max_opened};
 ghost use Rattle.nbd_hub.specs.History.{Step, steps};
 ghost use Rattle.nbd_hub.specs.After.{EachAfter, Given, IsAfter, OpenedAfter, FedAfter, EndedAfter};
-ghost use Rattle.verity_hub.specs.Volume.{facts_of, IsRightFor};
+ghost use Rattle.verity_hub.specs.Verdicts.{facts_of, IsRightFor};
 
-use crate::volume::Volume;
+use crate::checked_image::CheckedImage;
 use nbd_hub::{Event, HubFault, HubReply, Sessions};
 use nbd_session::{ExportName, Status};
 use std::alloc::{AllocError, Allocator, Global};
@@ -23,7 +23,7 @@ use verity_store::BlockStore;
 /// those that are open, and the verifier.
 #[derive(Drop)]
 pub struct Hub<D: BlockStore, H: BlockStore, A: Allocator + Copy + Drop = Global> {
-    pub(crate) sessions: Sessions<Volume<D, H, A>, A>,
+    pub(crate) sessions: Sessions<CheckedImage<D, H, A>, A>,
 }
 
 impl<D: BlockStore, H: BlockStore, A: Allocator + Copy + Drop> Model for Hub<D, H, A> {
@@ -48,7 +48,7 @@ impl<D: BlockStore, H: BlockStore, A: Allocator + Copy + Drop> Hub<D, H, A> {
         ensures after { IsAfter (facts_of D.BlockStore H.BlockStore verifier) result.0 [] }
     {
         Hub {
-            sessions: Sessions::new(alloc, Volume::new(verifier), name),
+            sessions: Sessions::new(alloc, CheckedImage::new(verifier), name),
         }
     }
 

@@ -11,7 +11,7 @@ ghost use Rattle.verity_superblock.specs.Image.{hash_image};
 ghost use Rattle.verity_chain.specs.Right.{Fits};
 ghost use Rattle.verity_check.specs.Holds.{IsLineOf};
 ghost use Rattle.verity_check.specs.Verifier.{Verifying};
-ghost use Rattle.verity_hub.specs.Volume.{facts_of, HoldsFor, IsRightFor};
+ghost use Rattle.verity_hub.specs.Verdicts.{facts_of, HoldsFor, IsRightFor};
 
 use crate::hub::Hub;
 use std::alloc::Allocator;

@@ -7,7 +7,7 @@
 //!
 //! # The contract
 //!
-//! `specs/Volume.antt` says what a session sees of a verifier (`facts_of`), and which verdicts are right for an image. What
+//! `specs/Verdicts.antt` says what a session sees of a verifier (`facts_of`), and which verdicts are right for an image. What
 //! a history of steps is, and what it is for a hub to be after it (`IsAfter`), is said in the specs of `nbd_hub`: each
 //! session's output is the talk of its own input, by verdicts of its own that the verifier gave. [`Hub::new`] is after no
 //! step; for every history that a hub was after, each call leaves it after the longer one. The bytes of a verdict are right
@@ -26,12 +26,12 @@
 //! [`HubFault`], H1 to H4: a refused call changes nothing. [`ServeFault`], N1 to N5. `AllocError` of [`Hub::run`].
 #![tactic(auto)]
 
+mod checked_image;
 mod hub;
 pub mod laws;
 mod relay;
 mod server;
 mod stream;
-mod volume;
 
 pub use hub::Hub;
 pub use nbd_hub::{Event, HubFault, HubReply, Piece, ServeFault};

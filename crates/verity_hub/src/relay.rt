@@ -16,7 +16,7 @@ ghost use Rattle.nbd_hub.specs.After.{IsAfter};
 ghost use Rattle.nbd_relay.specs.Client.{ClientState, IsServed, TurnsOn, ends, input_bytes, IsUnready, Moves};
 ghost use Rattle.nbd_relay.specs.Clients.{Log, AllServed, RunsOn, TurnsAt};
 ghost use Rattle.verity_check.specs.Verifier.{IsOnlyReading};
-ghost use Rattle.verity_hub.specs.Volume.{facts_of};
+ghost use Rattle.verity_hub.specs.Verdicts.{facts_of};
 
 use crate::hub::Hub;
 use nbd_hub::{HubFault, ServeFault};

@@ -7,7 +7,7 @@ ghost use Rattle.nbd_hub.specs.After.{IsAfter};
 ghost use Rattle.nbd_hub.specs.Stream.{Served, ServedBy, ServedAfter};
 ghost use Rattle.verity_chain.specs.Right.{Fits};
 ghost use Rattle.verity_check.specs.Verifier.{IsOnlyReading};
-ghost use Rattle.verity_hub.specs.Volume.{facts_of, HoldsFor, SaysRight, SaysExact};
+ghost use Rattle.verity_hub.specs.Verdicts.{facts_of, HoldsFor, SaysRight, SaysExact};
 
 use crate::hub::Hub;
 use nbd_hub::{HubFault, ServeFault, serve};

@@ -8,7 +8,7 @@ use Rattle.verity_store.specs.RawFile.{overwritten}
 use Rattle.verity_journal.specs.declared.disks.Device.TheVariants.{Data, Hash, Journal}
 use Rattle.verity_journal.specs.Disks.{Contents, put, Torn, Reached, IsDurable}
 use Rattle.verity_journal.specs.Plan.{Plan, IsSide, IsSmall, Amid, made}
-use Rattle.verity_journal.specs.Journal.{spelled, read_plan, plan_of, Pair, made_pair, under, recovered, pair_of, volume, IsClosed}
+use Rattle.verity_journal.specs.Journal.{spelled, read_plan, plan_of, Pair, made_pair, under, recovered, pair_of, recovered_pair, IsClosed}
 use Rattle.verity_journal.specs.Journal.{IsGated, IsOpen, IsReady, IsSettled, IsOldOrNew, IsNew, Suits}
 use Rattle.verity_journal.proofs.Format.{read_plan-spelled}
 use Rattle.verity_journal.proofs.Parses.{plan_fits}
@@ -63,10 +63,11 @@ pair_same seen may_leave durable d was = λ i. (durable Data d was i, durable Ha
 
 -- while a plan is written, the volume is as it was
 pub behind_is_old : (seen : Contents) (may_leave : Contents → Type 0) (n : ℕ) → IsSettled seen may_leave → (c : Contents) →
-    Reached Journal (Torn 1 n) may_leave c → volume c ≡ pair_of seen
+    Reached Journal (Torn 1 n) may_leave c → recovered_pair c ≡ pair_of seen
 behind_is_old seen may_leave n settled c (d, was, b, step, is) =
     let shut : IsClosed (d Journal) = (settled.closed.0, settled.durable Journal d was ∙ settled.closed.1) in
-    ap volume is ∙ closed_is_old b (pair_of d) (torn_closed n (d Journal) b shut step) ∙ pair_same seen may_leave settled.durable d was
+    ap recovered_pair is ∙ closed_is_old b (pair_of d) (torn_closed n (d Journal) b shut step)
+    ∙ pair_same seen may_leave settled.durable d was
 
 -- while its gate is opened or closed, it is as it stands or as the plan makes it
 pub gate_is_one : (plan : Plan) (seen : Contents) (may_leave : Contents → Type 0) → IsDurable seen may_leave → IsGated plan (seen Journal)
@@ -75,8 +76,8 @@ gate_is_one plan seen may_leave durable gated c (d, was, b, step, is) =
     let there : IsGated plan (d Journal) = (gated.0, gated.1, durable Journal d was ∙ gated.2, gated.3) in
     let same = pair_same seen may_leave durable d was in
     ⊎_elim
-    (λ stays. inl (ap volume is ∙ stays ∙ same))
-    (λ new. inr (ap volume is ∙ new ∙ ap (λ (p : Pair). made_pair plan p) same))
+    (λ stays. inl (ap recovered_pair is ∙ stays ∙ same))
+    (λ new. inr (ap recovered_pair is ∙ new ∙ ap (λ (p : Pair). made_pair plan p) same))
     (gated_is_one plan b (pair_of d) (torn_gated plan (d Journal) b there step))
 
 -- under an open gate, whatever lies amid the changes of both devices stands for the new volume
@@ -102,7 +103,7 @@ data_is_new plan seen may_leave ready suits c (d, was, b, step, is) =
     let on_data : Amid plan.on_data (seen Data) b = subst (λ (l : List ℕ). Amid plan.on_data l b) (ready.durable Data d was) step in
     let on_hash : Amid plan.on_hash (seen Hash) (d Hash) =
     subst (λ (l : List ℕ). Amid plan.on_hash l (d Hash)) (ready.durable Hash d was) (amid_self plan.on_hash (d Hash)) in
-    ap volume is ∙ amid_is_new plan (pair_of seen) suits (d Journal) b (d Hash) opened on_data on_hash
+    ap recovered_pair is ∙ amid_is_new plan (pair_of seen) suits (d Journal) b (d Hash) opened on_data on_hash
 
 module _ (plan : Plan) (seen one : Contents) (may_leave : Contents → Type 0) (suits : Suits plan (pair_of seen))
     (opened : IsOpen plan (seen Journal))
@@ -115,7 +116,7 @@ module _ (plan : Plan) (seen one : Contents) (may_leave : Contents → Type 0) (
       let on_data : Amid plan.on_data (seen Data) (d Data) =
       subst (λ (l : List ℕ). Amid plan.on_data (seen Data) l) (sym data_is) (amid_made plan.on_data suits.on_data (seen Data)) in
       let on_hash : Amid plan.on_hash (seen Hash) b = subst (λ (l : List ℕ). Amid plan.on_hash l b) hash_is step in
-      ap volume is ∙ amid_is_new plan (pair_of seen) suits (d Journal) (d Data) b (
+      ap recovered_pair is ∙ amid_is_new plan (pair_of seen) suits (d Journal) (d Data) b (
         opened.0,
         opened.1,
         journal ∙ opened.2,
@@ -191,11 +192,11 @@ torn_none (gate ∷ rest) (x ∷ new) none open_gate torn =
     ⊎_elim (λ shut. is_none x new shut) (λ still. is_plan x new still ∙ reads) (cases_eq x 0)
 
 pub shutting : (seen : Contents) (may_leave : Contents → Type 0) → IsDurable seen may_leave → plan_of (seen Journal) ≡ None →
-    ¬ IsClosed (seen Journal) → (c : Contents) → Reached Journal (Torn 0 1) may_leave c → volume c ≡ volume seen
+    ¬ IsClosed (seen Journal) → (c : Contents) → Reached Journal (Torn 0 1) may_leave c → recovered_pair c ≡ recovered_pair seen
 shutting seen may_leave durable none open_gate c (d, was, b, step, is) =
     let b_none : plan_of b ≡ None = torn_none (seen Journal) b none open_gate
     (subst (λ (l : List ℕ). Torn 0 1 l b) (durable Journal d was) step) in
-    ap volume is ∙ ap (λ (o : Option Plan). under o (pair_of d)) b_none ∙ pair_same seen may_leave durable d was
+    ap recovered_pair is ∙ ap (λ (o : Option Plan). under o (pair_of d)) b_none ∙ pair_same seen may_leave durable d was
     ∙ sym (ap (λ (o : Option Plan). under o (pair_of seen)) none)
 
 module _ (plan : Plan) (seen : Contents) (may_leave : Contents → Type 0) (durable : IsDurable seen may_leave)
@@ -210,10 +211,10 @@ module _ (plan : Plan) (seen : Contents) (may_leave : Contents → Type 0) (dura
       let fits = plan_fits opened.1 plan opened.3 in
       record { on_data = fits.0; on_hash = fits.1; data_kept = data_kept; hash_kept = hash_kept }
 
-  pub is_volume : made_pair plan (pair_of seen) ≡ volume seen
+  pub is_volume : made_pair plan (pair_of seen) ≡ recovered_pair seen
   is_volume = sym (open_is_new plan (seen Journal) (pair_of seen) (plan_is_open (seen Journal) plan reads))
 
 -- what is on the devices stands for the volume that is read
 pub same_volume : (seen : Contents) (may_leave : Contents → Type 0) → IsDurable seen may_leave → (c : Contents) → may_leave c →
-    volume c ≡ volume seen
+    recovered_pair c ≡ recovered_pair seen
 same_volume seen may_leave durable c left = λ i. recovered (durable Journal c left i) (durable Data c left i, durable Hash c left i)

@@ -89,8 +89,8 @@ abbrev pub pair_of : Contents → Pair
 pair_of contents = (contents Data, contents Hash)
 
 -- what recovery makes of three devices
-abbrev pub volume : Contents → Pair
-volume contents = recovered (contents Journal) (pair_of contents)
+abbrev pub recovered_pair : Contents → Pair
+recovered_pair contents = recovered (contents Journal) (pair_of contents)
 
 -- a closed gate stands first
 abbrev pub IsClosed : List ℕ → Type 0
@@ -122,11 +122,11 @@ pub record IsReady (plan : Plan) (seen : Contents) (may_leave : Contents → Typ
 
 -- the volume as it was or as it is to be
 abbrev pub IsOldOrNew : Plan → Pair → Contents → Type 0
-IsOldOrNew plan old contents = (volume contents ≡ old) ⊎ (volume contents ≡ made_pair plan old)
+IsOldOrNew plan old contents = (recovered_pair contents ≡ old) ⊎ (recovered_pair contents ≡ made_pair plan old)
 
 -- the volume as it is to be
 abbrev pub IsNew : Plan → Pair → Contents → Type 0
-IsNew plan old contents = volume contents ≡ made_pair plan old
+IsNew plan old contents = recovered_pair contents ≡ made_pair plan old
 
 -- both sides fit, and leave what they keep
 pub record Suits (plan : Plan) (pair : Pair) : Type 0 where

@@ -2,7 +2,7 @@
 ghost use Rattle.std.specs.Prelude.{◌≡◌, ◌⊎◌, ◌≤◌, ◌<◌, ◌↔◌, [], ◌∷◌, true, false, take, Err, OnOk, IsOk};
 ghost use Rattle.verity_journal.specs.declared.disks.Device.TheVariants.{Journal};
 ghost use Rattle.verity_journal.specs.Disks.{IsDurable, LeavesOnly};
-ghost use Rattle.verity_journal.specs.Journal.{IsOldOrNew, IsForeign, Suits, pair_of, made_pair, volume};
+ghost use Rattle.verity_journal.specs.Journal.{IsOldOrNew, IsForeign, Suits, pair_of, made_pair, recovered_pair};
 
 use crate::journal::commit_through;
 use crate::recovering::start;
@@ -40,10 +40,10 @@ impl<K: Disks> Keeper<K> {
 
     /// Makes the volume that the devices stand for, as [`start`] does, with its errors.
     pub fn start<A: Allocator + Copy>(&mut self, alloc: A) -> Result<(), DiskFault>
-        ensures volume { OnOk result (pair_of (K.seen self.new.disks) ≡ volume (K.seen self.old.disks)) }
+        ensures volume { OnOk result (pair_of (K.seen self.new.disks) ≡ recovered_pair (K.seen self.old.disks)) }
         ensures settled { IsOk result ↔ (self.new.is_settled ≡ true) }
         ensures any_moment { LeavesOnly K.moment K.left_since self.old.disks self.new.disks
-            (λ c. K.may_leave self.old.disks c ⊎ (volume c ≡ volume (K.seen self.old.disks))) }
+            (λ c. K.may_leave self.old.disks c ⊎ (recovered_pair c ≡ recovered_pair (K.seen self.old.disks))) }
         ensures memory { result ≡ Err DiskFault.NoMemory → K.seen self.new.disks ≡ K.seen self.old.disks }
         ensures foreign { result ≡ Err DiskFault.Foreign → IsForeign (K.seen self.old.disks) }
         ensures foreign_stays { result ≡ Err DiskFault.Foreign → K.seen self.new.disks ≡ K.seen self.old.disks }

@@ -2,7 +2,7 @@
 ghost use Rattle.std.specs.Prelude.{◌≡◌, ◌≢◌, ◌⊎◌, ◌≤◌, ◌<◌, List, ℕ, [], ◌∷◌, length, Some, None, Err, OnOk, OnErr, IfOk, IfErr};
 ghost use Rattle.verity_journal.specs.declared.disks.Device.TheVariants.{Data, Hash, Journal};
 ghost use Rattle.verity_journal.specs.Disks.{Contents, put, Only, Stays, Elapses, LeavesOnly, IsDurable};
-ghost use Rattle.verity_journal.specs.Journal.{plan_of, IsSettled, IsForeign, pair_of, volume};
+ghost use Rattle.verity_journal.specs.Journal.{plan_of, IsSettled, IsForeign, pair_of, recovered_pair};
 
 use crate::changing::write_synced;
 use crate::journal::carry_out;
@@ -38,9 +38,9 @@ fn shut<K: Disks>(disks: &mut K, journal: &[u8]) -> Result<(), DiskFault>
     requires durable { IsDurable (K.seen disks.old) (K.may_leave disks.old) }
     requires journal { journal.now ≡ K.seen disks.old Journal }
     requires none { plan_of (K.seen disks.old Journal) ≡ None }
-    ensures volume { OnOk result (pair_of (K.seen disks.new) ≡ volume (K.seen disks.old)) }
+    ensures volume { OnOk result (pair_of (K.seen disks.new) ≡ recovered_pair (K.seen disks.old)) }
     ensures settled { OnOk result (IsSettled (K.seen disks.new) (K.may_leave disks.new)) }
-    ensures any_moment { LeavesOnly K.moment K.left_since disks.old disks.new (λ c. volume c ≡ volume (K.seen disks.old)) }
+    ensures any_moment { LeavesOnly K.moment K.left_since disks.old disks.new (λ c. recovered_pair c ≡ recovered_pair (K.seen disks.old)) }
     ensures error { IfErr result (λ e. e ≡ DiskFault.Device) }
     ensures failed { OnErr result (K.faults disks.old < K.faults disks.new) }
     ensures faults { K.faults disks.old ≤ K.faults disks.new }
@@ -59,9 +59,9 @@ fn redo<K: Disks, A: Allocator>(disks: &mut K, plan: &Plan<A>) -> Result<(), Dis
     requires plan { plan_of (K.seen disks.old Journal) ≡ Some plan.now }
     requires data_kept { plan.now.on_data.keep ≤ length (K.seen disks.old Data) }
     requires hash_kept { plan.now.on_hash.keep ≤ length (K.seen disks.old Hash) }
-    ensures volume { OnOk result (pair_of (K.seen disks.new) ≡ volume (K.seen disks.old)) }
+    ensures volume { OnOk result (pair_of (K.seen disks.new) ≡ recovered_pair (K.seen disks.old)) }
     ensures settled { OnOk result (IsSettled (K.seen disks.new) (K.may_leave disks.new)) }
-    ensures any_moment { LeavesOnly K.moment K.left_since disks.old disks.new (λ c. volume c ≡ volume (K.seen disks.old)) }
+    ensures any_moment { LeavesOnly K.moment K.left_since disks.old disks.new (λ c. recovered_pair c ≡ recovered_pair (K.seen disks.old)) }
     ensures error { IfErr result (λ e. e ≡ DiskFault.Device) }
     ensures failed { OnErr result (K.faults disks.old < K.faults disks.new) }
     ensures faults { K.faults disks.old ≤ K.faults disks.new }
@@ -77,9 +77,9 @@ fn redo<K: Disks, A: Allocator>(disks: &mut K, plan: &Plan<A>) -> Result<(), Dis
 /// or where a device is shorter than what the plan keeps of it, nothing was changed.
 pub fn recover<K: Disks, A: Allocator + Copy>(alloc: A, disks: &mut K) -> Result<(), DiskFault>
     requires { IsDurable (K.seen disks.old) (K.may_leave disks.old) }
-    ensures volume { OnOk result (pair_of (K.seen disks.new) ≡ volume (K.seen disks.old)) }
+    ensures volume { OnOk result (pair_of (K.seen disks.new) ≡ recovered_pair (K.seen disks.old)) }
     ensures settled { OnOk result (IsSettled (K.seen disks.new) (K.may_leave disks.new)) }
-    ensures any_moment { LeavesOnly K.moment K.left_since disks.old disks.new (λ c. volume c ≡ volume (K.seen disks.old)) }
+    ensures any_moment { LeavesOnly K.moment K.left_since disks.old disks.new (λ c. recovered_pair c ≡ recovered_pair (K.seen disks.old)) }
     ensures memory { result ≡ Err DiskFault.NoMemory → K.seen disks.new ≡ K.seen disks.old }
     ensures foreign { result ≡ Err DiskFault.Foreign → IsForeign (K.seen disks.old) }
     ensures foreign_stays { result ≡ Err DiskFault.Foreign → K.seen disks.new ≡ K.seen disks.old }
@@ -106,10 +106,10 @@ pub fn recover<K: Disks, A: Allocator + Copy>(alloc: A, disks: &mut K) -> Result
 /// Syncs all three devices, so that what is read is what a stop leaves, and recovers. It asks nothing of the devices, and may be
 /// stopped: at any moment a stop leaves what it might have left before the call, or the volume that the devices stand for.
 pub fn start<K: Disks, A: Allocator + Copy>(alloc: A, disks: &mut K) -> Result<(), DiskFault>
-    ensures volume { OnOk result (pair_of (K.seen disks.new) ≡ volume (K.seen disks.old)) }
+    ensures volume { OnOk result (pair_of (K.seen disks.new) ≡ recovered_pair (K.seen disks.old)) }
     ensures settled { OnOk result (IsSettled (K.seen disks.new) (K.may_leave disks.new)) }
     ensures any_moment { LeavesOnly K.moment K.left_since disks.old disks.new
-        (λ c. K.may_leave disks.old c ⊎ (volume c ≡ volume (K.seen disks.old))) }
+        (λ c. K.may_leave disks.old c ⊎ (recovered_pair c ≡ recovered_pair (K.seen disks.old))) }
     ensures memory { result ≡ Err DiskFault.NoMemory → K.seen disks.new ≡ K.seen disks.old }
     ensures foreign { result ≡ Err DiskFault.Foreign → IsForeign (K.seen disks.old) }
     ensures foreign_stays { result ≡ Err DiskFault.Foreign → K.seen disks.new ≡ K.seen disks.old }

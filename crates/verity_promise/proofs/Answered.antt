@@ -12,7 +12,7 @@ use Rattle.verity_chain.specs.Right.{Fits}
 use Rattle.verity_check.specs.Verifier.{Verifying, IsOnlyReading}
 use Rattle.verity_check.specs.declared.fault.CheckFault.{CheckFault}
 use Rattle.verity_check.specs.declared.fault.CheckFault.TheVariants as check
-use Rattle.verity_hub.specs.Volume.{facts_of, IsRightFor}
+use Rattle.verity_hub.specs.Verdicts.{facts_of, IsRightFor}
 use Rattle.verity_promise.specs.declared.answers.AnswerFault.{AnswerFault}
 use Rattle.verity_promise.specs.declared.answers.AnswerFault.TheVariants.{Check, Memory}
 use Rattle.verity_promise.specs.Answers.{IsMadeOver, AreRightAnswers, offer_of}

@@ -12,7 +12,7 @@ use Rattle.verity_chain.specs.Table.{Table}
 use Rattle.verity_chain.specs.Right.{Fits}
 use Rattle.verity_check.specs.Holds.{Holds}
 use Rattle.verity_check.specs.Verifier.{Verifying, IsOnlyReading}
-use Rattle.verity_hub.specs.Volume.{HoldsFor, SaysRight, SaysExact}
+use Rattle.verity_hub.specs.Verdicts.{HoldsFor, SaysRight, SaysExact}
 use Rattle.verity_promise.specs.declared.edited.Edited.{Edited}
 use Rattle.verity_promise.specs.declared.delivery.Unserved.{Unserved}
 use Rattle.verity_promise.specs.declared.delivery.Unserved.TheVariants as unserved

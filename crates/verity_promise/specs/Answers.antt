@@ -9,7 +9,7 @@ use Rattle.verity_chain.specs.Table.{Table}
 use Rattle.verity_chain.specs.Right.{Fits}
 use Rattle.verity_check.specs.Verifier.{Verifying, IsOnlyReading}
 use Rattle.verity_check.specs.declared.fault.CheckFault.TheVariants as check
-use Rattle.verity_hub.specs.Volume.{IsRightFor}
+use Rattle.verity_hub.specs.Verdicts.{IsRightFor}
 use Rattle.verity_promise.specs.declared.answers.AnswerFault.{AnswerFault}
 use Rattle.verity_promise.specs.declared.answers.AnswerFault.TheVariants.{Check, Memory}
 

@@ -10,7 +10,7 @@ use Rattle.verity_chain.specs.Table.{Table}
 use Rattle.verity_chain.specs.Right.{Fits}
 use Rattle.verity_check.specs.Verifier.{Verifying, IsOnlyReading}
 use Rattle.verity_check.specs.declared.fault.CheckFault.TheVariants.{NoMemory}
-use Rattle.verity_hub.specs.Volume.{SaysRight, SaysExact}
+use Rattle.verity_hub.specs.Verdicts.{SaysRight, SaysExact}
 use Rattle.verity_promise.specs.declared.edited.Edited.{Edited}
 use Rattle.verity_promise.specs.declared.delivery.Unserved.{Unserved}
 use Rattle.verity_promise.specs.declared.delivery.Unserved.TheVariants as unserved

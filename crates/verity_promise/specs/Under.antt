@@ -19,7 +19,7 @@ use Rattle.verity_edit.specs.Line.{LineEditing, IsOpenedUnder, IsAnsweredUnder, 
 use Rattle.verity_edit.specs.Under.{line_given}
 use Rattle.verity_check.specs.Verifier.{Verifying, AreStoresOf, IsOnlyReading}
 use Rattle.verity_check.specs.declared.fault.CheckFault.TheVariants.{NoMemory}
-use Rattle.verity_hub.specs.Volume.{SaysRight}
+use Rattle.verity_hub.specs.Verdicts.{SaysRight}
 use Rattle.verity_promise.specs.declared.edited.Edited.{Edited}
 use Rattle.verity_promise.specs.declared.delivery.Unserved.{Unserved}
 use Rattle.verity_promise.specs.declared.delivery.Unserved.TheVariants as unserved

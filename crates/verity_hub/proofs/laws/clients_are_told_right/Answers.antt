@@ -6,8 +6,8 @@ use Rattle.nbd_hub.specs.Sessions.{HubState}
 use Rattle.nbd_hub.specs.After.{Given}
 use Rattle.nbd_relay.proofs.Saying.{is_said}
 use Rattle.verity_check.specs.Verifier.{Verifying, IsVerifier}
-use Rattle.verity_hub.specs.Volume.{facts_of, IsRightFor}
-use Rattle.verity_hub.proofs.VolumeLaws.{given_right}
+use Rattle.verity_hub.specs.Verdicts.{facts_of, IsRightFor}
+use Rattle.verity_hub.proofs.VerdictLaws.{given_right}
 use Rattle.verity_hub.proofs.laws.clients_are_told_right.Goals as goal
 
 pub returns : goal.returns

@@ -6,7 +6,7 @@ use Rattle.nbd_hub.proofs.Weaker.{served_weaker}
 use Rattle.verity_chain.specs.Table.{Table}
 use Rattle.verity_chain.specs.Right.{Fits}
 use Rattle.verity_check.specs.Verifier.{Verifying, IsOnlyReading, IsVerifier}
-use Rattle.verity_hub.specs.Volume.{facts_of, SaysRight, SaysExact}
+use Rattle.verity_hub.specs.Verdicts.{facts_of, SaysRight, SaysExact}
 use Rattle.verity_hub.proofs.Saying.{says_right, says_exact}
 use Rattle.verity_hub.proofs.stream.serve_stream.Goals as goal
 

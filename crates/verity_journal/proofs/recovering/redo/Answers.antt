@@ -1,6 +1,6 @@
 use Rattle.std.proofs.Common.{◌≡◌, ◌∙◌}
 use Rattle.verity_journal.specs.Disks.{Contents}
-use Rattle.verity_journal.specs.Journal.{volume}
+use Rattle.verity_journal.specs.Journal.{recovered_pair}
 use Rattle.verity_journal.proofs.Moments.{started, joined}
 use Rattle.verity_journal.proofs.Gates.{is_ready, does_suit, is_volume, same_volume}
 use Rattle.verity_journal.proofs.recovering.redo.Goals as goal
@@ -19,7 +19,7 @@ returns-in_err-carry_out-clause-any_moment g c =
     let seen = g.K.Disks.seen old in
     let same = is_volume c.args.plan.now seen (g.K.Disks.may_leave old) c.requires.durable c.requires.plan c.requires.data_kept
     c.requires.hash_kept in
-    let P : Contents → Type 0 = λ f. volume f ≡ volume seen in
+    let P : Contents → Type 0 = λ f. recovered_pair f ≡ recovered_pair seen in
     let start = started g.K.Disks.moment g.K.Disks.left_since old P (λ f left. same_volume seen (g.K.Disks.may_leave old)
     c.requires.durable f (g.met.K.Disks.only_now old f left)) in
     joined g.K.Disks.moment g.K.Disks.left_since old old c.carry_out.new.disks P _ start c.carry_out.ensures.any_moment
@@ -31,7 +31,7 @@ returns-clause-any_moment g c =
     let seen = g.K.Disks.seen old in
     let same = is_volume c.args.plan.now seen (g.K.Disks.may_leave old) c.requires.durable c.requires.plan c.requires.data_kept
     c.requires.hash_kept in
-    let P : Contents → Type 0 = λ f. volume f ≡ volume seen in
+    let P : Contents → Type 0 = λ f. recovered_pair f ≡ recovered_pair seen in
     let start = started g.K.Disks.moment g.K.Disks.left_since old P (λ f left. same_volume seen (g.K.Disks.may_leave old)
     c.requires.durable f (g.met.K.Disks.only_now old f left)) in
     joined g.K.Disks.moment g.K.Disks.left_since old old c.carry_out.new.disks P _ start c.carry_out.ensures.any_moment

@@ -3,7 +3,7 @@ use Rattle.nbd_hub.specs.History.{Step}
 use Rattle.nbd_hub.specs.Sessions.{HubState}
 use Rattle.nbd_hub.specs.After.{IsAfter, FedAfter}
 use Rattle.verity_check.specs.Verifier.{Verifying}
-use Rattle.verity_hub.specs.Volume.{facts_of}
+use Rattle.verity_hub.specs.Verdicts.{facts_of}
 use Rattle.verity_hub.proofs.hub.Hub.feed.Goals as goal
 
 pub returns-clause-after : goal.returns-clause-after

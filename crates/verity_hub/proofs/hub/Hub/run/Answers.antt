@@ -6,8 +6,8 @@ use Rattle.nbd_hub.proofs.Runs.{each_weaker}
 use Rattle.verity_chain.specs.Table.{Table}
 use Rattle.verity_chain.specs.Right.{Fits}
 use Rattle.verity_check.specs.Verifier.{Verifying, IsOnlyReading, IsVerifier}
-use Rattle.verity_hub.specs.Volume.{facts_of, IsRightFor}
-use Rattle.verity_hub.proofs.VolumeLaws.{given_right, good_after}
+use Rattle.verity_hub.specs.Verdicts.{facts_of, IsRightFor}
+use Rattle.verity_hub.proofs.VerdictLaws.{given_right, good_after}
 use Rattle.verity_hub.proofs.hub.Hub.run.Goals as goal
 
 pub returns-clause-ran : goal.returns-clause-ran

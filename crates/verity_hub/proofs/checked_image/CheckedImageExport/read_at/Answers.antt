@@ -6,10 +6,10 @@ use Rattle.verity_chain.specs.Table.{height}
 use Rattle.verity_check.specs.Range.{ServesBytes, touched}
 use Rattle.verity_check.specs.Refusal.{Refuses}
 use Rattle.verity_check.specs.Verifier.{Verifying, given_to, IsOnlyReading, DataFailed, HashFailed, MayRefuse}
-use Rattle.verity_hub.specs.Volume.{facts_of}
-use Rattle.verity_hub.proofs.VolumeLaws.{facts_keep, costs, served, failed}
+use Rattle.verity_hub.specs.Verdicts.{facts_of}
+use Rattle.verity_hub.proofs.VerdictLaws.{facts_keep, costs, served, failed}
 use Rattle.verity_hub.proofs.Answering.{ok_answer, io_answer, lack_answer}
-use Rattle.verity_hub.proofs.volume.VolumeExport.read_at.Goals as goal
+use Rattle.verity_hub.proofs.checked_image.CheckedImageExport.read_at.Goals as goal
 
 pub returns-clause-keeps : goal.returns-clause-keeps
 returns-clause-keeps g c =

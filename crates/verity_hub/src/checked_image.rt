@@ -2,7 +2,7 @@
 
 ghost use Rattle.std.specs.Prelude.{◌≡◌};
 ghost use Rattle.verity_check.specs.Verifier.{IsOnlyReading, IsVerifier};
-ghost use Rattle.verity_hub.specs.Volume.{answer_of, facts_of};
+ghost use Rattle.verity_hub.specs.Verdicts.{answer_of, facts_of};
 
 use nbd_session::{Export, ExportFault};
 use std::alloc::{Allocator, Global};
@@ -12,11 +12,11 @@ use verity_store::BlockStore;
 
 /// A verifier as an export. Contracts see the verifier.
 #[derive(Drop)]
-pub struct Volume<D: BlockStore, H: BlockStore, A: Allocator = Global> {
+pub struct CheckedImage<D: BlockStore, H: BlockStore, A: Allocator = Global> {
     verifier: Verifier<D, H, A>,
 }
 
-impl<D: BlockStore, H: BlockStore, A: Allocator> Model for Volume<D, H, A> {
+impl<D: BlockStore, H: BlockStore, A: Allocator> Model for CheckedImage<D, H, A> {
     ghost use Rattle.verity_check.specs.Verifier.{Verifying};
 
     ghost Value = { Verifying D H };
@@ -24,12 +24,12 @@ impl<D: BlockStore, H: BlockStore, A: Allocator> Model for Volume<D, H, A> {
     ghost view = { λ v. v.verifier };
 }
 
-impl<D: BlockStore, H: BlockStore, A: Allocator> Volume<D, H, A> {
+impl<D: BlockStore, H: BlockStore, A: Allocator> CheckedImage<D, H, A> {
     /// Takes over a verifier.
-    pub fn new(verifier: Verifier<D, H, A>) -> Volume<D, H, A>
+    pub fn new(verifier: Verifier<D, H, A>) -> CheckedImage<D, H, A>
         ensures { result ≡ verifier }
     {
-        Volume { verifier }
+        CheckedImage { verifier }
     }
 
     /// What is true of every verifier.
@@ -56,7 +56,7 @@ fn export_answer(answer: Result<(), CheckFault>) -> Result<(), ExportFault>
     }
 }
 
-impl<D: BlockStore, H: BlockStore, A: Allocator + Copy + Drop> Export for Volume<D, H, A> {
+impl<D: BlockStore, H: BlockStore, A: Allocator + Copy + Drop> Export for CheckedImage<D, H, A> {
     ghost facts = { λ v. facts_of D.BlockStore H.BlockStore v };
 
     ghost later = { λ old new. IsOnlyReading D.BlockStore H.BlockStore old new };

@@ -21,7 +21,7 @@ use Rattle.verity_check.proofs.HoldsLaws.{bytes_exact, refusal_failed}
 use Rattle.nbd_session.specs.Export.{Costs, Keeps, Served, Failed}
 use Rattle.nbd_session.specs.Talk.{Verdict, Bytes, Refused}
 use Rattle.nbd_hub.specs.After.{Given as GivenBy}
-use Rattle.verity_hub.specs.Volume.{HoldsFor, failures_of, reads_of, facts_of, IsRightFor}
+use Rattle.verity_hub.specs.Verdicts.{HoldsFor, failures_of, reads_of, facts_of, IsRightFor}
 
 module _ {D H : Type 0} (data_facts : store.Ghosts D) (hash_facts : store.Ghosts H) where
   module _ (v w : Verifying D H) (reads : IsOnlyReading data_facts hash_facts v w) where
