@@ -2,7 +2,7 @@
 use std::alloc::Global;
 use std::test::Fail;
 use uuid::Uuid;
-use verity_build::Params;
+use verity_build::BuildParameters;
 use verity_digest::{Algorithm, Salt};
 use verity_store::MemStore;
 
@@ -20,6 +20,6 @@ pub fn numbered(alloc: Global, size: usize, count: usize) -> Result<MemStore, Fa
     Ok(MemStore::new(bytes, size)?)
 }
 
-pub fn params(alloc: Global, salt: &[u8], algorithm: Algorithm) -> Result<Params, Fail> {
-    Ok(Params::new(Salt::new(alloc, salt)?, Uuid::from_bytes(UUID), algorithm))
+pub fn params(alloc: Global, salt: &[u8], algorithm: Algorithm) -> Result<BuildParameters, Fail> {
+    Ok(BuildParameters::new(Salt::new(alloc, salt)?, Uuid::from_bytes(UUID), algorithm))
 }

@@ -9,7 +9,7 @@ use std::alloc::Global;
 use std::test::Fail;
 use test_volumes::{BuiltVolume, STEP};
 use uuid::Uuid;
-use verity_build::{Params, build};
+use verity_build::{BuildParameters, build};
 use verity_digest::{Algorithm, Digest, Salt};
 use verity_edit::{EditFault, Reply};
 use verity_store::MemStore;
@@ -36,7 +36,7 @@ const COMMANDS: [Step; 8] = [
 fn scratch(alloc: Global, fills: &[u8]) -> Result<BuiltVolume, Fail> {
     let mut data_store = store_of(alloc, fills, WIDE)?;
     let mut hash_store = MemStore::zeroed(alloc, SIZE, 0)?;
-    let params = Params::new(Salt::new(alloc, b"")?, Uuid::nil(), Algorithm::Sha256);
+    let params = BuildParameters::new(Salt::new(alloc, b"")?, Uuid::nil(), Algorithm::Sha256);
     let root = build(alloc, &mut data_store, &mut hash_store, &params)?;
     Ok(BuiltVolume {
         data_store,

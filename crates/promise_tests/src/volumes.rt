@@ -3,7 +3,7 @@
 use std::alloc::Global;
 use std::test::Fail;
 use uuid::Uuid;
-use verity_build::{Params, build_at};
+use verity_build::{BuildParameters, build_at};
 use verity_digest::{Algorithm, Salt};
 use verity_edit::Command;
 use verity_store::{Block, MemStore};
@@ -31,7 +31,7 @@ pub const ROOT: [u8; 32] = [
 
 /// The data store, and the hash device that is built of it behind a block of 0xee.
 pub fn stores_of(alloc: Global, bytes: Vec<u8>) -> Result<(MemStore, MemStore), Fail> {
-    let params = Params::new(
+    let params = BuildParameters::new(
         Salt::new(alloc, b"")?,
         Uuid::from_bytes([7; 16]),
         Algorithm::Sha256,

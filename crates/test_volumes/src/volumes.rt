@@ -4,7 +4,7 @@
 use std::alloc::{Allocator, Global};
 use std::test::Fail;
 use uuid::Uuid;
-use verity_build::{Params, build};
+use verity_build::{BuildParameters, build};
 use verity_digest::{Algorithm, Digest, Salt};
 use verity_store::MemStore;
 use verity_superblock::{Table, TableFault};
@@ -37,9 +37,9 @@ pub fn numbered<A: Allocator + Copy>(alloc: A, count: usize) -> Result<MemStore<
 }
 
 /// What the volumes are built with.
-pub fn params(alloc: Global) -> Result<Params, Fail> {
+pub fn params(alloc: Global) -> Result<BuildParameters, Fail> {
     let salt = Salt::new(alloc, b"\x00\xff")?;
-    Ok(Params::new(salt, Uuid::from_bytes([1; 16]), Algorithm::Sha256))
+    Ok(BuildParameters::new(salt, Uuid::from_bytes([1; 16]), Algorithm::Sha256))
 }
 
 /// The volume of a data store, built from scratch.

@@ -20,7 +20,7 @@ ghost use Rattle.verity_build.specs.Opens.{opens};
 use crate::leaves::{Leaves, bytes_at_a_time};
 use crate::open_tree::OpenTree;
 use crate::prepare::{prepare, superblock_of};
-use crate::{BuildFault, Params};
+use crate::{BuildFault, BuildParameters};
 use std::alloc::Allocator;
 use verity_digest::Digest;
 use verity_geometry::GeometryFault;
@@ -198,7 +198,7 @@ pub fn build<A: Allocator + Copy, P: Allocator, D: BlockStore, H: BlockStore>(
     alloc: A,
     data_store: &mut D,
     hash_store: &mut H,
-    params: &Params<P>,
+    params: &BuildParameters<P>,
 ) -> Result<Digest, BuildFault>
     ensures built { OnOk result (D.tells data_store.old ≡ true → H.tells hash_store.old ≡ true
         → H.content hash_store.new ≡ hash_blocks (volume params.now (D.size data_store.old) (H.size hash_store.old))
@@ -253,7 +253,7 @@ pub fn build_at<A: Allocator + Copy, P: Allocator, D: BlockStore, H: BlockStore>
     alloc: A,
     data_store: &mut D,
     hash_store: &mut H,
-    params: &Params<P>,
+    params: &BuildParameters<P>,
     offset: u64,
 ) -> Result<Digest, BuildFault>
     ensures built { OnOk result (D.tells data_store.old ≡ true → H.tells hash_store.old ≡ true

@@ -18,7 +18,7 @@ ghost use Rattle.verity_build.specs.Opens.{opens};
 use crate::leaves::{Leaves, bytes_at_a_time};
 use crate::open_tree::OpenTree;
 use crate::prepare::prepare;
-use crate::{BuildFault, Compared, Params};
+use crate::{BuildFault, BuildParameters, Compared};
 use std::alloc::Allocator;
 use verity_geometry::GeometryFault;
 use verity_store::{BlockStore, StoreFault, Which};
@@ -172,7 +172,7 @@ pub fn compare<A: Allocator + Copy, P: Allocator, D: BlockStore, H: BlockStore>(
     alloc: A,
     data_store: &mut D,
     hash_store: &mut H,
-    params: &Params<P>,
+    params: &BuildParameters<P>,
 ) -> Result<Compared, BuildFault>
     ensures compared { IfOk result (λ found. D.tells data_store.old ≡ true → H.tells hash_store.old ≡ true
         → spec.IsCompared (shape_over params.now (D.size data_store.old) (H.size hash_store.old) (length (D.content data_store.old)))
@@ -215,7 +215,7 @@ pub fn compare_at<A: Allocator + Copy, P: Allocator, D: BlockStore, H: BlockStor
     alloc: A,
     data_store: &mut D,
     hash_store: &mut H,
-    params: &Params<P>,
+    params: &BuildParameters<P>,
     offset: u64,
 ) -> Result<Compared, BuildFault>
     ensures compared { IfOk result (λ found. D.tells data_store.old ≡ true → H.tells hash_store.old ≡ true

@@ -22,6 +22,7 @@
 //! that are made ahead of their turn), `Progress` (how far the digests have come), `Device` (what is written).
 #![tactic(auto)]
 
+mod build_parameters;
 mod building;
 mod compared;
 mod comparing;
@@ -29,12 +30,11 @@ mod fault;
 mod leaves;
 mod open_block;
 mod open_tree;
-mod params;
 mod prepare;
 mod waiting;
 
+pub use build_parameters::BuildParameters;
 pub use building::{build, build_at};
 pub use compared::Compared;
 pub use comparing::{compare, compare_at};
 pub use fault::BuildFault;
-pub use params::Params;

@@ -9,7 +9,7 @@ ghost use Rattle.verity_build.specs.Faults.{CanBuild, Explains};
 ghost use Rattle.verity_build.specs.Opens.{opens};
 
 use crate::open_tree::OpenTree;
-use crate::{BuildFault, Params};
+use crate::{BuildFault, BuildParameters};
 use std::alloc::Allocator;
 use verity_digest::Hasher;
 use verity_geometry::Geometry;
@@ -22,7 +22,7 @@ pub(crate) fn prepare<A: Allocator + Copy, P: Allocator, D: BlockStore, H: Block
     alloc: A,
     data_store: &D,
     hash_store: &H,
-    params: &Params<P>,
+    params: &BuildParameters<P>,
     offset: u64,
 ) -> Result<(u64, OpenTree<A>), BuildFault>
     ensures start { IfOk result (λ made. made.0 ≡ start_behind offset (H.size hash_store.now)) }
@@ -59,7 +59,7 @@ pub(crate) fn prepare<A: Allocator + Copy, P: Allocator, D: BlockStore, H: Block
 pub(crate) fn superblock_of<A: Allocator + Copy, P: Allocator>(
     alloc: A,
     geometry: &Geometry,
-    params: &Params<P>,
+    params: &BuildParameters<P>,
 ) -> Result<[u8; 512], BuildFault>
     ensures value { IfOk result (λ bytes. bytes ≡ superblock (volume params.now geometry.now.data_size geometry.now.hash_size)
         geometry.now.blocks) }

@@ -6,7 +6,7 @@ use std::io::{Eprint, IsTerminal, Write};
 use std::rt::Files;
 use std::time::Clock;
 use uuid::Uuid;
-use verity_build::{Params, build_at};
+use verity_build::{BuildParameters, build_at};
 use verity_digest::{Algorithm, Digest};
 use verity_files::{
     Command, Failure, Fault, Identity, Opened, VolumeStore, Word, algorithm, block_size,
@@ -103,7 +103,7 @@ fn make<R: Files<File = File> + Clock + Eprint + AllocGlobal>(
     salt_bytes: &[u8],
     is_watched: bool,
 ) -> Result<Made, Failure> {
-    let params = Params::new(salt(rt.alloc(), salt_bytes)?, shape.uuid, shape.algorithm);
+    let params = BuildParameters::new(salt(rt.alloc(), salt_bytes)?, shape.uuid, shape.algorithm);
     let (data_store, data) = open_data(rt, words.data_path, shape)?;
     check_gate(rt, words.hash_path)?;
     let (mut hash_store, is_new) = open_hash(rt, words.hash_path, shape, data)?;

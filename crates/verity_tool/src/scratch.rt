@@ -4,7 +4,7 @@ use crate::script::{Script, read_script, run_script};
 use std::alloc::Global;
 use std::io::{Read, Write};
 use uuid::Uuid;
-use verity_build::{Params, build};
+use verity_build::{BuildParameters, build};
 use verity_digest::Algorithm;
 use verity_edit::Editor;
 use verity_files::{Failure, salt};
@@ -43,7 +43,7 @@ pub fn scratch<I: Read, W: Write, E: Write>(
 fn zero_volume(alloc: Global) -> Result<Editor<MemStore, MemStore>, Failure> {
     let mut data_store = MemStore::zeroed(alloc, DATA_BLOCK_SIZE, 1)?;
     let mut hash_store = MemStore::zeroed(alloc, HASH_BLOCK_SIZE, 0)?;
-    let params = Params::new(salt(alloc, &[])?, Uuid::nil(), Algorithm::Sha256);
+    let params = BuildParameters::new(salt(alloc, &[])?, Uuid::nil(), Algorithm::Sha256);
     build(alloc, &mut data_store, &mut hash_store, &params)?;
     match Editor::open(alloc, data_store, hash_store) {
         Ok(editor) => Ok(editor),

@@ -9,13 +9,13 @@ use verity_digest::{Algorithm, Salt};
 /// The algorithm, the salt and the UUID of a volume. The block sizes and the count of data blocks are
 /// those of the stores.
 #[derive(Drop)]
-pub struct Params<A: Allocator = Global> {
+pub struct BuildParameters<A: Allocator = Global> {
     salt: Salt<A>,
     uuid: Uuid,
     algorithm: Algorithm,
 }
 
-impl<A: Allocator> Model for Params<A> {
+impl<A: Allocator> Model for BuildParameters<A> {
     ghost use Rattle.verity_build.specs.Parameters.{Parameters};
 
     ghost Value = { Parameters };
@@ -23,12 +23,12 @@ impl<A: Allocator> Model for Params<A> {
     ghost view = { λ p. record { algorithm = p.algorithm; salt = p.salt; uuid = p.uuid } };
 }
 
-impl<A: Allocator> Params<A> {
+impl<A: Allocator> BuildParameters<A> {
     /// These parameters. It takes no memory.
     pub fn new(salt: Salt<A>, uuid: Uuid, algorithm: Algorithm) -> Self
         ensures { result ≡ record { algorithm = algorithm; salt = salt; uuid = uuid } }
     {
-        Params {
+        BuildParameters {
             salt,
             uuid,
             algorithm,
