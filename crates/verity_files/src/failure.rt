@@ -1,5 +1,5 @@
 //! Why a command stops, and what is printed then.
-ghost use Rattle.std.specs.Prelude.{◌≡◌, OnOk, OnErr};
+ghost use Rattle.std.specs.Prelude.{◌≡◌, IsOk, OnOk, OnErr};
 ghost use Rattle.std.specs.Io.KnownBytes.{Appends};
 ghost use Rattle.verity_files.specs.Errors.{failure_of_error};
 ghost use Rattle.verity_files.specs.Faults.{failure_line, failure_of, status_for};
@@ -105,7 +105,8 @@ pub enum Failure {
 
 /// Prints why a command stopped: one line, or nothing where the output can't be written.
 pub fn print_failure<W: Write>(failure: Failure, output: &mut W) -> io::Result<()>
-    ensures { OnOk result (Appends (W.contents output.old) (W.contents output.new) (failure_line failure)) }
+    ensures printed { OnOk result (Appends (W.contents output.old) (W.contents output.new) (failure_line failure)) }
+    ensures nothing { failure ≡ Failure.Output → IsOk result }
 {
     match failure {
         Failure::Word(word) => writeln!(output, "error: the value of {word} is not understood"),
