@@ -1,4 +1,6 @@
 pub mod Commands
+pub mod Errors
 pub mod Faults
 pub mod Identities
+pub mod VolumeFiles
 pub mod Words

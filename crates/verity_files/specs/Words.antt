@@ -1,17 +1,36 @@
 -- What the words of a command are read as.
 use Rattle.std.specs.Prelude.{ℕ, ◌^◌, ◌+◌, ◌==◌, nat_lt, Bool, ◌&&◌, ◌||◌, not, if◌then◌else◌, List, [], length, codes, Option, Some}
-use Rattle.std.specs.Prelude.{None, Result, Ok, Err}
+use Rattle.std.specs.Prelude.{None, Result, Ok, Err, ok_or}
 use Rattle.std.specs.List.{list_all}
 use Rattle.std.specs.Char.{is_ascii_digit}
 use Rattle.std.specs.Result.{result_ok}
 use Rattle.std.specs.Str.Parse.{digits_value}
 use Rattle.hex.specs.Hex.{decode_of}
+use Rattle.uuid.specs.Text.{parsed}
 use Rattle.verity_superblock.specs.Line.{is_path}
 use Rattle.verity_superblock.specs.Reading.{is_text}
 use Rattle.verity_files.specs.declared.failure.Failure.{Failure}
 use Rattle.verity_files.specs.declared.failure.Failure.TheVariants as failure
 use Rattle.verity_files.specs.declared.failure.Word.{Word}
 use Rattle.verity_files.specs.declared.failure.Word.TheVariants as word
+
+-- the argument or option, as it is typed and named
+abbrev pub word_name : Word → List ℕ
+word_name word.Data = codes "DATA"
+word_name word.Hash = codes "HASH"
+word_name word.New = codes "NEW"
+word_name word.Salt = codes "--salt"
+word_name word.Uuid = codes "--uuid"
+word_name word.DataBlocks = codes "--data-blocks"
+word_name word.DataBlockSize = codes "--data-block-size"
+word_name word.HashBlockSize = codes "--hash-block-size"
+word_name word.Algorithm = codes "--algorithm"
+word_name word.HashOffset = codes "--hash-offset"
+word_name word.Cache = codes "--cache"
+word_name word.Sessions = codes "--sessions"
+word_name word.Memory = codes "--memory"
+word_name word.Idle = codes "--idle"
+word_name word.Journal = codes "--journal"
 
 -- decimal digits whose value fits 64 bits, however many
 abbrev pub is_decimal : List ℕ → Bool
@@ -40,6 +59,10 @@ salt_of text =
     if is_text text (codes "none") then Some []
     else if length text == 0 then None
     else result_ok (decode_of text)
+
+-- the UUID, in any of its forms
+abbrev pub uuid_in : List ℕ → Result (List ℕ) Failure
+uuid_in text = ok_or (parsed text) (failure.Word word.Uuid)
 
 -- why DATA and HASH can't stand in a table line
 abbrev pub paths_refusal : List ℕ → List ℕ → Option Failure

@@ -1,13 +1,16 @@
 //! Why a command stops, and what is printed then.
-ghost use Rattle.std.specs.Prelude.{◌≡◌, ◌⊎◌};
-ghost use Rattle.verity_files.specs.Faults.{failure_of, status_for};
+ghost use Rattle.std.specs.Prelude.{◌≡◌, OnOk, OnErr};
+ghost use Rattle.std.specs.Io.KnownBytes.{Appends};
+ghost use Rattle.verity_files.specs.Errors.{failure_of_error};
+ghost use Rattle.verity_files.specs.Faults.{failure_line, failure_of, status_for};
 ghost use Rattle.verity_files.specs.declared.fault.Fault.TheVariants as fault;
 
 use crate::fault::Fault;
+use crate::opening::is_want_of_memory;
 use crate::status::{NO_MEMORY, NOT_UNDERSTOOD, REFUSED};
 use nbd_session::SessionFault;
 use std::alloc::AllocError;
-use std::io::{ErrorKind, Write};
+use std::io::Write;
 use std::{fmt, io};
 use verity_build::BuildFault;
 use verity_check::CheckFault;
@@ -37,6 +40,11 @@ pub enum Word {
 }
 
 impl fmt::Display for Word {
+    ghost use Rattle.std.specs.Prelude.{Some};
+    ghost use Rattle.verity_files.specs.Words.{word_name};
+
+    ghost output = { λ word. Some (word_name word) };
+
     fn fmt<W: fmt::Write>(&self, f: &mut fmt::Formatter<W>) -> fmt::Result {
         f.write_str(match self {
             Word::Data => "DATA",
@@ -95,17 +103,24 @@ pub enum Failure {
     Output,
 }
 
-/// Prints why a command stopped, and answers the status for it; or 1, where it can't be printed.
-pub fn fail<W: Write>(failure: Failure, output: &mut W) -> u8
-    ensures { (result ≡ status_for failure) ⊎ (result ≡ 1) }
+/// Prints why a command stopped: one line, or nothing where the output can't be written.
+pub fn print_failure<W: Write>(failure: Failure, output: &mut W) -> io::Result<()>
+    ensures { OnOk result (Appends (W.contents output.old) (W.contents output.new) (failure_line failure)) }
 {
-    let written = match failure {
+    match failure {
         Failure::Word(word) => writeln!(output, "error: the value of {word} is not understood"),
         Failure::Refused(fault) => writeln!(output, "refused {fault}"),
         Failure::NoMemory => writeln!(output, "no memory"),
         Failure::Output => Ok(()),
-    };
-    match written {
+    }
+}
+
+/// The status for a failure that was printed; 1, where it couldn't be.
+pub fn status_after(failure: Failure, printed: io::Result<()>) -> u8
+    ensures printed { OnOk printed (result ≡ status_for failure) }
+    ensures unprinted { OnErr printed (result ≡ 1) }
+{
+    match printed {
         Ok(()) => status_of(failure),
         Err(_) => REFUSED,
     }
@@ -209,8 +224,10 @@ impl From<AllocError> for Failure {
 }
 
 impl From<io::Error> for Failure {
+    ghost from_gives = { λ e failure. failure ≡ failure_of_error e };
+
     fn from(error: io::Error) -> Failure {
-        if error.kind() == ErrorKind::OutOfMemory {
+        if is_want_of_memory(&error) {
             Failure::NoMemory
         } else {
             Failure::Output

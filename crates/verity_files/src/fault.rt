@@ -1,5 +1,5 @@
 //! The numbered faults that the program prints.
-ghost use Rattle.std.specs.Prelude.{◌≡◌, Some};
+ghost use Rattle.std.specs.Prelude.{◌≡◌, Some, option_map};
 ghost use Rattle.plain_words.specs.Numbers.{first_word, number_text};
 ghost use Rattle.nbd_session.specs.Texts.{session_text};
 ghost use Rattle.verity_build.specs.Texts.{build_text};
@@ -9,7 +9,7 @@ ghost use Rattle.verity_edit.specs.Texts.{edit_text};
 ghost use Rattle.verity_geometry.specs.Texts.{geometry_text};
 ghost use Rattle.verity_store.specs.Texts.{fault_text as store_text};
 ghost use Rattle.verity_superblock.specs.Texts.{super_text, table_text};
-ghost use Rattle.verity_files.specs.Faults.{fault_text, is_want};
+ghost use Rattle.verity_files.specs.Faults.{cause_text, fault_text, is_want};
 
 use nbd_session::SessionFault;
 use plain_words::Number;
@@ -96,7 +96,9 @@ impl Fault {
     }
 
     /// The number of the fault that it carries.
-    pub fn cause(self) -> Option<Number> {
+    pub fn cause(self) -> Option<Number>
+        ensures { option_map number_text result ≡ option_map first_word (cause_text self) }
+    {
         match self {
             Fault::Build(BuildFault::Geometry(fault)) => Some(of_geometry(fault)),
             Fault::Edit(EditFault::Superblock(fault)) => Some(of_superblock(fault)),

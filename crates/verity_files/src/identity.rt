@@ -1,6 +1,7 @@
 //! What tells one file from another, however its path is spelled.
-ghost use Rattle.std.specs.Prelude.{◌≡◌, ◌≢◌, ◌↔◌, IsTrue, IsOk, IfErr};
-ghost use Rattle.verity_files.specs.Identities.{identity_of};
+ghost use Rattle.std.specs.Prelude.{◌≡◌, ◌≢◌, ◌↔◌, true, IsTrue, IsOk, IfErr};
+ghost use Rattle.std.specs.Fs.{IsFile, file_type};
+ghost use Rattle.verity_files.specs.Identities.{identity_of, is_known_file};
 
 use crate::failure::{Failure, Word};
 use std::fs::Metadata;
@@ -16,7 +17,9 @@ pub enum Identity {
 }
 
 /// Which file or block device this is. None for all that holds no blocks: a folder, a pipe, a socket, a terminal.
-pub fn file_identity(metadata: &Metadata) -> Option<Identity> {
+pub fn file_identity(metadata: &Metadata) -> Option<Identity>
+    ensures { (is_known_file result ≡ true) ↔ IsFile (file_type metadata.now) }
+{
     let kind = metadata.file_type();
     told_apart(
         kind.is_file(),

@@ -14,7 +14,7 @@ mod values;
 mod volume_file;
 
 pub use command::{Command, Lock};
-pub use failure::{Failure, Word, fail};
+pub use failure::{Failure, Word, print_failure, status_after};
 pub use fault::Fault;
 pub use identity::{Identity, check_apart, file_identity};
 pub use locks::take_lock;
@@ -27,4 +27,4 @@ pub use stores::{
 pub use values::{
     algorithm, block_size, check_paths, memory, number, salt, salt_bytes, sessions, uuid,
 };
-pub use volume_file::VolumeFile;
+pub use volume_file::{RegularFile, VolumeFile};

@@ -1,11 +1,12 @@
 //! The locks on a volume's files.
-ghost use Rattle.std.specs.Prelude.{◌≡◌, ◌↔◌, IsOk, IfErr, ◌≢◌, Err};
+ghost use Rattle.std.specs.Prelude.{◌≡◌, ◌↔◌, IsOk, IfErr, Err};
+ghost use Rattle.verity_files.specs.Errors.{IsOfLock, told_of};
 ghost use Rattle.verity_files.specs.declared.fault.Fault.TheVariants as fault;
 
 use crate::command::Lock;
 use crate::fault::Fault;
+use crate::opening::is_want_of_memory;
 use std::fs::{File, TryLockError};
-use std::io::ErrorKind;
 use verity_store::{StoreFault, Which};
 
 /// What the system says of a lock that was asked for.
@@ -19,11 +20,16 @@ enum Told {
 
 /// Takes a lock on one of a volume's files, which holds until the file is closed. S5 where another has one that shuts it
 /// out; S1 where the system fails, S3 for want of memory.
-pub fn take_lock(file: &File, lock: Lock, which: Which) -> Result<(), Fault> {
+pub fn take_lock(file: &File, lock: Lock, which: Which) -> Result<(), Fault>
+    ensures open { lock ≡ Lock.Open → IsOk result }
+    ensures refused { IfErr result (IsOfLock which) }
+{
     answer(ask(file, lock), which)
 }
 
-fn ask(file: &File, lock: Lock) -> Told {
+fn ask(file: &File, lock: Lock) -> Told
+    ensures { lock ≡ Lock.Open → result ≡ Told.Locked }
+{
     match lock {
         Lock::Open => Told::Locked,
         Lock::Shared => told_by(file.try_lock_shared()),
@@ -31,14 +37,14 @@ fn ask(file: &File, lock: Lock) -> Told {
     }
 }
 
-fn told_by(asked: Result<(), TryLockError>) -> Told {
+fn told_by(asked: Result<(), TryLockError>) -> Told
+    ensures { result ≡ told_of asked }
+{
     match asked {
         Ok(()) => Told::Locked,
         Err(TryLockError::WouldBlock) => Told::InUse,
-        Err(TryLockError::Error(error)) => match error.kind() {
-            ErrorKind::OutOfMemory => Told::NoMemory,
-            _ => Told::Failed,
-        },
+        Err(TryLockError::Error(error)) if is_want_of_memory(&error) => Told::NoMemory,
+        Err(TryLockError::Error(_)) => Told::Failed,
     }
 }
 
@@ -46,6 +52,7 @@ fn answer(told: Told, which: Which) -> Result<(), Fault>
     ensures locked { IsOk result ↔ (told ≡ Told.Locked) }
     ensures in_use { (result ≡ Err (fault.InUse which)) ↔ (told ≡ Told.InUse) }
     ensures memory { (result ≡ Err (fault.Store StoreFault.NoMemory)) ↔ (told ≡ Told.NoMemory) }
+    ensures refused { IfErr result (IsOfLock which) }
     ensures failed { (result ≡ Err (fault.Store StoreFault.Device)) ↔ (told ≡ Told.Failed) }
 {
     match told {

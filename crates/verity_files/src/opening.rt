@@ -1,5 +1,7 @@
 //! Files are opened here, looked at, and nothing is changed in them.
-ghost use Rattle.std.specs.Prelude.{◌≢◌};
+ghost use Rattle.std.specs.Prelude.{◌≡◌, IfOk, IfErr};
+ghost use Rattle.std.specs.IoError.{error_kind};
+ghost use Rattle.verity_files.specs.Errors.{IsOfLock, IsOfSystem, is_memory, store_fault_of};
 
 use crate::command::Command;
 use crate::fault::Fault;
@@ -21,7 +23,10 @@ pub struct Opened {
 
 impl Opened {
     /// The same, once more. The lock is on both.
-    pub fn again(&self) -> Result<Opened, StoreFault> {
+    pub fn again(&self) -> Result<Opened, StoreFault>
+        ensures same { IfOk result (λ opened. (opened.identity ≡ self.now.identity) × (opened.len ≡ self.now.len)) }
+        ensures refused { IfErr result IsOfSystem }
+    {
         match self.file.try_clone() {
             Ok(file) => Ok(Opened {
                 file,
@@ -33,7 +38,9 @@ impl Opened {
     }
 
     /// The same, once more, with as many bytes as it has by now.
-    pub fn seen_again(&self) -> Result<Opened, StoreFault> {
+    pub fn seen_again(&self) -> Result<Opened, StoreFault>
+        ensures { IfErr result IsOfSystem }
+    {
         looked_at(self.again()?.file)
     }
 }
@@ -45,7 +52,9 @@ pub fn open_there<R: Files<File = File>>(
     path: &str,
     command: Command,
     which: Which,
-) -> Result<Opened, StoreFault> {
+) -> Result<Opened, StoreFault>
+    ensures { IfErr result IsOfSystem }
+{
     match fs::metadata(rt, path) {
         Ok(metadata) => open_seen(rt, path, command.is_writing(which), &metadata),
         Err(error) => Err(fault_of(error)),
@@ -58,7 +67,9 @@ pub fn open_locked<R: Files<File = File>>(
     path: &str,
     command: Command,
     which: Which,
-) -> Result<Opened, Fault> {
+) -> Result<Opened, Fault>
+    ensures { IfErr result (IsOfLock which) }
+{
     let opened = open_there(rt, path, command, which)?;
     take_lock(&opened.file, command.lock(), which)?;
     Ok(opened)
@@ -69,7 +80,9 @@ pub fn open_locked<R: Files<File = File>>(
 pub fn open_or_make<R: Files<File = File> + AllocGlobal>(
     rt: &R,
     path: &str,
-) -> Result<(Opened, bool), StoreFault> {
+) -> Result<(Opened, bool), StoreFault>
+    ensures { IfErr result IsOfSystem }
+{
     match fs::metadata(rt, path) {
         Ok(metadata) => match open_seen(rt, path, true, &metadata) {
             Ok(opened) => Ok((opened, false)),
@@ -105,7 +118,9 @@ fn remove<R: Files<File = File> + AllocGlobal>(rt: &R, path: &str) -> io::Result
     }
 }
 
-fn make<R: Files<File = File> + AllocGlobal>(rt: &R, path: &str) -> Result<Opened, StoreFault> {
+fn make<R: Files<File = File> + AllocGlobal>(rt: &R, path: &str) -> Result<Opened, StoreFault>
+    ensures { IfErr result IsOfSystem }
+{
     let made = OpenOptions::new()
         .read(true)
         .write(true)
@@ -129,7 +144,9 @@ fn open_seen<R: Files<File = File>>(
     path: &str,
     is_written: bool,
     metadata: &Metadata,
-) -> Result<Opened, StoreFault> {
+) -> Result<Opened, StoreFault>
+    ensures { IfErr result IsOfSystem }
+{
     if file_identity(metadata).is_none() {
         return Err(StoreFault::Device);
     }
@@ -143,7 +160,10 @@ fn open_seen<R: Files<File = File>>(
     }
 }
 
-fn looked_at(file: File) -> Result<Opened, StoreFault> {
+fn looked_at(file: File) -> Result<Opened, StoreFault>
+    ensures file { IfOk result (λ opened. opened.file ≡ file) }
+    ensures refused { IfErr result IsOfSystem }
+{
     match identity_and_len(&file) {
         Ok(Some((identity, len))) => Ok(Opened {
             file,
@@ -170,11 +190,19 @@ fn identity_and_len(file: &File) -> io::Result<Option<(Identity, u64)>> {
 
 /// S3 for want of memory, S1 for all else.
 pub fn fault_of(error: io::Error) -> StoreFault
-    ensures size { result ≢ StoreFault.BlockSize }
-    ensures length { result ≢ StoreFault.Ragged }
+    ensures fault { result ≡ store_fault_of error }
+    ensures system { IsOfSystem result }
 {
-    match error.kind() {
-        ErrorKind::OutOfMemory => StoreFault::NoMemory,
-        _ => StoreFault::Device,
+    if is_want_of_memory(&error) {
+        StoreFault::NoMemory
+    } else {
+        StoreFault::Device
     }
+}
+
+/// Whether an error of the system is want of memory.
+pub(crate) fn is_want_of_memory(error: &io::Error) -> bool
+    ensures { result ≡ is_memory (error_kind error.now) }
+{
+    matches!(error.kind(), ErrorKind::OutOfMemory)
 }

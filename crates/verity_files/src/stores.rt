@@ -1,65 +1,118 @@
 //! Stores over opened files and devices.
-ghost use Rattle.std.specs.Prelude.{◌≡◌, ◌*◌, ◌/◌, ◌≤◌, ◌↔◌, min, IsOk, IfErr};
+ghost use Rattle.std.specs.Prelude.{◌≡◌, ◌≢◌, ◌*◌, ◌/◌, ◌≤◌, ◌↔◌, true, false, None, Err, min};
+ghost use Rattle.std.specs.Prelude.{IsOk, IfOk, IfErr, OnOk};
 ghost use Rattle.verity_profile.specs.Profile.{IsBlockSize};
+ghost use Rattle.verity_files.specs.VolumeFiles.{IsPart, LiesIn, room_in};
 
 use crate::identity::Identity;
 use crate::opening::Opened;
 use crate::volume_file::VolumeFile;
 use std::fs::File;
 use verity_profile::is_block_size;
-use verity_store::{FileStore, StoreFault, Window};
+use verity_store::{BlockStore, FileStore, RawFile, StoreFault, Window};
 
 /// A store in a file or in a part of one.
-pub type VolumeStore = FileStore<VolumeFile>;
+pub type VolumeStore = FileStore<VolumeFile<File>>;
 
-/// A store over all of a file or a device. S2 where its length is not a multiple of `size`.
-pub fn whole_store(opened: Opened, size: usize) -> Result<VolumeStore, StoreFault> {
-    match opened.identity {
-        Identity::File(_, _) => FileStore::over(VolumeFile::new(opened.file), size),
-        Identity::Device(_) => FileStore::over(part(opened.file, opened.len, opened.len), size),
-    }
+/// A store over all of a file or a device. S4 for all but the block sizes of the profile; S2 where its length is not a
+/// multiple of `size`.
+pub fn whole_store(opened: Opened, size: usize) -> Result<VolumeStore, StoreFault>
+    ensures size { IfOk result (λ s. ⟦<VolumeStore as BlockStore>⟧.size s ≡ size) }
+    ensures wrong_size { (result ≡ Err StoreFault.BlockSize) ↔ ¬ IsBlockSize size }
+    ensures memory { result ≢ Err StoreFault.NoMemory }
+{
+    FileStore::over(whole_file(opened), size)
 }
 
 /// A store over a file as it stands, S2 where its length is not a multiple of `size`; or over the first blocks of a
-/// device, at most so many.
-pub fn store_of_most(opened: Opened, size: usize, blocks: u64) -> Result<VolumeStore, StoreFault> {
+/// device, at most so many. S4 as above.
+pub fn store_of_most(opened: Opened, size: usize, blocks: u64) -> Result<VolumeStore, StoreFault>
+    ensures size { IfOk result (λ s. ⟦<VolumeStore as BlockStore>⟧.size s ≡ size) }
+    ensures wrong_size { (result ≡ Err StoreFault.BlockSize) ↔ ¬ IsBlockSize size }
+    ensures memory { result ≢ Err StoreFault.NoMemory }
+{
     check_block_size(size)?;
-    let len = whole_blocks(opened.len, size, blocks);
-    match opened.identity {
-        Identity::File(_, _) => FileStore::over(VolumeFile::new(opened.file), size),
-        Identity::Device(_) => FileStore::over(part(opened.file, opened.len, len), size),
-    }
+    FileStore::over(file_of_most(opened, size, blocks), size)
 }
 
-/// A store over the first blocks of a file or a device. S1 where there aren't so many.
-pub fn store_of_first(opened: Opened, size: usize, blocks: u64) -> Result<VolumeStore, StoreFault> {
+/// A store over the first blocks of a file or a device. S1 where there aren't so many; S4 as above.
+pub fn store_of_first(opened: Opened, size: usize, blocks: u64) -> Result<VolumeStore, StoreFault>
+    ensures size { IfOk result (λ s. ⟦<VolumeStore as BlockStore>⟧.size s ≡ size) }
+    ensures enough { OnOk result (blocks ≤ opened.len / size) }
+    ensures wrong_size { (result ≡ Err StoreFault.BlockSize) ↔ ¬ IsBlockSize size }
+    ensures memory { result ≢ Err StoreFault.NoMemory }
+{
     check_block_size(size)?;
     if blocks > opened.len / size as u64 {
         return Err(StoreFault::Device);
     }
-    let len = whole_blocks(opened.len, size, blocks);
-    FileStore::over(part(opened.file, opened.len, len), size)
+    FileStore::over(file_of_first(opened, size, blocks), size)
 }
 
 /// A store to be filled anew: of no block over a file, in which all stays until the store's length is set; or over all whole
-/// blocks of a device.
-pub fn new_store(opened: Opened, size: usize) -> Result<VolumeStore, StoreFault> {
-    match opened.identity {
-        Identity::File(_, _) => FileStore::over(VolumeFile::replaced(opened.file), size),
-        Identity::Device(_) => store_of_most(opened, size, u64::MAX),
-    }
+/// blocks of a device. S4 as above.
+pub fn new_store(opened: Opened, size: usize) -> Result<VolumeStore, StoreFault>
+    ensures size { IfOk result (λ s. ⟦<VolumeStore as BlockStore>⟧.size s ≡ size) }
+    ensures wrong_size { (result ≡ Err StoreFault.BlockSize) ↔ ¬ IsBlockSize size }
+    ensures memory { result ≢ Err StoreFault.NoMemory }
+{
+    check_block_size(size)?;
+    FileStore::over(file_anew(opened, size), size)
 }
 
 /// All of a file or a device.
-pub fn whole_file(opened: Opened) -> VolumeFile {
+pub fn whole_file(opened: Opened) -> VolumeFile<File>
+    ensures lies { LiesIn opened.identity opened.file false opened.len opened.len result }
+    ensures unknown { ⟦<VolumeFile<File> as RawFile>⟧.bytes result ≡ None }
+{
     match opened.identity {
         Identity::File(_, _) => VolumeFile::new(opened.file),
         Identity::Device(_) => part(opened.file, opened.len, opened.len),
     }
 }
 
+/// A file as it stands, or the first blocks of a device, at most so many.
+fn file_of_most(opened: Opened, size: usize, blocks: u64) -> VolumeFile<File>
+    requires { IsBlockSize size }
+    ensures { LiesIn opened.identity opened.file false opened.len (min blocks (opened.len / size) * size) result }
+{
+    match opened.identity {
+        Identity::File(_, _) => VolumeFile::new(opened.file),
+        Identity::Device(_) => {
+            let len = whole_blocks(opened.len, size, blocks);
+            part(opened.file, opened.len, len)
+        }
+    }
+}
+
+/// The first blocks of a file or a device.
+fn file_of_first(opened: Opened, size: usize, blocks: u64) -> VolumeFile<File>
+    requires size { IsBlockSize size }
+    requires enough { blocks ≤ opened.len / size }
+    ensures { IsPart opened.file opened.len (blocks * size) result }
+{
+    let len = whole_blocks(opened.len, size, blocks);
+    part(opened.file, opened.len, len)
+}
+
+/// A file that is replaced, or all whole blocks of a device.
+fn file_anew(opened: Opened, size: usize) -> VolumeFile<File>
+    requires { IsBlockSize size }
+    ensures { LiesIn opened.identity opened.file true opened.len (opened.len / size * size) result }
+{
+    match opened.identity {
+        Identity::File(_, _) => VolumeFile::replaced(opened.file),
+        Identity::Device(_) => {
+            let len = whole_blocks(opened.len, size, u64::MAX);
+            part(opened.file, opened.len, len)
+        }
+    }
+}
+
 /// How many blocks can stand in a file or a device: any number in a file.
-pub fn room_of(opened: &Opened, size: usize) -> u64 {
+pub fn room_of(opened: &Opened, size: usize) -> u64
+    ensures { result ≡ room_in opened.now.identity opened.now.len size }
+{
     match opened.identity {
         Identity::Device(_) if size > 0 => opened.len / size as u64,
         _ => u64::MAX,
@@ -90,8 +143,10 @@ fn whole_blocks(len: u64, size: usize, most: u64) -> u64
 }
 
 /// The first `len` bytes of a file or a device of so many.
-fn part(file: File, all: u64, len: u64) -> VolumeFile
+fn part(file: File, all: u64, len: u64) -> VolumeFile<File>
     requires { len ≤ all }
+    ensures lies { IsPart file all len result }
+    ensures unknown { ⟦<VolumeFile<File> as RawFile>⟧.bytes result ≡ None }
 {
     VolumeFile::Part(Window::new(file, all, len))
 }

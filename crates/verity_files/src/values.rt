@@ -1,16 +1,18 @@
 //! The values of words: numbers, salts, UUIDs, algorithms and pairs of paths.
-ghost use Rattle.std.specs.Prelude.{◌≡◌, ◌==◌, ◌⊎◌, ◌↔◌, Ok, None, Some, IfOk, IfErr, nat_lt, length, codes, not};
+ghost use Rattle.std.specs.Prelude.{◌≡◌, ◌==◌, ◌⊎◌, ◌↔◌, ◌<◌, Ok, Err, None, Some};
+ghost use Rattle.std.specs.Prelude.{IfOk, IfErr, nat_lt, length, codes, not};
 ghost use Rattle.std.specs.List.{list_all};
 ghost use Rattle.std.specs.Char.{is_ascii_digit};
 ghost use Rattle.std.specs.Result.{result_err};
 ghost use Rattle.verity_superblock.specs.Line.{is_path};
-ghost use Rattle.verity_files.specs.Words.{number_in, sessions_in, memory_in, salt_of, paths_refusal};
+ghost use Rattle.verity_files.specs.Words.{number_in, sessions_in, memory_in, salt_of, uuid_in, paths_refusal};
 
 use crate::failure::{Failure, Word};
+use crate::fault::Fault;
 use hex::FromHexError;
 use std::alloc::Global;
 use uuid::Uuid;
-use verity_digest::{Algorithm, Salt};
+use verity_digest::{Algorithm, Salt, SaltFault};
 use verity_superblock::path_fits;
 
 /// The least and the most MiB of replies that may wait.
@@ -102,13 +104,22 @@ pub fn salt_bytes(alloc: Global, text: &str) -> Result<Vec<u8>, Failure>
 }
 
 /// The salt of these bytes.
-pub fn salt(alloc: Global, bytes: &[u8]) -> Result<Salt, Failure> {
+pub fn salt(alloc: Global, bytes: &[u8]) -> Result<Salt, Failure>
+    ensures value { IfOk result (λ salt. salt ≡ bytes.now) }
+    ensures too_long { (result ≡ Err (Failure.Refused (Fault.Salt SaltFault.TooLong))) ↔ (256 < length bytes.now) }
+    ensures refused { IfErr result (λ e. (e ≡ Failure.NoMemory) ⊎ (e ≡ Failure.Refused (Fault.Salt SaltFault.TooLong))) }
+{
     Ok(Salt::new(alloc, bytes)?)
 }
 
 /// The UUID that a word is.
-pub fn uuid(text: &str) -> Result<Uuid, Failure> {
-    Uuid::parse_str(text).map_err(|_| Failure::Word(Word::Uuid))
+pub fn uuid(text: &str) -> Result<Uuid, Failure>
+    ensures { result ≡ uuid_in text.now }
+{
+    match Uuid::parse_str(text) {
+        Ok(uuid) => Ok(uuid),
+        Err(_) => Err(Failure::Word(Word::Uuid)),
+    }
 }
 
 /// The algorithm that a word names.

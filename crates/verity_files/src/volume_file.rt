@@ -1,14 +1,16 @@
 //! One of the two files of a volume.
+ghost use Rattle.std.specs.Prelude.{◌≡◌, true, false};
+ghost use Rattle.verity_files.specs.VolumeFiles.{IsRegular, kept_bytes, volume_bytes, volume_synced};
 
-use std::fs::File;
 use std::io;
+use std::io::ErrorKind;
 use verity_store::{RawFile, Window};
 
 /// What a store lies in: a regular file, which has the store's length, or the first bytes of a file or a block device.
 #[derive(Drop)]
-pub enum VolumeFile {
-    Regular(RegularFile),
-    Part(Window<File>),
+pub enum VolumeFile<F: RawFile> {
+    Regular(RegularFile<F>),
+    Part(Window<F>),
 }
 
 /// A regular file.
@@ -16,14 +18,17 @@ pub enum VolumeFile {
 /// One that is replaced counts as empty, and what stands in it stays until the store's length is first set; from then on
 /// it holds what the store holds, and nothing that stood in it before.
 #[derive(Drop)]
-pub struct RegularFile {
-    file: File,
+pub struct RegularFile<F: RawFile> {
+    file: F,
     is_replaced: bool,
 }
 
-impl VolumeFile {
+impl<F: RawFile> VolumeFile<F> {
     /// A regular file as it stands.
-    pub fn new(file: File) -> VolumeFile {
+    pub fn new(file: F) -> VolumeFile<F>
+        ensures bytes { volume_bytes result ≡ F.bytes file }
+        ensures regular { IsRegular file false result }
+    {
         VolumeFile::Regular(RegularFile {
             file,
             is_replaced: false,
@@ -31,7 +36,10 @@ impl VolumeFile {
     }
 
     /// A regular file whose bytes are not needed any more.
-    pub fn replaced(file: File) -> VolumeFile {
+    pub fn replaced(file: F) -> VolumeFile<F>
+        ensures bytes { volume_bytes result ≡ kept_bytes (F.bytes file) true }
+        ensures regular { IsRegular file true result }
+    {
         VolumeFile::Regular(RegularFile {
             file,
             is_replaced: true,
@@ -39,7 +47,11 @@ impl VolumeFile {
     }
 }
 
-impl RawFile for VolumeFile {
+impl<F: RawFile> RawFile for VolumeFile<F> {
+    ghost bytes = { volume_bytes };
+
+    ghost synced = { volume_synced };
+
     fn byte_len(&self) -> io::Result<u64> {
         match self {
             VolumeFile::Regular(file) => file.byte_len(),
@@ -76,20 +88,30 @@ impl RawFile for VolumeFile {
     }
 }
 
-impl RawFile for RegularFile {
+impl<F: RawFile> RawFile for RegularFile<F> {
+    ghost bytes = { λ r. kept_bytes (F.bytes r.file) r.is_replaced };
+
+    ghost synced = { λ r. F.synced r.file };
+
     fn byte_len(&self) -> io::Result<u64> {
         if self.is_replaced {
             return Ok(0);
         }
-        RawFile::byte_len(&self.file)
+        self.file.byte_len()
     }
 
     fn read_exact_at(&mut self, at: u64, out: &mut [u8]) -> io::Result<()> {
-        RawFile::read_exact_at(&mut self.file, at, out)
+        if self.is_replaced && !out.is_empty() {
+            return Err(ErrorKind::UnexpectedEof.into());
+        }
+        self.file.read_exact_at(at, out)
     }
 
     fn write_all_at(&mut self, at: u64, block: &[u8]) -> io::Result<()> {
-        RawFile::write_all_at(&mut self.file, at, block)
+        if self.is_replaced && !block.is_empty() {
+            return Err(ErrorKind::WriteZero.into());
+        }
+        self.file.write_all_at(at, block)
     }
 
     fn set_byte_len(&mut self, n: u64) -> io::Result<()> {

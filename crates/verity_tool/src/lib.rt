@@ -6,6 +6,7 @@
 
 mod dump;
 mod edit;
+mod failing;
 mod format;
 mod opened;
 mod over;

@@ -2,6 +2,7 @@
 
 use crate::dump::dump;
 use crate::edit::edit;
+use crate::failing::fail;
 use crate::format::format;
 use crate::recover::recover;
 use crate::scratch::scratch;
@@ -16,7 +17,7 @@ use std::io::{Eprint, IsTerminal, Read, Write};
 use std::net::{Net, TcpListener, TcpStream};
 use std::rt::Files;
 use std::time::Clock;
-use verity_files::{DONE, Failure, NOT_UNDERSTOOD, REFUSED, fail};
+use verity_files::{DONE, Failure, NOT_UNDERSTOOD, REFUSED};
 use verity_words::{Request, explain, explain_corrupt, explain_usage, explain_words, read_words};
 
 /// Does what the words ask for, of which the first is the program's own name, and answers the status that the process

@@ -1,5 +1,6 @@
 //! The command `serve`: serves a volume over NBD.
 
+use crate::failing::fail;
 use crate::opened::open_hub;
 use crate::told::Told;
 use nbd_serve::{Door, Limits, Stop, Watched};
@@ -9,7 +10,7 @@ use std::net::{Net, TcpListener, TcpStream};
 use std::os::unix::net::UnixListener;
 use std::rt::Files;
 use std::time::{Clock, Duration};
-use verity_files::{Command, DONE, Failure, Fault, REFUSED, Word, fail, memory, number, sessions};
+use verity_files::{Command, DONE, Failure, Fault, REFUSED, Word, memory, number, sessions};
 use verity_hub::{Hub, serve_clients};
 use verity_store::BlockStore;
 use verity_words::ServeWords;

@@ -1,4 +1,5 @@
 //! The journal of a volume: where it stands, and its file.
+ghost use Rattle.std.specs.Prelude.{◌≡◌, None, IfOk};
 
 use std::alloc::{AllocError, Global};
 use std::fs::File;
@@ -14,7 +15,7 @@ use verity_journal::{Device, DiskFault, FileDisks, Keeper, parse_journal};
 use verity_store::{RawFile, StoreFault, Which};
 
 /// Three files, kept between commits.
-pub type FileKeeper = Keeper<FileDisks<VolumeFile>>;
+pub type FileKeeper = Keeper<FileDisks<VolumeFile<File>>>;
 
 /// The word that asks for no journal.
 const NONE: &str = "none";
@@ -310,7 +311,9 @@ fn started(
 }
 
 /// One of a volume's files, and how many bytes it has.
-fn sized(opened: &Opened) -> Result<(VolumeFile, u64), Fault> {
+fn sized(opened: &Opened) -> Result<(VolumeFile<File>, u64), Fault>
+    ensures { IfOk result (λ file. ⟦<VolumeFile<File> as RawFile>⟧.bytes file.0 ≡ None) }
+{
     let again = opened.again()?;
     let len = again.len;
     Ok((whole_file(again), len))
@@ -318,11 +321,15 @@ fn sized(opened: &Opened) -> Result<(VolumeFile, u64), Fault> {
 
 /// Three files under one clock.
 fn disks_of(
-    on_data: (VolumeFile, u64),
-    on_hash: (VolumeFile, u64),
-    journal: VolumeFile,
+    on_data: (VolumeFile<File>, u64),
+    on_hash: (VolumeFile<File>, u64),
+    journal: VolumeFile<File>,
     bytes: Vec<u8>,
-) -> FileDisks<VolumeFile> {
+) -> FileDisks<VolumeFile<File>>
+    requires data_unknown { ⟦<VolumeFile<File> as RawFile>⟧.bytes on_data.0 ≡ None }
+    requires hash_unknown { ⟦<VolumeFile<File> as RawFile>⟧.bytes on_hash.0 ≡ None }
+    requires journal_unknown { ⟦<VolumeFile<File> as RawFile>⟧.bytes journal ≡ None }
+{
     let (data_file, data_len) = on_data;
     let (hash_file, hash_len) = on_hash;
     FileDisks::over(data_file, data_len, hash_file, hash_len, journal, bytes)

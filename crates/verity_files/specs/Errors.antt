@@ -1,0 +1,48 @@
+-- What an error of the system is taken for.
+use Rattle.std.specs.Prelude.{◌≡◌, Bool, true, false, if◌then◌else◌, Result, Ok, Err, ⊤}
+use Rattle.std.specs.IoError.{error_kind}
+use Rattle.std.specs.declared.io.Error.{Error}
+use Rattle.std.specs.declared.io.ErrorKind.{ErrorKind}
+use Rattle.std.specs.declared.io.ErrorKind.TheVariants.{OutOfMemory}
+use Rattle.std.specs.declared.fs.TryLockError.{TryLockError}
+use Rattle.std.specs.declared.fs.TryLockError.TheVariants as lock
+use Rattle.verity_store.specs.declared.fault.StoreFault.{StoreFault}
+use Rattle.verity_store.specs.declared.fault.StoreFault.TheVariants as store
+use Rattle.verity_store.specs.declared.fault.Which.{Which}
+use Rattle.verity_files.specs.declared.failure.Failure.{Failure}
+use Rattle.verity_files.specs.declared.failure.Failure.TheVariants as failure
+use Rattle.verity_files.specs.declared.fault.Fault.{Fault}
+use Rattle.verity_files.specs.declared.fault.Fault.TheVariants.{Store, InUse}
+use Rattle.verity_files.specs.declared.locks.Told.{Told}
+use Rattle.verity_files.specs.declared.locks.Told.TheVariants as told
+
+-- the one kind that is want of memory
+abbrev pub is_memory : ErrorKind → Bool
+is_memory OutOfMemory = true
+is_memory _ = false
+
+-- of a store S3 for want of memory, S1 for all else
+abbrev pub store_fault_of : Error → StoreFault
+store_fault_of error = if is_memory (error_kind error) then store.NoMemory else store.Device
+
+-- of the output want of memory, or that it can't be written
+abbrev pub failure_of_error : Error → Failure
+failure_of_error error = if is_memory (error_kind error) then failure.NoMemory else failure.Output
+
+-- of a lock that was asked for
+abbrev pub told_of : {T : Type 0} → Result T TryLockError → Told
+told_of (Ok x) = told.Locked
+told_of (Err lock.WouldBlock) = told.InUse
+told_of (Err (lock.Error error)) = if is_memory (error_kind error) then told.NoMemory else told.Failed
+
+-- S1 and S3 are what the system answers; S2 and S4 are for the store to say
+abbrev pub IsOfSystem : StoreFault → Type 0
+IsOfSystem store.Device = ⊤
+IsOfSystem store.NoMemory = ⊤
+IsOfSystem _ = ⊥
+
+-- and S5, of this store, where its lock is asked for too
+abbrev pub IsOfLock : Which → Fault → Type 0
+IsOfLock which (InUse other) = other ≡ which
+IsOfLock which (Store fault) = IsOfSystem fault
+IsOfLock which _ = ⊥
