@@ -1,7 +1,7 @@
 //! One client of many: its stream, its session and what waits in between.
 
 ghost use Rattle.std.specs.Prelude.{◌≡◌, ◌≢◌, ◌↔◌, Err, ◌+◌, ◌≤◌, ◌<◌, ◌-◌, ◌++◌, ◌⊎◌, ℕ, List, [], ◌∷◌, true, false, length, Some};
-ghost use Rattle.std.specs.Prelude.{None, IfOk, OnErr};
+ghost use Rattle.std.specs.Prelude.{None, IfOk, OnOk, OnErr};
 ghost use Rattle.std.specs.Io.KnownBytes.{Appends, Consumes, IsAtEnd, Keeps};
 ghost use Rattle.nbd_session.specs.Handshake.{greeting};
 ghost use Rattle.nbd_session.specs.Export.{Keeps as KeepsFacts};
@@ -196,6 +196,7 @@ impl<S: Stream + Drop, A: Allocator> Client<S, A> {
         ensures unread { Keeps (S.remaining self.old.1) (S.remaining self.new.1) }
         ensures written { Keeps (S.contents self.old.1) (S.contents self.new.1) }
         ensures asked { S.asked self.new.1 ≡ S.asked self.old.1 }
+        ensures flushed { OnOk result (S.flushed self.new.1 ≡ true) }
     {
         self.stream.flush()
     }

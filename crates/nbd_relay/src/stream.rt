@@ -1,6 +1,6 @@
 //! A stream of a client.
 
-ghost use Rattle.std.specs.Prelude.{◌≡◌, ◌≢◌, ◌<◌, ◌+◌, ℕ, List, length, true, Option, None, IfOk};
+ghost use Rattle.std.specs.Prelude.{◌≡◌, ◌≢◌, ◌<◌, ◌+◌, ℕ, List, length, Bool, true, Option, None, IfOk, OnOk};
 ghost use Rattle.nbd_relay.specs.Asked.{Asked, IsAsked};
 ghost use Rattle.std.specs.Io.{ReadsAtMost, WritesAtMost};
 ghost use Rattle.std.specs.Io.KnownBytes.{Keeps, ReadConsumes, WriteAppends};
@@ -25,6 +25,9 @@ pub trait Stream {
     /// How often it was asked, wasn't ready, and failed.
     ghost asked: { Self → Asked };
 
+    /// It holds nothing that it took. A stream that hands on at once is always so.
+    ghost flushed: { Self → Bool } = { λ _. true };
+
     /// Reads into the buffer, and tells how many bytes.
     fn receive(&mut self, buf: &mut [u8]) -> io::Result<usize>
         ensures bound { ReadsAtMost result buf.new }
@@ -40,14 +43,12 @@ pub trait Stream {
         ensures asked { IsAsked (asked self.old) (asked self.new) result }
         ensures stuck { IfOk result (λ n. n ≡ 0 → 0 < length buf.now → (asked self.old).failures < (asked self.new).failures) };
 
-    /// Hands on what it took and holds. A stream that holds nothing has nothing to do.
+    /// Hands on what it took and holds.
     fn flush(&mut self) -> io::Result<()>
         ensures unread { Keeps (remaining self.old) (remaining self.new) }
         ensures written { Keeps (contents self.old) (contents self.new) }
         ensures asked { asked self.new ≡ asked self.old }
-    {
-        Ok(())
-    }
+        ensures flushed { OnOk result (flushed self.new ≡ true) };
 }
 
 /// Counts of what a stream was asked and answered. They take no bytes.

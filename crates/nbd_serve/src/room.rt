@@ -1,5 +1,7 @@
 //! The clients that are connected, and those that are taking their leave.
 
+ghost use Rattle.nbd_serve.specs.Serving.{GoesOn};
+
 use crate::budget::Budget;
 use crate::connection::Connection;
 use crate::door::Door;
@@ -106,7 +108,9 @@ impl<C: Connection + Drop> Room<C> {
         registry: &Registry,
         sessions: u64,
         output: &mut W,
-    ) -> Result<(), Stop> {
+    ) -> Result<(), Stop>
+        ensures { GoesOn E.later hub.old hub.new }
+    {
         self.retries = false;
         for _ in 0..MOST {
             if !self.may_accept(sessions) {
@@ -144,7 +148,9 @@ impl<C: Connection + Drop> Room<C> {
         number: u64,
         now: Option<Duration>,
         registry: &Registry,
-    ) -> Result<(), ServeFault> {
+    ) -> Result<(), ServeFault>
+        ensures { GoesOn E.later hub.old hub.new }
+    {
         let none = ServeFault::Hub(HubFault::NoMemory);
         if connection.prepare().is_err() {
             return Err(ServeFault::Read);
@@ -179,7 +185,9 @@ impl<C: Connection + Drop> Room<C> {
         Ok(())
     }
 
-    fn drop_client<E: Export>(&mut self, hub: &mut Sessions<E>, at: usize) {
+    fn drop_client<E: Export>(&mut self, hub: &mut Sessions<E>, at: usize)
+        ensures { GoesOn E.later hub.old hub.new }
+    {
         if at < self.clients.len() {
             let _client = leave(&mut self.clients, at, hub);
         }
@@ -192,7 +200,9 @@ impl<C: Connection + Drop> Room<C> {
         budget: Budget,
         now: Option<Duration>,
         output: &mut W,
-    ) -> Result<bool, Stop> {
+    ) -> Result<bool, Stop>
+        ensures { GoesOn E.later hub.old hub.new }
+    {
         let mut goes_on = false;
         let mut at = 0;
         for _ in 0..MOST {
@@ -225,7 +235,9 @@ impl<C: Connection + Drop> Room<C> {
         at: usize,
         budget: Budget,
         now: Option<Duration>,
-    ) -> Came {
+    ) -> Came
+        ensures { GoesOn E.later hub.old hub.new }
+    {
         let Some(seat) = self.seats.get_mut(at) else {
             return Came::Waits;
         };
@@ -266,7 +278,9 @@ impl<C: Connection + Drop> Room<C> {
         came
     }
 
-    fn go_on<E: Export>(&mut self, hub: &mut Sessions<E>, at: usize, budget: Budget) -> Came {
+    fn go_on<E: Export>(&mut self, hub: &mut Sessions<E>, at: usize, budget: Budget) -> Came
+        ensures { GoesOn E.later hub.old hub.new }
+    {
         if at < self.clients.len() {
             go_on(&mut self.clients, at, hub, budget)
         } else {
@@ -281,7 +295,9 @@ impl<C: Connection + Drop> Room<C> {
         at: usize,
         fault: Option<ServeFault>,
         output: &mut W,
-    ) -> Result<(), Stop> {
+    ) -> Result<(), Stop>
+        ensures { GoesOn E.later hub.old hub.new }
+    {
         if at >= self.clients.len() || at >= self.seats.len() {
             return Ok(());
         }
@@ -361,14 +377,19 @@ impl<C: Connection + Drop> Room<C> {
         }
     }
 
-    /// Ends the sessions of those that were silent for so long.
+    /// Ends the sessions of those that were silent for so long, where there is a limit and a clock.
     pub fn leave_idle<E: Export, W: Write>(
         &mut self,
         hub: &mut Sessions<E>,
-        idle: Duration,
-        now: Duration,
+        idle: Option<Duration>,
+        now: Option<Duration>,
         output: &mut W,
-    ) -> Result<(), Stop> {
+    ) -> Result<(), Stop>
+        ensures { GoesOn E.later hub.old hub.new }
+    {
+        let (Some(idle), Some(now)) = (idle, now) else {
+            return Ok(());
+        };
         let mut at = 0;
         for _ in 0..MOST {
             if at >= self.clients.len() {

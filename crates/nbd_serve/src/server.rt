@@ -1,5 +1,7 @@
 //! The loop.
 
+ghost use Rattle.nbd_serve.specs.Serving.{GoesOn};
+
 use crate::budget::Budget;
 use crate::door::Door;
 use crate::line::tell_listening;
@@ -39,7 +41,7 @@ impl Net for NoNet {
 
 /// Prints `listening`, then serves this many connections, up to 64 at a time, and prints for each, as it ends,
 /// `session K ended`, or `session K ` and the fault's text; K counts them from 1 as they are accepted. It answers whether
-/// no line named a fault.
+/// no line named a fault. What the sessions offer stays as it was, however it ends.
 ///
 /// # Errors
 ///
@@ -50,7 +52,9 @@ pub fn serve_clients<E: Export, L: Door, W: Write>(
     door: &L,
     sessions: u64,
     output: &mut W,
-) -> Result<bool, Stop> {
+) -> Result<bool, Stop>
+    ensures { GoesOn E.later hub.old hub.new }
+{
     tell_listening(output)?;
     if sessions == 0 {
         return Ok(true);
@@ -83,7 +87,9 @@ fn serve_each<E: Export, L: Door, W: Write>(
     poll: &mut Poll,
     sessions: u64,
     output: &mut W,
-) -> Result<bool, Stop> {
+) -> Result<bool, Stop>
+    ensures { GoesOn E.later hub.old hub.new }
+{
     let alloc = hub.allocator();
     let limits = door.limits();
     let budget = Budget::of(limits.pending);
@@ -93,11 +99,9 @@ fn serve_each<E: Export, L: Door, W: Write>(
         room.accept_all(hub, door, poll.registry(), sessions, output)?;
         let goes_on = room.round(hub, budget, door.now(), output)?;
         let parts_on = room.part_all(door.now());
-        if let (Some(idle), Some(now)) = (limits.idle, door.now()) {
-            room.leave_idle(hub, idle, now, output)?;
-        }
+        room.leave_idle(hub, limits.idle, door.now(), output)?;
         if room.is_empty(sessions) {
-            break;
+            return Ok(!room.faulty);
         }
         let ticks = room.retries
             || room.has_partings()

@@ -1,6 +1,6 @@
 //! A client's socket as a stream of a relay, which sends the replies to several waiting requests in one call.
 
-ghost use Rattle.std.specs.Prelude.{◌≡◌};
+ghost use Rattle.std.specs.Prelude.{◌≡◌, ◌==◌, [], length, OnOk, OnErr};
 ghost use Rattle.std.specs.Io.{ReadsAtMost, WritesAtMost};
 
 use crate::connection::Connection;
@@ -54,9 +54,11 @@ impl<C: Connection + Drop, A: Allocator> Socket<C, A> {
         }
     }
 
-    /// Sends all that it holds.
+    /// Sends all that it holds. After an error it still holds what wasn't sent.
     fn empty(&mut self) -> io::Result<()>
         ensures asks { self.new.asks ≡ self.old.asks }
+        ensures empty { OnOk result (self.new.held.items ≡ []) }
+        ensures held { OnErr result (self.new.held.items ≡ self.old.held.items) }
     {
         for _ in 0..HELD_BYTES {
             if self.sent >= self.held.len() {
@@ -71,6 +73,9 @@ impl<C: Connection + Drop, A: Allocator> Socket<C, A> {
                     }
                 }
             }
+        }
+        if self.sent < self.held.len() {
+            return Err(io::Error::from(ErrorKind::WouldBlock));
         }
         self.held.clear();
         self.sent = 0;
@@ -113,6 +118,8 @@ impl<C: Connection + Drop, A: Allocator> Socket<C, A> {
 
 impl<C: Connection + Drop, A: Allocator> Stream for Socket<C, A> {
     ghost asked = { λ s. s.asks };
+
+    ghost flushed = { λ s. length s.held.items == 0 };
 
     fn receive(&mut self, buf: &mut [u8]) -> io::Result<usize> {
         let answer = self.take(buf);

@@ -6,6 +6,7 @@ ghost use Rattle.nbd_hub.specs.After.{IsAfter};
 ghost use Rattle.nbd_hub.specs.declared.fault.ServeFault.{ServeFault};
 ghost use Rattle.nbd_relay.specs.Clients.{Log, AllServed, RunsOn};
 ghost use Rattle.nbd_serve.specs.Pending.{IsWithin, IsHungry};
+ghost use Rattle.nbd_serve.specs.Serving.{GoesOn};
 
 use crate::budget::{Budget, has_room, left};
 use nbd_hub::{ServeFault, Sessions};
@@ -46,7 +47,7 @@ pub fn go_on<S: Stream + Drop, A: Allocator, E: Export, H: Allocator + Copy>(
 ) -> Came
     requires { at < length clients.old }
     ensures count { length clients.new ≡ length clients.old }
-    ensures offer { hub.new.0.offer ≡ hub.old.0.offer }
+    ensures goes_on { GoesOn E.later hub.old hub.new }
     ensures budget { IsWithin budget.limit budget.share clients.old
         → IsWithin budget.limit budget.share clients.new ⊎ (result ≡ Came.Failed ServeFault.Starved) }
     ensures hungry { result ≡ Came.Hungry → IsHungry budget.share (E.facts hub.new.1) hub.new.0 clients.new at }
@@ -73,7 +74,7 @@ fn take_turn<S: Stream + Drop, A: Allocator, E: Export, H: Allocator + Copy>(
 ) -> Came
     requires { at < length clients.old }
     ensures count { length clients.new ≡ length clients.old }
-    ensures offer { hub.new.0.offer ≡ hub.old.0.offer }
+    ensures goes_on { GoesOn E.later hub.old hub.new }
     ensures budget { IsWithin budget.limit budget.share clients.old
         → IsWithin budget.limit budget.share clients.new ⊎ (result ≡ Came.Failed ServeFault.Starved) }
     ensures hungry { result ≡ Came.Hungry → IsHungry budget.share (E.facts hub.new.1) hub.new.0 clients.new at }

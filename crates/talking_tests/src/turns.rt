@@ -85,6 +85,10 @@ impl Stream for Slow {
         self.asks.note(&answer, !buf.is_empty());
         answer
     }
+
+    fn flush(&mut self) -> io::Result<()> {
+        Ok(())
+    }
 }
 
 fn make_slow(alloc: Global, input: &[u8]) -> Result<Slow, AllocError> {

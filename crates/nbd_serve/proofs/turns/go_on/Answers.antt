@@ -5,6 +5,7 @@ use Rattle.nbd_serve.specs.Pending.{IsWithin}
 use Rattle.nbd_serve.specs.declared.turns.Came.{Came}
 use Rattle.nbd_serve.specs.declared.turns.Came.TheVariants as came
 use Rattle.nbd_serve.proofs.Counting.{runs_none}
+use Rattle.nbd_serve.proofs.Servings.{goes_same, goes_on}
 use Rattle.nbd_serve.proofs.turns.go_on.Goals as goal
 
 apart : (x : Came) → x ≡ came.On → x ≡ came.Failed fault.Starved → ⊥
@@ -13,7 +14,7 @@ apart x a b = cc
 pub loop-init : goal.loop-init
 loop-init g c = record {
   count = refl;
-  offer = refl;
+  goes_on = goes_same g.E.Export.later g.met.E.Export.later_same c.args.hub.now;
   budget = λ p. inl p;
   hungry = λ e. absurd (let z : ⊥ = cc in z);
   serves = λ h logs x v. runs_none g.S.Stream.remaining g.S.Stream.contents (g.E.Export.facts c.args.hub.now.1) c.args.hub.now.0 h
@@ -27,7 +28,7 @@ loop-preserved g c =
     let t = c.take_turn-came in
     record {
       count = t.ensures.count ∙ i.count;
-      offer = t.ensures.offer ∙ i.offer;
+      goes_on = goes_on g.E.Export.later g.met.E.Export.later_on c.args.hub.now c.loop.hub t.new.hub i.goes_on t.ensures.goes_on;
       budget = λ p.
           let q : IsWithin c.args.budget.limit c.args.budget.share c.loop.clients = elim (i.budget p) [
             | inl a ↦ a

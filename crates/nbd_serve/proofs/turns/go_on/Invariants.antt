@@ -4,6 +4,7 @@ use Rattle.nbd_hub.specs.After.{IsAfter}
 use Rattle.nbd_hub.specs.declared.fault.ServeFault.TheVariants as fault
 use Rattle.nbd_relay.specs.Clients.{Log, AllServed, RunsOn}
 use Rattle.nbd_serve.specs.Pending.{IsWithin, IsHungry}
+use Rattle.nbd_serve.specs.Serving.{GoesOn}
 use Rattle.nbd_serve.specs.declared.turns.Came.TheVariants as came
 use Rattle.nbd_serve.proofs.turns.go_on.Given as goal
 
@@ -12,7 +13,7 @@ invariant-loop g l =
     let facts = g.E.Export.facts in
     record {
       count : length l.clients ≡ length l.fn.clients;
-      offer : l.hub.0.offer ≡ l.fn.hub.0.offer;
+      goes_on : GoesOn g.E.Export.later l.fn.hub l.hub;
       budget : IsWithin l.budget.limit l.budget.share l.fn.clients →
           IsWithin l.budget.limit l.budget.share l.clients ⊎ (l.came ≡ came.Failed fault.Starved);
       hungry : l.came ≡ came.Hungry → IsHungry l.budget.share (facts l.hub.1) l.hub.0 l.clients l.at;

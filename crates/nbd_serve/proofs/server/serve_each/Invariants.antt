@@ -1,0 +1,5 @@
+use Rattle.nbd_serve.specs.Serving.{GoesOn}
+use Rattle.nbd_serve.proofs.server.serve_each.Given as goal
+
+abbrev pub invariant-loop : goal.invariant-loop
+invariant-loop g l = GoesOn g.E.Export.later l.fn.hub l.hub
