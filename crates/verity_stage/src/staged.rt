@@ -1,5 +1,5 @@
 //! A store whose changes are staged.
-ghost use Rattle.std.specs.Prelude.{◌≡◌, ◌≤◌, ◌^◌, ◌<◌, [], true, length, slice_index_or, IfOk, IfErr, OnOk};
+ghost use Rattle.std.specs.Prelude.{false, ◌≡◌, ◌≤◌, ◌^◌, ◌<◌, [], true, length, slice_index_or, IfOk, IfErr, OnOk};
 ghost use Rattle.std.specs.List.{concat};
 ghost use Rattle.verity_journal.specs.Plan.{made, IsSide};
 ghost use Rattle.verity_stage.specs.Stage.{staged, side_of, below_of};
@@ -36,6 +36,7 @@ impl<S: BlockStore, A: Allocator + Copy> Staged<S, A> {
         ensures size { IfOk result (λ s. ⟦<Staged<S, A> as BlockStore>⟧.size s ≡ S.size store) }
         ensures tells { IfOk result (λ s. ⟦<Staged<S, A> as BlockStore>⟧.tells s ≡ S.tells store) }
         ensures fault { IfErr result (λ e. (e ≡ StoreFault.Device) × (2 ^ 41 < length (S.content store))) }
+        ensures starved { IfOk result (λ s. s.is_starved ≡ false) }
     {
         let size = store.block_size();
         let blocks = store.len();
@@ -64,7 +65,9 @@ impl<S: BlockStore, A: Allocator + Copy> Staged<S, A> {
     }
 
     /// Whether a write failed since memory for its block was refused.
-    pub fn is_starved(&self) -> bool {
+    pub fn is_starved(&self) -> bool
+        ensures { result ≡ self.now.is_starved }
+    {
         self.is_starved
     }
 
