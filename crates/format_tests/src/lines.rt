@@ -1,3 +1,5 @@
+ghost use Rattle.std.specs.Prelude.{◌<◌};
+
 use std::alloc::Global;
 use std::test::Fail;
 use uuid::Uuid;
@@ -55,6 +57,19 @@ fn writes_and_reads_the_worked_superblock(rt: HostRuntime) -> Result<(), Fail> {
     Ok(())
 }
 
+/// Why the worked superblock is refused where these bytes stand at that place, or none where it isn't.
+fn refusal_with(alloc: Global, at: usize, field: &[u8]) -> Result<Option<SuperFault>, Fail>
+    requires { at < 512 }
+{
+    let mut bytes = worked(alloc)?.encode();
+    for (i, byte) in field.iter().enumerate() {
+        if let Some(place) = bytes.get_mut(at + i) {
+            *place = *byte;
+        }
+    }
+    Ok(Superblock::decode(alloc, &bytes).err())
+}
+
 /// The worked superblock with some bytes changed is answered so.
 #[test]
 fn refuses_the_first_that_applies(rt: HostRuntime) -> Result<(), Fail> {
@@ -81,17 +96,11 @@ fn refuses_the_first_that_applies(rt: HostRuntime) -> Result<(), Fail> {
         (344, b"rubbish", None),
     ];
     for (at, field, answer) in rows {
-        let mut bytes = worked(rt.alloc())?.encode();
-        for (i, byte) in field.iter().enumerate() {
-            if let Some(place) = bytes.get_mut(at + i) {
-                *place = *byte;
-            }
-        }
-        let read = Superblock::decode(rt.alloc(), &bytes);
-        assert_eq!(rt; read.err(), answer, "at {at}");
+        let refusal = refusal_with(rt.alloc(), at, field)?;
+        assert_eq!(rt; refusal, answer, "at {at}");
     }
-    let short = Superblock::decode(rt.alloc(), &[0; 511]);
-    assert_eq!(rt; short.err(), Some(SuperFault::Short));
+    let short = Superblock::decode(rt.alloc(), &[0; 511]).err();
+    assert_eq!(rt; short, Some(SuperFault::Short));
     Ok(())
 }
 
@@ -142,6 +151,12 @@ fn refuses_other_lines(rt: HostRuntime) -> Result<(), Fail> {
     Ok(())
 }
 
+/// The line that is spelled of a line, in which ROOT stands for the root hash in capitals.
+fn respelled(alloc: Global, text: &str) -> Result<String, Fail> {
+    let text = text.replace(alloc, "ROOT", UPPER_ROOT)?;
+    Ok(Table::parse(alloc, text.as_str())?.text()?)
+}
+
 #[test]
 fn spells_lines_canonically(rt: HostRuntime) -> Result<(), Fail> {
     let rows = [
@@ -155,10 +170,9 @@ fn spells_lines_canonically(rt: HostRuntime) -> Result<(), Fail> {
         ),
     ];
     for (text, answer) in rows {
-        let text = text.replace(rt.alloc(), "ROOT", UPPER_ROOT)?;
         let answer = answer.replace(rt.alloc(), "ROOT", ROOT)?;
-        let table = Table::parse(rt.alloc(), text.as_str())?;
-        assert_eq!(rt; table.text()?.as_str(), answer.as_str());
+        let text = respelled(rt.alloc(), text)?;
+        assert_eq!(rt; text.as_str(), answer.as_str());
     }
     Ok(())
 }

@@ -125,24 +125,44 @@ fn worked_volumes(rt: HostRuntime) -> Result<(), Fail> {
     Ok(())
 }
 
+fn check_parents(rt: &impl Abort, geometry: &Geometry) {
+    assert_eq!(rt; geometry.blocks(), 257);
+    assert_eq!(rt; geometry.levels(), 3);
+    assert_eq!(rt; geometry.level_len(0), 17);
+    assert_eq!(rt; geometry.level_len(1), 2);
+    let parents = [
+        geometry.leaf_parent(256),
+        geometry.parent(0, 16),
+        geometry.parent(1, 1),
+    ];
+    assert_eq!(rt; parents.as_slice(), [(16, 0), (1, 0), (0, 1)].as_slice());
+}
+
+fn check_places(rt: &impl Abort, geometry: &Geometry) {
+    assert_eq!(rt; geometry.blocks(), 257);
+    assert_eq!(rt; geometry.levels(), 3);
+    assert_eq!(rt; geometry.level_len(0), 17);
+    let above = [
+        geometry.above(0, 256),
+        geometry.above(1, 256),
+        geometry.above(2, 256),
+    ];
+    assert_eq!(rt; above.as_slice(), [16, 1, 0].as_slice());
+    assert_eq!(rt; geometry.place(0, 16), 19);
+}
+
 #[test]
 fn parents_of_257_blocks(rt: HostRuntime) -> Result<(), Fail> {
     let geometry = Geometry::new(512, 512, 257)?;
-    assert_eq!(rt; geometry.data_size(), 512);
-    assert_eq!(rt; geometry.hash_size(), 512);
-    assert_eq!(rt; geometry.digest_size(), 32);
-    assert_eq!(rt; geometry.blocks(), 257);
-    assert_eq!(rt; geometry.per_block(), 16);
-    assert_eq!(rt; geometry.levels(), 3);
-    assert_eq!(rt; geometry.leaf_parent(256), (16, 0));
-    assert_eq!(rt; geometry.level_len(0), 17);
-    assert_eq!(rt; geometry.parent(0, 16), (1, 0));
-    assert_eq!(rt; geometry.level_len(1), 2);
-    assert_eq!(rt; geometry.parent(1, 1), (0, 1));
-    assert_eq!(rt; geometry.above(0, 256), 16);
-    assert_eq!(rt; geometry.above(1, 256), 1);
-    assert_eq!(rt; geometry.above(2, 256), 0);
-    assert_eq!(rt; geometry.place(0, 16), 19);
+    let sizes = [
+        geometry.data_size(),
+        geometry.hash_size(),
+        geometry.digest_size(),
+        geometry.per_block(),
+    ];
+    assert_eq!(rt; sizes.as_slice(), [512, 512, 32, 16].as_slice());
+    check_parents(&rt, &geometry);
+    check_places(&rt, &geometry);
     Ok(())
 }
 
@@ -162,27 +182,24 @@ fn largest_volumes(rt: HostRuntime) -> Result<(), Fail> {
 #[test]
 fn refusals(rt: HostRuntime) {
     for size in [0, 256, 511, 513, 768, 1_048_576] {
-        assert_eq!(rt;
+        let refusals = [
             Geometry::new(size, 512, 1).err(),
-            Some(GeometryFault::BadSize)
-        );
-        assert_eq!(rt;
             Geometry::new(512, size, 1).err(),
-            Some(GeometryFault::BadSize)
-        );
-        assert_eq!(rt;
             Geometry::with_digest(size, size, 0, 48).err(),
-            Some(GeometryFault::BadSize)
+        ];
+        assert_eq!(rt;
+            refusals.as_slice(),
+            [Some(GeometryFault::BadSize); 3].as_slice()
         );
     }
     for count in [0, (1 << 40) + 1] {
-        assert_eq!(rt;
+        let refusals = [
             Geometry::new(512, 512, count).err(),
-            Some(GeometryFault::BadCount)
-        );
-        assert_eq!(rt;
             Geometry::with_digest(512, 512, count, 48).err(),
-            Some(GeometryFault::BadCount)
+        ];
+        assert_eq!(rt;
+            refusals.as_slice(),
+            [Some(GeometryFault::BadCount); 2].as_slice()
         );
     }
     for size in [0, 31, 33, 48, 63, 65] {

@@ -6,6 +6,7 @@ use nbd_hub::Sessions;
 use nbd_relay::{Asks, Client, Pair, Turn};
 use nbd_session::ExportName;
 use std::alloc::{Allocator, Global};
+use std::process::Abort;
 use std::test::Fail;
 
 /// Client flags, EXPORT_NAME, and a READ of the first 150,000 bytes.
@@ -54,13 +55,23 @@ fn finish<A: Allocator>(client: &mut Client<Pipe, A>, hub: &mut Sessions<Image>)
     client.stream().writer.len()
 }
 
+/// A client that was sent all of what is said, and is still open.
+fn drained<A: Allocator>(
+    rt: &impl Abort,
+    alloc: Global,
+    memory: A,
+    hub: &mut Sessions<Image>,
+) -> Result<Client<Pipe, A>, Fail> {
+    let mut client = open(alloc, memory, hub)?;
+    assert_eq!(rt; finish(&mut client, hub), SAID);
+    Ok(client)
+}
+
 #[test]
 fn a_drained_client_keeps_no_long_reply(rt: HostRuntime) -> Result<(), Fail> {
     let heap = LocalHeap::new(rt.alloc(), 250_000)?;
     let mut hub = make_hub(rt.alloc())?;
-    let mut first = open(rt.alloc(), &heap, &mut hub)?;
-    assert_eq!(rt; finish(&mut first, &mut hub), SAID);
-    let mut second = open(rt.alloc(), &heap, &mut hub)?;
-    assert_eq!(rt; finish(&mut second, &mut hub), SAID);
+    let _first = drained(&rt, rt.alloc(), &heap, &mut hub)?;
+    let _second = drained(&rt, rt.alloc(), &heap, &mut hub)?;
     Ok(())
 }

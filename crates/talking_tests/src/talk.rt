@@ -60,3 +60,12 @@ pub fn spelled(alloc: Global, text: &str) -> Result<Vec<u8>, AllocError> {
     }
     Ok(bytes)
 }
+
+/// The bytes that texts spell, one after the other.
+pub fn all_spelled(alloc: Global, texts: &[&str]) -> Result<Vec<u8>, AllocError> {
+    let mut bytes = Vec::new(alloc);
+    for text in texts {
+        bytes.extend_from_slice(&spelled(alloc, text)?)?;
+    }
+    Ok(bytes)
+}
