@@ -5,6 +5,8 @@ use Rattle.verity_store.specs.declared.store.BlockStore as store
 use Rattle.verity_journal.specs.Disks.{Contents}
 use Rattle.verity_journal.specs.Journal.{Pair, pair_of, recovered_pair}
 use Rattle.verity_edit.specs.declared.command.Committed.{Committed}
+use Rattle.verity_edit.specs.Committing.{IsRefusal}
+use Rattle.verity_edit.specs.Editing.{Editing}
 use Rattle.verity_edit.specs.Line.{LineEditing, IsRefusalUnder}
 use Rattle.verity_commit.specs.declared.fault.CommitFault.{CommitFault}
 use Rattle.verity_commit.specs.declared.fault.CommitFault.TheVariants as fault
@@ -14,6 +16,13 @@ abbrev pub IsEdit : Result Committed CommitFault → Type 0
 IsEdit (Ok committed) = ⊥
 IsEdit (Err (fault.Edit e)) = ⊤
 IsEdit (Err (fault.Disks e)) = ⊥
+
+-- what an editor refused, and why
+abbrev pub ExplainsCommit : {D H : Type 0} → store.Ghosts D → store.Ghosts H → (old new : Editing D H) → CommitFault → Type 0
+ExplainsCommit data_facts hash_facts old new (fault.Edit e) =
+    IsRefusal old.broken (data_facts.failures old.data_store) (data_facts.failures new.data_store)
+    (hash_facts.failures old.hash_store) (hash_facts.failures new.hash_store) e
+ExplainsCommit data_facts hash_facts old new (fault.Disks e) = ⊤
 
 -- what an editor under a table line refused, and why
 abbrev pub ExplainsEdit : {D H : Type 0} → store.Ghosts D → store.Ghosts H → (old new : LineEditing D H) → CommitFault → Type 0

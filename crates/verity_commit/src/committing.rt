@@ -5,7 +5,7 @@ ghost use Rattle.verity_journal.specs.Disks.{LeavesOnly};
 ghost use Rattle.verity_journal.specs.Journal.{pair_of, recovered_pair};
 ghost use Rattle.verity_edit.specs.Editing.{Commits, Stays};
 ghost use Rattle.verity_edit.specs.Line.{CommitsUnder, editing_of};
-ghost use Rattle.verity_commit.specs.Committing.{IsEdit, ExplainsEdit, Holds, IsOneOf};
+ghost use Rattle.verity_commit.specs.Committing.{IsEdit, ExplainsCommit, ExplainsEdit, Holds, IsOneOf};
 
 use crate::CommitFault;
 use std::alloc::Allocator;
@@ -27,6 +27,7 @@ pub fn commit_editor<K: Disks, D: BlockStore, H: BlockStore, A: Allocator + Copy
 ) -> Result<Committed, CommitFault>
     ensures done { IfOk result (λ committed. Commits ⟦<Staged<D, A> as BlockStore>⟧ ⟦<Staged<H, A> as BlockStore>⟧
         editor.old editor.new committed) }
+    ensures refused { IfErr result (ExplainsCommit ⟦<Staged<D, A> as BlockStore>⟧ ⟦<Staged<H, A> as BlockStore>⟧ editor.old editor.new) }
     ensures made { OnOk result (Holds D.BlockStore H.BlockStore editor.old.data_store.store editor.old.hash_store.store
         (K.seen keeper.old.disks) → pair_of (K.seen keeper.new.disks) ≡ (
           concat (⟦<Staged<D, A> as BlockStore>⟧.content editor.new.data_store),
