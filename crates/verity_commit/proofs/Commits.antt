@@ -41,5 +41,5 @@ module _ (names : List ℕ) (first : Pair) (os ps xs ys us vs : List (List ℕ))
   suits_here suits = subst (Suits (plan_of names a b)) (sym here) suits
 
   pub one_of : (c : Contents) → IsOldOrNew (plan_of names a b) first c
-      → IsOneOf first (both (concat (staged us d)) (concat (staged vs e))) c
-  one_of c old_or_new = ⊎_elim inl (λ is. inr (is ∙ makes)) old_or_new
+      → IsOneOf names first (both (concat (staged us d)) (concat (staged vs e))) c
+  one_of c is_one = record { volume = ⊎_elim inl (λ is. inr (is ∙ makes)) is_one.volume; named = is_one.named }

@@ -1,9 +1,9 @@
 -- What a commit makes of the devices of a volume.
-use Rattle.std.specs.Prelude.{◌≡◌, ◌⊎◌, ⊤, Result, Ok, Err}
+use Rattle.std.specs.Prelude.{◌≡◌, ◌⊎◌, ℕ, List, ⊤, Result, Ok, Err}
 use Rattle.std.specs.List.{concat}
 use Rattle.verity_store.specs.declared.store.BlockStore as store
 use Rattle.verity_journal.specs.Disks.{Contents}
-use Rattle.verity_journal.specs.Journal.{Pair, pair_of, recovered_pair}
+use Rattle.verity_journal.specs.Journal.{Pair, pair_of, recovered_pair, IsNamed}
 use Rattle.verity_edit.specs.declared.command.Committed.{Committed}
 use Rattle.verity_edit.specs.Committing.{IsRefusal}
 use Rattle.verity_edit.specs.Editing.{Editing}
@@ -34,6 +34,7 @@ abbrev pub Holds : {D H : Type 0} → store.Ghosts D → store.Ghosts H → D �
 Holds data_facts hash_facts data_store hash_store seen =
     pair_of seen ≡ (concat (data_facts.content data_store), concat (hash_facts.content hash_store))
 
--- recovery makes the one pair or the other
-abbrev pub IsOneOf : Pair → Pair → Contents → Type 0
-IsOneOf old new contents = (recovered_pair contents ≡ old) ⊎ (recovered_pair contents ≡ new)
+-- recovery makes the one pair or the other, and a plan behind an open gate has these names
+pub record IsOneOf (names : List ℕ) (old new : Pair) (contents : Contents) : Type 0 where
+  pub volume : (recovered_pair contents ≡ old) ⊎ (recovered_pair contents ≡ new)
+  pub named : IsNamed names contents

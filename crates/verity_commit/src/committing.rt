@@ -1,5 +1,5 @@
 //! A commit of an editor through a journal.
-ghost use Rattle.std.specs.Prelude.{◌≡◌, ◌⊎◌, true, IfErr, IfOk, OnOk};
+ghost use Rattle.std.specs.Prelude.{◌≡◌, ◌≢◌, ◌⊎◌, ◌<◌, true, Err, IfErr, IfOk, OnOk};
 ghost use Rattle.std.specs.List.{concat};
 ghost use Rattle.verity_journal.specs.Disks.{LeavesOnly};
 ghost use Rattle.verity_journal.specs.Journal.{pair_of, recovered_pair};
@@ -10,7 +10,7 @@ ghost use Rattle.verity_commit.specs.Committing.{IsEdit, ExplainsCommit, Explain
 use crate::CommitFault;
 use std::alloc::Allocator;
 use verity_edit::{Committed, Editor, LineEditor};
-use verity_journal::{Disks, Keeper};
+use verity_journal::{DiskFault, Disks, Keeper};
 use verity_stage::{Staged, commit_staged};
 use verity_store::BlockStore;
 
@@ -35,11 +35,16 @@ pub fn commit_editor<K: Disks, D: BlockStore, H: BlockStore, A: Allocator + Copy
         )) }
     ensures any_moment { Holds D.BlockStore H.BlockStore editor.old.data_store.store editor.old.hash_store.store (K.seen keeper.old.disks)
         → keeper.old.is_settled ≡ true → IsEdit result ⊎ LeavesOnly K.moment K.left_since keeper.old.disks keeper.new.disks
-        (IsOneOf (pair_of (K.seen keeper.old.disks)) (
+        (IsOneOf names.now (pair_of (K.seen keeper.old.disks)) (
           concat (⟦<Staged<D, A> as BlockStore>⟧.content editor.new.data_store),
           concat (⟦<Staged<H, A> as BlockStore>⟧.content editor.new.hash_store),
         )) }
     ensures settled { OnOk result (keeper.new.is_settled ≡ true) }
+    ensures failed { result ≡ Err (CommitFault.Disks DiskFault.Device) → keeper.old.is_settled ≡ true
+        → K.faults keeper.old.disks < K.faults keeper.new.disks }
+    ensures memory { result ≡ Err (CommitFault.Disks DiskFault.NoMemory) → K.seen keeper.new.disks ≡ K.seen keeper.old.disks }
+    ensures own { Holds D.BlockStore H.BlockStore editor.old.data_store.store editor.old.hash_store.store (K.seen keeper.old.disks)
+        → result ≢ Err (CommitFault.Disks DiskFault.Foreign) }
     ensures untouched { IsEdit result → keeper.new ≡ keeper.old }
     ensures stays { Stays ⟦<Staged<D, A> as BlockStore>⟧ ⟦<Staged<H, A> as BlockStore>⟧ editor.old editor.new }
 {
@@ -83,11 +88,16 @@ pub fn commit_line_editor<K: Disks, D: BlockStore, H: BlockStore, A: Allocator +
         )) }
     ensures any_moment { Holds D.BlockStore H.BlockStore editor.data_store.store editor.hash_store.store (K.seen keeper.old.disks)
         → keeper.old.is_settled ≡ true → IsEdit result.1 ⊎ LeavesOnly K.moment K.left_since keeper.old.disks keeper.new.disks
-        (IsOneOf (pair_of (K.seen keeper.old.disks)) (
+        (IsOneOf names.now (pair_of (K.seen keeper.old.disks)) (
           concat (⟦<Staged<D, A> as BlockStore>⟧.content result.0.data_store),
           concat (⟦<Staged<H, A> as BlockStore>⟧.content result.0.hash_store),
         )) }
     ensures settled { OnOk result.1 (keeper.new.is_settled ≡ true) }
+    ensures failed { result.1 ≡ Err (CommitFault.Disks DiskFault.Device) → keeper.old.is_settled ≡ true
+        → K.faults keeper.old.disks < K.faults keeper.new.disks }
+    ensures memory { result.1 ≡ Err (CommitFault.Disks DiskFault.NoMemory) → K.seen keeper.new.disks ≡ K.seen keeper.old.disks }
+    ensures own { Holds D.BlockStore H.BlockStore editor.data_store.store editor.hash_store.store (K.seen keeper.old.disks)
+        → result.1 ≢ Err (CommitFault.Disks DiskFault.Foreign) }
     ensures untouched { IsEdit result.1 → keeper.new ≡ keeper.old }
     ensures stays { Stays ⟦<Staged<D, A> as BlockStore>⟧ ⟦<Staged<H, A> as BlockStore>⟧ (editing_of editor) (editing_of result.0) }
 {

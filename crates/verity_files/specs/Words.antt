@@ -32,6 +32,25 @@ word_name word.Memory = codes "--memory"
 word_name word.Idle = codes "--idle"
 word_name word.Journal = codes "--journal"
 
+-- what can stand for it
+abbrev pub word_wanted : Word → List ℕ
+word_wanted word.Data = codes "a path that isn't empty and has no space, since a table line names it"
+word_wanted word.Hash = codes "another file than DATA, by a path that isn't empty and has no space, since a table line names it"
+word_wanted word.New = codes "another file than DATA and HASH"
+word_wanted word.Salt = codes "two hexadecimal digits a byte, or none for the empty salt"
+word_wanted word.Uuid = codes "a UUID, as 01234567-89ab-cdef-0123-456789abcdef"
+word_wanted word.DataBlocks = codes "a count of blocks, in decimal digits"
+word_wanted word.DataBlockSize = codes "a count of bytes, in decimal digits"
+word_wanted word.HashBlockSize = codes "a count of bytes, in decimal digits"
+word_wanted word.Algorithm = codes "sha256 or sha512"
+word_wanted word.HashOffset = codes "a count of bytes, in decimal digits"
+word_wanted word.Cache = codes "a count of hash blocks, in decimal digits"
+word_wanted word.Sessions = codes "a count of connections, in decimal digits, at most 4294967295"
+word_wanted word.Memory = codes "a count of MiB, in decimal digits, from 33 to 1048576"
+word_wanted word.Idle = codes "a count of seconds, in decimal digits"
+word_wanted word.Journal =
+    codes "a path that leads neither to DATA nor to HASH; none, of edit and update, for no journal; a device has one only if named"
+
 -- decimal digits whose value fits 64 bits, however many
 abbrev pub is_decimal : List ℕ → Bool
 is_decimal digits = nat_lt 0 (length digits) && (list_all is_ascii_digit digits && nat_lt (digits_value 10 digits) (2 ^ 64))

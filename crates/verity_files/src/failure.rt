@@ -3,6 +3,7 @@ ghost use Rattle.std.specs.Prelude.{◌≡◌, IsOk, OnOk, OnErr};
 ghost use Rattle.std.specs.Io.KnownBytes.{Appends};
 ghost use Rattle.verity_files.specs.Errors.{failure_of_error};
 ghost use Rattle.verity_files.specs.Faults.{failure_line, failure_of, status_for};
+ghost use Rattle.verity_files.specs.Words.{word_wanted};
 ghost use Rattle.verity_files.specs.declared.fault.Fault.TheVariants as fault;
 
 use crate::fault::Fault;
@@ -68,7 +69,9 @@ impl fmt::Display for Word {
 
 impl Word {
     /// What can stand there.
-    pub fn wanted(self) -> &'static str {
+    pub fn wanted(self) -> &'static str
+        ensures { result.now ≡ word_wanted self }
+    {
         match self {
             Word::Data => "a path that isn't empty and has no space, since a table line names it",
             Word::Hash =>

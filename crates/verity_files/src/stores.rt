@@ -17,6 +17,7 @@ pub type VolumeStore = FileStore<VolumeFile<File>>;
 /// A store over all of a file or a device. S4 for all but the block sizes of the profile; S2 where its length is not a
 /// multiple of `size`.
 pub fn whole_store(opened: Opened, size: usize) -> Result<VolumeStore, StoreFault>
+    ensures lies { IfOk result (λ s. LiesIn opened.identity opened.file false opened.len opened.len s.file) }
     ensures size { IfOk result (λ s. ⟦<VolumeStore as BlockStore>⟧.size s ≡ size) }
     ensures wrong_size { (result ≡ Err StoreFault.BlockSize) ↔ ¬ IsBlockSize size }
     ensures memory { result ≢ Err StoreFault.NoMemory }
@@ -27,6 +28,7 @@ pub fn whole_store(opened: Opened, size: usize) -> Result<VolumeStore, StoreFaul
 /// A store over a file as it stands, S2 where its length is not a multiple of `size`; or over the first blocks of a
 /// device, at most so many. S4 as above.
 pub fn store_of_most(opened: Opened, size: usize, blocks: u64) -> Result<VolumeStore, StoreFault>
+    ensures lies { IfOk result (λ s. LiesIn opened.identity opened.file false opened.len (min blocks (opened.len / size) * size) s.file) }
     ensures size { IfOk result (λ s. ⟦<VolumeStore as BlockStore>⟧.size s ≡ size) }
     ensures wrong_size { (result ≡ Err StoreFault.BlockSize) ↔ ¬ IsBlockSize size }
     ensures memory { result ≢ Err StoreFault.NoMemory }
@@ -37,6 +39,7 @@ pub fn store_of_most(opened: Opened, size: usize, blocks: u64) -> Result<VolumeS
 
 /// A store over the first blocks of a file or a device. S1 where there aren't so many; S4 as above.
 pub fn store_of_first(opened: Opened, size: usize, blocks: u64) -> Result<VolumeStore, StoreFault>
+    ensures lies { IfOk result (λ s. IsPart opened.file opened.len (blocks * size) s.file) }
     ensures size { IfOk result (λ s. ⟦<VolumeStore as BlockStore>⟧.size s ≡ size) }
     ensures enough { OnOk result (blocks ≤ opened.len / size) }
     ensures wrong_size { (result ≡ Err StoreFault.BlockSize) ↔ ¬ IsBlockSize size }
@@ -52,6 +55,7 @@ pub fn store_of_first(opened: Opened, size: usize, blocks: u64) -> Result<Volume
 /// A store to be filled anew: of no block over a file, in which all stays until the store's length is set; or over all whole
 /// blocks of a device. S4 as above.
 pub fn new_store(opened: Opened, size: usize) -> Result<VolumeStore, StoreFault>
+    ensures lies { IfOk result (λ s. LiesIn opened.identity opened.file true opened.len (opened.len / size * size) s.file) }
     ensures size { IfOk result (λ s. ⟦<VolumeStore as BlockStore>⟧.size s ≡ size) }
     ensures wrong_size { (result ≡ Err StoreFault.BlockSize) ↔ ¬ IsBlockSize size }
     ensures memory { result ≢ Err StoreFault.NoMemory }

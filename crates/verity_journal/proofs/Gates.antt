@@ -9,7 +9,7 @@ use Rattle.verity_journal.specs.declared.disks.Device.TheVariants.{Data, Hash, J
 use Rattle.verity_journal.specs.Disks.{Contents, put, Torn, Reached, IsDurable}
 use Rattle.verity_journal.specs.Plan.{Plan, IsSide, IsSmall, Amid, made}
 use Rattle.verity_journal.specs.Journal.{spelled, read_plan, plan_of, Pair, made_pair, under, recovered, pair_of, recovered_pair, IsClosed}
-use Rattle.verity_journal.specs.Journal.{IsGated, IsOpen, IsReady, IsSettled, IsOldOrNew, IsNew, Suits}
+use Rattle.verity_journal.specs.Journal.{IsGated, IsOpen, IsReady, IsSettled, IsNamed, IsOldOrNew, IsNew, Suits}
 use Rattle.verity_journal.proofs.Format.{read_plan-spelled}
 use Rattle.verity_journal.proofs.Parses.{plan_fits}
 use Rattle.verity_journal.proofs.Made.{made_same, made_again, amid_made, amid_self}
@@ -35,6 +35,33 @@ gated_is_one plan journal pair (gate, rest, is, reads) =
     (λ shut. inl (ap (λ (j : List ℕ). recovered j pair) is ∙ ap (λ (o : Option Plan). under o pair) (is_none gate rest shut)))
     (λ opened. inr (open_is_new plan journal pair (gate, rest, is, reads, opened)))
     (cases_eq gate 0)
+
+none_some : (p : Plan) → ◌≡◌ {A = Option Plan} None (Some p) → ⊥
+none_some p e = cc
+
+abbrev names_of : Option Plan → List ℕ
+names_of None = []
+names_of (Some plan) = plan.names
+
+-- behind a closed gate there is no plan
+closed_named : (names journal : List ℕ) → IsClosed journal → (p : Plan) → plan_of journal ≡ Some p → p.names ≡ names
+closed_named names journal (rest, is) p e = absurd (none_some p (sym (ap plan_of is ∙ is_none 0 rest refl) ∙ e))
+
+-- behind an open one there is this plan alone
+gated_named : (plan : Plan) (journal : List ℕ) → IsGated plan journal → (p : Plan) → plan_of journal ≡ Some p → p.names ≡ plan.names
+gated_named plan journal (gate, rest, is, reads) p e =
+    ⊎_elim
+    (λ shut. absurd (none_some p (sym (ap plan_of is ∙ is_none gate rest shut) ∙ e)))
+    (λ opened. ap names_of (sym e ∙ ap plan_of is ∙ is_plan gate rest opened ∙ reads))
+    (cases_eq gate 0)
+
+-- three devices have the names that their journal has
+named_by : (names journal : List ℕ) (c : Contents) → c Journal ≡ journal → ((p : Plan) → plan_of journal ≡ Some p → p.names ≡ names) →
+    IsNamed names c
+named_by names journal c is named p e = named p (sym (ap plan_of is) ∙ e)
+
+open_gated : (plan : Plan) (journal : List ℕ) → IsOpen plan journal → IsGated plan journal
+open_gated plan journal (gate, rest, is, reads, opened) = (gate, rest, is, reads)
 
 -- a write behind the gate leaves it closed
 torn_closed : (n : ℕ) (old new : List ℕ) → IsClosed old → Torn 1 n old new → IsClosed new
@@ -62,12 +89,15 @@ pair_same : (seen : Contents) (may_leave : Contents → Type 0) → IsDurable se
 pair_same seen may_leave durable d was = λ i. (durable Data d was i, durable Hash d was i)
 
 -- while a plan is written, the volume is as it was
-pub behind_is_old : (seen : Contents) (may_leave : Contents → Type 0) (n : ℕ) → IsSettled seen may_leave → (c : Contents) →
-    Reached Journal (Torn 1 n) may_leave c → recovered_pair c ≡ pair_of seen
-behind_is_old seen may_leave n settled c (d, was, b, step, is) =
+pub behind_is_old : (plan : Plan) (seen : Contents) (may_leave : Contents → Type 0) (n : ℕ) → IsSettled seen may_leave → (c : Contents) →
+    Reached Journal (Torn 1 n) may_leave c → IsOldOrNew plan (pair_of seen) c
+behind_is_old plan seen may_leave n settled c (d, was, b, step, is) =
     let shut : IsClosed (d Journal) = (settled.closed.0, settled.durable Journal d was ∙ settled.closed.1) in
-    ap recovered_pair is ∙ closed_is_old b (pair_of d) (torn_closed n (d Journal) b shut step)
-    ∙ pair_same seen may_leave settled.durable d was
+    let still = torn_closed n (d Journal) b shut step in
+    record {
+      volume = inl (ap recovered_pair is ∙ closed_is_old b (pair_of d) still ∙ pair_same seen may_leave settled.durable d was);
+      named = named_by plan.names b c (ap (λ (f : Contents). f Journal) is) (closed_named plan.names b still);
+    }
 
 -- while its gate is opened or closed, it is as it stands or as the plan makes it
 pub gate_is_one : (plan : Plan) (seen : Contents) (may_leave : Contents → Type 0) → IsDurable seen may_leave → IsGated plan (seen Journal)
@@ -75,10 +105,14 @@ pub gate_is_one : (plan : Plan) (seen : Contents) (may_leave : Contents → Type
 gate_is_one plan seen may_leave durable gated c (d, was, b, step, is) =
     let there : IsGated plan (d Journal) = (gated.0, gated.1, durable Journal d was ∙ gated.2, gated.3) in
     let same = pair_same seen may_leave durable d was in
-    ⊎_elim
-    (λ stays. inl (ap recovered_pair is ∙ stays ∙ same))
-    (λ new. inr (ap recovered_pair is ∙ new ∙ ap (λ (p : Pair). made_pair plan p) same))
-    (gated_is_one plan b (pair_of d) (torn_gated plan (d Journal) b there step))
+    let still = torn_gated plan (d Journal) b there step in
+    record {
+      volume = ⊎_elim
+          (λ stays. inl (ap recovered_pair is ∙ stays ∙ same))
+          (λ new. inr (ap recovered_pair is ∙ new ∙ ap (λ (p : Pair). made_pair plan p) same))
+          (gated_is_one plan b (pair_of d) still);
+      named = named_by plan.names b c (ap (λ (f : Contents). f Journal) is) (gated_named plan b still);
+    }
 
 -- under an open gate, whatever lies amid the changes of both devices stands for the new volume
 amid_is_new : (plan : Plan) (base : Pair) → Suits plan base → (journal x y : List ℕ) → IsOpen plan journal →
@@ -103,7 +137,11 @@ data_is_new plan seen may_leave ready suits c (d, was, b, step, is) =
     let on_data : Amid plan.on_data (seen Data) b = subst (λ (l : List ℕ). Amid plan.on_data l b) (ready.durable Data d was) step in
     let on_hash : Amid plan.on_hash (seen Hash) (d Hash) =
     subst (λ (l : List ℕ). Amid plan.on_hash l (d Hash)) (ready.durable Hash d was) (amid_self plan.on_hash (d Hash)) in
-    ap recovered_pair is ∙ amid_is_new plan (pair_of seen) suits (d Journal) b (d Hash) opened on_data on_hash
+    record {
+      volume = ap recovered_pair is ∙ amid_is_new plan (pair_of seen) suits (d Journal) b (d Hash) opened on_data on_hash;
+      named = named_by plan.names (d Journal) c (ap (λ (f : Contents). f Journal) is)
+          (gated_named plan (d Journal) (open_gated plan (d Journal) opened));
+    }
 
 module _ (plan : Plan) (seen one : Contents) (may_leave : Contents → Type 0) (suits : Suits plan (pair_of seen))
     (opened : IsOpen plan (seen Journal))
@@ -116,13 +154,12 @@ module _ (plan : Plan) (seen one : Contents) (may_leave : Contents → Type 0) (
       let on_data : Amid plan.on_data (seen Data) (d Data) =
       subst (λ (l : List ℕ). Amid plan.on_data (seen Data) l) (sym data_is) (amid_made plan.on_data suits.on_data (seen Data)) in
       let on_hash : Amid plan.on_hash (seen Hash) b = subst (λ (l : List ℕ). Amid plan.on_hash l b) hash_is step in
-      ap recovered_pair is ∙ amid_is_new plan (pair_of seen) suits (d Journal) (d Data) b (
-        opened.0,
-        opened.1,
-        journal ∙ opened.2,
-        opened.3,
-        opened.4,
-      ) on_data on_hash
+      let there : IsOpen plan (d Journal) = (opened.0, opened.1, journal ∙ opened.2, opened.3, opened.4) in
+      record {
+        volume = ap recovered_pair is ∙ amid_is_new plan (pair_of seen) suits (d Journal) (d Data) b there on_data on_hash;
+        named = named_by plan.names (d Journal) c (ap (λ (f : Contents). f Journal) is)
+            (gated_named plan (d Journal) (open_gated plan (d Journal) there));
+      }
 
 module _ (plan : Plan) (seen one two : Contents) (may_leave : Contents → Type 0) (suits : Suits plan (pair_of seen))
     (opened : IsOpen plan (seen Journal))
@@ -155,8 +192,12 @@ module _ (plan : Plan) (seen one two : Contents) (may_leave : Contents → Type 
 
   pub close_is_new : (c : Contents) → Reached Journal (Torn 0 1) may_leave c → IsNew plan (pair_of seen) c
   close_is_new c reached =
-      ⊎_elim (λ stays. stays ∙ pair_is_new) (λ new. new ∙ ap (λ (p : Pair). made_pair plan p) pair_is_new ∙ again)
-      (gate_is_one plan two may_leave durable still_gated c reached)
+      let one_of = gate_is_one plan two may_leave durable still_gated c reached in
+      record {
+        volume = ⊎_elim (λ stays. stays ∙ pair_is_new) (λ new. new ∙ ap (λ (p : Pair). made_pair plan p) pair_is_new ∙ again)
+            one_of.volume;
+        named = one_of.named;
+      }
 
 -- where a plan is read behind an open gate
 pub opened_is : (journal : List ℕ) (o : Option Plan) → 1 ≤ length journal → get_or journal 0 0 ≢ 0 →
@@ -164,9 +205,6 @@ pub opened_is : (journal : List ℕ) (o : Option Plan) → 1 ≤ length journal 
 opened_is [] o long opened reads = absurd (omega arith)
 opened_is (gate ∷ rest) o long opened reads = is_plan gate rest opened
     ∙ sym (ap read_plan (take_all (length (gate ∷ rest) - 1) rest (omega arith))) ∙ reads
-
-none_some : (p : Plan) → ◌≡◌ {A = Option Plan} None (Some p) → ⊥
-none_some p e = cc
 
 -- a plan stands behind an open gate alone
 pub plan_is_open : (journal : List ℕ) (plan : Plan) → plan_of journal ≡ Some plan → IsOpen plan journal

@@ -120,13 +120,19 @@ pub record IsReady (plan : Plan) (seen : Contents) (may_leave : Contents → Typ
   pub durable : IsDurable seen may_leave
   pub opened : IsOpen plan (seen Journal)
 
--- the volume as it was or as it is to be
-abbrev pub IsOldOrNew : Plan → Pair → Contents → Type 0
-IsOldOrNew plan old contents = (recovered_pair contents ≡ old) ⊎ (recovered_pair contents ≡ made_pair plan old)
+-- a plan that stands behind an open gate has these names
+abbrev pub IsNamed : List ℕ → Contents → Type 0
+IsNamed names contents = (plan : Plan) → plan_of (contents Journal) ≡ Some plan → plan.names ≡ names
 
--- the volume as it is to be
-abbrev pub IsNew : Plan → Pair → Contents → Type 0
-IsNew plan old contents = recovered_pair contents ≡ made_pair plan old
+-- the volume as it was or as it is to be, under no other names
+pub record IsOldOrNew (plan : Plan) (old : Pair) (contents : Contents) : Type 0 where
+  pub volume : (recovered_pair contents ≡ old) ⊎ (recovered_pair contents ≡ made_pair plan old)
+  pub named : IsNamed plan.names contents
+
+-- the volume as it is to be, under no other names
+pub record IsNew (plan : Plan) (old : Pair) (contents : Contents) : Type 0 where
+  pub volume : recovered_pair contents ≡ made_pair plan old
+  pub named : IsNamed plan.names contents
 
 -- both sides fit, and leave what they keep
 pub record Suits (plan : Plan) (pair : Pair) : Type 0 where

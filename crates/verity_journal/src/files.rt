@@ -1,5 +1,5 @@
 //! Three files under one clock.
-ghost use Rattle.std.specs.Prelude.{◌≡◌, ◌⊎◌, ◌≤◌, [], length, None};
+ghost use Rattle.std.specs.Prelude.{◌≡◌, ◌⊎◌, ◌≤◌, ◌+◌, ◌↔◌, [], length, None, Some};
 ghost use Rattle.std.specs.Option.{ForSome};
 ghost use Rattle.std.proofs.Common.{inl};
 ghost use Rattle.verity_journal.specs.Tearing.{read_of, all_read, AllMayLeave, MightHaveLeft};
@@ -28,6 +28,7 @@ pub struct FileDisks<F: RawFile, A: Allocator = Global> {
     last_failed: Option<Device>,
     past: Past,
     ghost journal: { ForSome unchanged_journal (λ bytes. bytes.items ≡ read_of files.on_journal) },
+    ghost told: { (last_failed ≡ None) ↔ (failed.steps ≡ 0) },
 }
 
 impl<F: RawFile, A: Allocator> FileDisks<F, A> {
@@ -76,9 +77,23 @@ impl<F: RawFile, A: Allocator> FileDisks<F, A> {
     }
 
     /// The device of which a call failed last; none where none did.
-    pub fn last_failed(&self) -> Option<Device> {
+    pub fn last_failed(&self) -> Option<Device>
+        ensures value { result ≡ self.now.last_failed }
+        ensures none { (result ≡ None) ↔ (⟦<FileDisks<F, A> as Disks>⟧.faults self.now ≡ 0) }
+    {
         self.last_failed
     }
+}
+
+// Notes that a call on a device failed.
+fn fail(failed: &mut Count, last_failed: &mut Option<Device>, device: Device) -> DiskFault
+    ensures fault { result ≡ DiskFault.Device }
+    ensures counted { failed.new.steps ≡ failed.old.steps + 1 }
+    ensures last { last_failed.new ≡ Some device }
+{
+    failed.step();
+    *last_failed = Some(device);
+    DiskFault::Device
 }
 
 impl<F: RawFile, A: Allocator> Disks for FileDisks<F, A> {
@@ -100,17 +115,13 @@ impl<F: RawFile, A: Allocator> Disks for FileDisks<F, A> {
         self.past.note_files(&self.files);
         let is_small = bytes.len() as u64 <= u64::MAX - at;
         if !is_small {
-            self.failed.step();
-            self.last_failed = Some(device);
-            return Err(DiskFault::Device);
+            return Err(fail(&mut self.failed, &mut self.last_failed, device));
         }
         self.unchanged_journal = None;
         if self.files.write(device, at, bytes) {
             return Ok(());
         }
-        self.failed.step();
-        self.last_failed = Some(device);
-        Err(DiskFault::Device)
+        Err(fail(&mut self.failed, &mut self.last_failed, device))
     }
 
     fn set_len(&mut self, device: Device, len: u64) -> Result<(), DiskFault> {
@@ -119,9 +130,7 @@ impl<F: RawFile, A: Allocator> Disks for FileDisks<F, A> {
         if self.files.resize(device, len) {
             return Ok(());
         }
-        self.failed.step();
-        self.last_failed = Some(device);
-        Err(DiskFault::Device)
+        Err(fail(&mut self.failed, &mut self.last_failed, device))
     }
 
     fn sync(&mut self, device: Device) -> Result<(), DiskFault> {
@@ -129,9 +138,7 @@ impl<F: RawFile, A: Allocator> Disks for FileDisks<F, A> {
         if self.files.sync(device) {
             return Ok(());
         }
-        self.failed.step();
-        self.last_failed = Some(device);
-        Err(DiskFault::Device)
+        Err(fail(&mut self.failed, &mut self.last_failed, device))
     }
 
     fn len(&self, device: Device) -> u64 {
@@ -145,8 +152,6 @@ impl<F: RawFile, A: Allocator> Disks for FileDisks<F, A> {
             out.copy_from_slice(&bytes[at as usize..end]);
             return Ok(());
         }
-        self.failed.step();
-        self.last_failed = Some(device);
-        Err(DiskFault::Device)
+        Err(fail(&mut self.failed, &mut self.last_failed, device))
     }
 }

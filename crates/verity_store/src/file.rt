@@ -73,6 +73,7 @@ impl<F: RawFile> FileStore<F> {
     pub fn over(file: F, size: usize) -> Result<FileStore<F>, StoreFault>
     where
         F: Drop,
+        ensures file { IfOk result (λ s. s.file ≡ file) }
         ensures content { IfOk result (λ s. IfSome (F.bytes file) (λ bytes. concat (⟦<FileStore<F> as BlockStore>⟧.content s) ≡ bytes)) }
         ensures len { IfOk result (λ s. HasLength (F.bytes file) (length (⟦<FileStore<F> as BlockStore>⟧.content s) * size)) }
         ensures size { IfOk result (λ s. ⟦<FileStore<F> as BlockStore>⟧.size s ≡ size) }

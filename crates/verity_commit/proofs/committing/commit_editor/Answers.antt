@@ -26,7 +26,7 @@ returns-in-Ok-commit_staged-clause-any_moment g c = λ holds settled.
     let told = c.commit_staged.ensures in let first = pair_of (g.K.Disks.seen c.args.keeper.now.disks) in
     inr (weaker g.K.Disks.moment g.K.Disks.left_since c.args.keeper.now.disks c.commit_staged.new.keeper.disks
     (IsOldOrNew (plan_of c.args.names.now c.data_store.result.now.stage c.hash_store.result.now.stage) first)
-    (IsOneOf first (both (concat (staged (D.content new.data_store.store) new.data_store.stage))
+    (IsOneOf c.args.names.now first (both (concat (staged (D.content new.data_store.store) new.data_store.stage))
     (concat (staged (H.content new.hash_store.store) new.hash_store.stage))))
     (one_of c.args.names.now first (D.content old.data_store.store) (H.content old.hash_store.store)
     (D.content c.data_store.result.now.store) (H.content c.hash_store.result.now.store) (D.content new.data_store.store)
@@ -49,7 +49,7 @@ returns-in-Err-commit_staged-clause-any_moment g c = λ holds settled.
     let told = c.commit_staged.ensures in let first = pair_of (g.K.Disks.seen c.args.keeper.now.disks) in
     inr (weaker g.K.Disks.moment g.K.Disks.left_since c.args.keeper.now.disks c.commit_staged.new.keeper.disks
     (IsOldOrNew (plan_of c.args.names.now c.data_store.result.now.stage c.hash_store.result.now.stage) first)
-    (IsOneOf first (both (concat (staged (D.content new.data_store.store) new.data_store.stage))
+    (IsOneOf c.args.names.now first (both (concat (staged (D.content new.data_store.store) new.data_store.stage))
     (concat (staged (H.content new.hash_store.store) new.hash_store.stage))))
     (one_of c.args.names.now first (D.content old.data_store.store) (H.content old.hash_store.store)
     (D.content c.data_store.result.now.store) (H.content c.hash_store.result.now.store) (D.content new.data_store.store)

@@ -1,4 +1,4 @@
-use Rattle.std.proofs.Common.{◌≡◌, inl, length, ap, ◌∙◌, subst, arith}
+use Rattle.std.proofs.Common.{◌≡◌, length, ap, ◌∙◌, subst, arith}
 use Rattle.verity_journal.specs.declared.disks.Device.TheVariants.{Journal}
 use Rattle.verity_journal.specs.Disks.{Contents, Torn, Reached}
 use Rattle.verity_journal.specs.Journal.{pair_of, IsGated, IsOldOrNew}
@@ -14,7 +14,7 @@ returns-in_err-write_synced-clause-any_moment g c =
     let base = pair_of (g.K.Disks.seen old) in
     let P = IsOldOrNew plan base in
     let behind : (f : Contents) → Reached Journal (Torn 1 (length c.args.bytes.now)) (g.K.Disks.may_leave old) f → P f =
-    λ f r. inl (behind_is_old (g.K.Disks.seen old) (g.K.Disks.may_leave old) (length c.args.bytes.now) c.requires.settled f r) in
+    λ f r. behind_is_old plan (g.K.Disks.seen old) (g.K.Disks.may_leave old) (length c.args.bytes.now) c.requires.settled f r in
     let at_start = started g.K.Disks.moment g.K.Disks.left_since old P
     (λ f left. behind f (reached_self Journal (Torn 1 (length c.args.bytes.now)) (g.K.Disks.may_leave old) f (torn_self _ _ _)
     (g.met.K.Disks.only_now old f left))) in
@@ -29,7 +29,7 @@ returns-clause-any_moment g c =
     let base = pair_of (g.K.Disks.seen old) in
     let P = IsOldOrNew plan base in
     let behind : (f : Contents) → Reached Journal (Torn 1 (length c.args.bytes.now)) (g.K.Disks.may_leave old) f → P f =
-    λ f r. inl (behind_is_old (g.K.Disks.seen old) (g.K.Disks.may_leave old) (length c.args.bytes.now) c.requires.settled f r) in
+    λ f r. behind_is_old plan (g.K.Disks.seen old) (g.K.Disks.may_leave old) (length c.args.bytes.now) c.requires.settled f r in
     let at_start = started g.K.Disks.moment g.K.Disks.left_since old P
     (λ f left. behind f (reached_self Journal (Torn 1 (length c.args.bytes.now)) (g.K.Disks.may_leave old) f (torn_self _ _ _)
     (g.met.K.Disks.only_now old f left))) in
@@ -54,7 +54,7 @@ returns-in_err-write_synced-2-clause-any_moment g c =
     let base = pair_of (g.K.Disks.seen old) in
     let P = IsOldOrNew plan base in
     let behind : (f : Contents) → Reached Journal (Torn 1 (length c.args.bytes.now)) (g.K.Disks.may_leave old) f → P f =
-    λ f r. inl (behind_is_old (g.K.Disks.seen old) (g.K.Disks.may_leave old) (length c.args.bytes.now) c.requires.settled f r) in
+    λ f r. behind_is_old plan (g.K.Disks.seen old) (g.K.Disks.may_leave old) (length c.args.bytes.now) c.requires.settled f r in
     let at_start = started g.K.Disks.moment g.K.Disks.left_since old P
     (λ f left. behind f (reached_self Journal (Torn 1 (length c.args.bytes.now)) (g.K.Disks.may_leave old) f (torn_self _ _ _)
     (g.met.K.Disks.only_now old f left))) in
@@ -79,7 +79,7 @@ returns-clause-ready g c =
     let base = pair_of (g.K.Disks.seen old) in
     let P = IsOldOrNew plan base in
     let behind : (f : Contents) → Reached Journal (Torn 1 (length c.args.bytes.now)) (g.K.Disks.may_leave old) f → P f =
-    λ f r. inl (behind_is_old (g.K.Disks.seen old) (g.K.Disks.may_leave old) (length c.args.bytes.now) c.requires.settled f r) in
+    λ f r. behind_is_old plan (g.K.Disks.seen old) (g.K.Disks.may_leave old) (length c.args.bytes.now) c.requires.settled f r in
     let at_start = started g.K.Disks.moment g.K.Disks.left_since old P
     (λ f left. behind f (reached_self Journal (Torn 1 (length c.args.bytes.now)) (g.K.Disks.may_leave old) f (torn_self _ _ _)
     (g.met.K.Disks.only_now old f left))) in

@@ -23,7 +23,7 @@ returns-in_err-carry_out-clause-any_moment g c =
     let start = started g.K.Disks.moment g.K.Disks.left_since old P (λ f left. same_volume seen (g.K.Disks.may_leave old)
     c.requires.durable f (g.met.K.Disks.only_now old f left)) in
     joined g.K.Disks.moment g.K.Disks.left_since old old c.carry_out.new.disks P _ start c.carry_out.ensures.any_moment
-    (λ f new. new ∙ same)
+    (λ f new. new.volume ∙ same)
 
 pub returns-clause-any_moment : goal.returns-clause-any_moment
 returns-clause-any_moment g c =
@@ -35,7 +35,7 @@ returns-clause-any_moment g c =
     let start = started g.K.Disks.moment g.K.Disks.left_since old P (λ f left. same_volume seen (g.K.Disks.may_leave old)
     c.requires.durable f (g.met.K.Disks.only_now old f left)) in
     joined g.K.Disks.moment g.K.Disks.left_since old old c.carry_out.new.disks P _ start c.carry_out.ensures.any_moment
-    (λ f new. new ∙ same)
+    (λ f new. new.volume ∙ same)
 
 pub returns-clause-volume : goal.returns-clause-volume
 returns-clause-volume g c =
