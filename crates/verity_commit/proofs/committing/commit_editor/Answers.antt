@@ -1,4 +1,5 @@
-use Rattle.std.proofs.Common.{ap, inr, ◌∙◌}
+use Rattle.std.proofs.Common.{◌≡◌, Err, ap, inr, rules, ◌∙◌}
+use Rattle.verity_journal.specs.declared.disks.DiskFault.TheVariants as DiskFault
 use Rattle.verity_journal.specs.Journal.{pair_of, IsOldOrNew}
 use Rattle.verity_stage.specs.Stage.{staged, plan_of}
 use Rattle.verity_commit.proofs.Commits.{both, makes, suits_here, one_of, weaker}
@@ -64,3 +65,16 @@ returns-in-Err-commit_staged-clause-any_moment g c = λ holds settled.
     holds c.commit.ensures.stays.data_store.fixed c.commit.ensures.stays.hash_store.fixed
     (ap (λ s. D.content s.store) c.data_store.ensures) (ap (λ s. H.content s.store) c.hash_store.ensures)
     (ap (λ s. s.stage) c.data_store.ensures) (ap (λ s. s.stage) c.hash_store.ensures) told.staged told.suits)))
+
+pub returns-in-Err-commit_staged-clause-own : goal.returns-in-Err-commit_staged-clause-own
+returns-in-Err-commit_staged-clause-own g c = λ holds foreign.
+    let D = g.D.BlockStore in let H = g.H.BlockStore in let old = c.args.editor.now in let new = c.commit.new.self in
+    let told = c.commit_staged.ensures in let first = pair_of (g.K.Disks.seen c.args.keeper.now.disks) in
+    let is_foreign : c.commit_staged.result ≡ Err DiskFault.Foreign = search rules in
+    told.unfit is_foreign
+    (suits_here c.args.names.now first (D.content old.data_store.store) (H.content old.hash_store.store)
+    (D.content c.data_store.result.now.store) (H.content c.hash_store.result.now.store) (D.content new.data_store.store)
+    (H.content new.hash_store.store) c.data_store.result.now.stage c.hash_store.result.now.stage new.data_store.stage new.hash_store.stage
+    holds c.commit.ensures.stays.data_store.fixed c.commit.ensures.stays.hash_store.fixed
+    (ap (λ s. D.content s.store) c.data_store.ensures) (ap (λ s. H.content s.store) c.hash_store.ensures)
+    (ap (λ s. s.stage) c.data_store.ensures) (ap (λ s. s.stage) c.hash_store.ensures) told.staged told.suits)
