@@ -17,8 +17,9 @@ use verity_store::BlockStore;
 /// Commits the pending edits of an editor over two staged stores, and brings them through the journal to the devices, which hold
 /// the stores below. The journal has these names of them.
 ///
-/// An editor's fault leaves the devices as they were. After a fault of the devices a start comes next, and the editor is of no more
-/// use. It writes each changed block twice, syncs five times, and takes memory for the changed blocks three times.
+/// An editor's fault leaves the devices as they were. Device comes where one failed, or where they weren't settled before; NoMemory
+/// leaves what is read of them; Foreign never comes over devices that hold the stores below. After a fault of the devices a start comes
+/// next, and the editor is of no more use. It writes each changed block twice, syncs five times, and takes memory for the changed blocks three times.
 pub fn commit_editor<K: Disks, D: BlockStore, H: BlockStore, A: Allocator + Copy>(
     alloc: A,
     keeper: &mut Keeper<K>,
@@ -67,8 +68,8 @@ pub fn commit_editor<K: Disks, D: BlockStore, H: BlockStore, A: Allocator + Copy
 /// Commits the pending edits of an editor under a table line over two staged stores, and brings them through the journal to the
 /// devices, which hold the stores below. The journal has these names of them. The editor comes back.
 ///
-/// An editor's fault, E14 among them, leaves the devices as they were. After a fault of the devices a start comes next, and the
-/// editor is of no more use. What it writes, syncs and takes is as `commit_editor` says.
+/// An editor's fault, E14 among them, leaves the devices as they were. After a fault of the devices, which come as `commit_editor` says,
+/// a start comes next, and the editor is of no more use. What it writes, syncs and takes is as `commit_editor` says.
 pub fn commit_line_editor<K: Disks, D: BlockStore, H: BlockStore, A: Allocator + Copy + Drop>(
     alloc: A,
     keeper: &mut Keeper<K>,
