@@ -15,6 +15,10 @@
 //! and a budget that is kept keeps what is pending within its limit ([`keeps_the_limit`]). Where a client has to wait for room,
 //! its next READ asks for more than its share.
 //!
+//! [`serve_clients`] says what it has printed once all are served: `listening`, then one line for each connection; and that it
+//! answers whether no line named a fault. At most 64 are there at a time, those who take their leave among them, and no more are
+//! accepted than are to be.
+//!
 //! Sockets, the clock and the system's poll are outside what contracts can say. Nothing is proved of which client is ready,
 //! who is idle, who is next and when a connection is accepted, but that the loop's steps are safe.
 //!
@@ -24,11 +28,14 @@
 #![tactic(auto)]
 
 mod budget;
+mod connected;
 mod connection;
 mod door;
+mod entry;
 mod limits;
 mod line;
 mod parting;
+mod partings;
 mod room;
 mod server;
 mod socket;

@@ -1,421 +1,332 @@
-//! The clients that are connected, and those that are taking their leave.
+//! Who is there: the clients that are connected, those that are taking their leave, and whether somebody may be at the door.
 
+ghost use Rattle.std.specs.Prelude.{◌≡◌, ◌+◌, ◌<◌, ◌≤◌, [], length, true, false, None, IfOk, OnOk, IsTrue};
+ghost use Rattle.nbd_serve.specs.Lines.{standing, Tells};
 ghost use Rattle.nbd_serve.specs.Serving.{GoesOn};
 
 use crate::budget::Budget;
+use crate::connected::Connected;
 use crate::connection::Connection;
 use crate::door::Door;
 use crate::line::tell_end;
-use crate::parting::Parting;
-use crate::socket::Socket;
+use crate::partings::Partings;
 use crate::stop::Stop;
-use crate::turns::{Came, go_on};
-use mio::unix::SourceFd;
-use mio::{Events, Interest, Registry, Token};
-use nbd_hub::{HubFault, ServeFault, Sessions};
-use nbd_relay::{Client, accept, leave};
+use crate::turns::Came;
+use mio::{Events, Registry, Token};
+use nbd_hub::{ServeFault, Sessions};
 use nbd_session::Export;
 use std::alloc::{AllocError, Global};
-use std::io::{self, ErrorKind, Write};
-use std::os::fd::AsRawFd;
+use std::io::Write;
 use std::time::Duration;
 
 /// The most connections at a time, those that take their leave among them.
-const MOST: usize = 64;
+pub(crate) const MOST: usize = 64;
+
+/// How many milliseconds are waited where something is to be looked at again though nothing comes.
+const TICK: u64 = 500;
 
 /// The token of the listener. No session has its number.
 pub const DOOR: Token = Token(usize::MAX);
 
-/// `accept` answers these where one connection, or the system for a moment, is at fault: want of descriptors, of buffers or
-/// memory, a connection that went away, a network that did.
-const PASSING: [i32; 17] = [
-    1, 11, 12, 23, 24, 64, 71, 92, 95, 100, 101, 103, 104, 105, 110, 112, 113,
-];
-
-/// What is kept of a client beside its relay.
-#[derive(Clone, Copy, Debug)]
-struct Seat {
-    number: u64,
-    /// Whether it may go on.
-    ready: bool,
-    /// Whether all was said, and the last bytes are to be handed on.
-    done: bool,
-    /// When something last came of it.
-    heard: Option<Duration>,
-}
-
-/// The clients that are connected, with a seat for each at the same place, and those that are taking their leave.
+/// The clients that are connected and those that are taking their leave, 64 at most; and how many connections were accepted, of
+/// those that are to be, and have ended.
 #[derive(Drop)]
 pub struct Room<C: Connection> {
-    alloc: Global,
-    clients: Vec<Client<Socket<C>>>,
-    seats: Vec<Seat>,
-    partings: Vec<Parting<C>>,
-    accepted: u64,
+    pub(crate) connected: Connected<C>,
+    pub(crate) partings: Partings<C>,
+    pub(crate) sessions: u64,
+    pub(crate) accepted: u64,
+    /// How many sessions have ended.
+    pub(crate) ended: u64,
     /// Whether a connection may wait.
-    knocks: bool,
+    pub(crate) knocks: bool,
     /// Whether an `accept` failed for the moment.
-    pub retries: bool,
+    pub(crate) retries: bool,
     /// Whether a line named a fault.
-    pub faulty: bool,
+    pub(crate) faulty: bool,
+    ghost few: { length connected.clients.items + length partings.leaving.items ≤ 64 },
+    ghost most: { accepted ≤ sessions },
+    ghost all: { ended + length connected.clients.items ≡ accepted },
 }
 
 impl<C: Connection + Drop> Room<C> {
-    /// Nobody is there, and somebody may be at the door.
+    /// Nobody is there, and somebody may be at the door, of whom so many are to be let in.
     ///
     /// # Errors
     ///
     /// `AllocError` where memory was refused for the seats.
-    pub fn new(alloc: Global) -> Result<Room<C>, AllocError> {
+    pub fn new(alloc: Global, sessions: u64) -> Result<Room<C>, AllocError>
+        ensures sessions { IfOk result (λ room. room.sessions ≡ sessions) }
+        ensures stands { IfOk result (λ room. standing room.ended room.accepted room.connected.numbers.items room.faulty
+            ≡ standing 0 0 [] false) }
+    {
         Ok(Room {
-            alloc,
-            clients: Vec::with_capacity(alloc, MOST)?,
-            seats: Vec::with_capacity(alloc, MOST)?,
-            partings: Vec::with_capacity(alloc, MOST)?,
+            connected: Connected::new(alloc, MOST)?,
+            partings: Partings::new(alloc, MOST)?,
+            sessions,
             accepted: 0,
+            ended: 0,
             knocks: true,
             retries: false,
             faulty: false,
         })
     }
 
-    /// Whether so many connections were accepted, and all have gone.
-    pub fn is_empty(&self, sessions: u64) -> bool {
-        self.accepted >= sessions && self.clients.is_empty() && self.partings.is_empty()
+    /// Whether all connections were accepted, and have gone.
+    pub fn is_empty(&self) -> bool
+        ensures ended { IsTrue result → self.now.ended ≡ self.now.sessions }
+        ensures accepted { IsTrue result → self.now.accepted ≡ self.now.sessions }
+        ensures numbers { IsTrue result → self.now.connected.numbers.items ≡ [] }
+    {
+        let _all = self.connected.len();
+        self.ended == self.sessions && self.partings.len() == 0
     }
 
     /// Whether a connection may wait for which there is a seat.
-    pub fn may_accept(&self, sessions: u64) -> bool {
-        let taken = self.clients.len().saturating_add(self.partings.len());
-        self.knocks && !self.retries && self.accepted < sessions && taken < MOST
+    pub fn may_accept(&self) -> bool
+        ensures sessions { IsTrue result → self.now.accepted < self.now.sessions }
+        ensures seat { IsTrue result → length self.now.connected.clients.items + length self.now.partings.leaving.items < 64 }
+    {
+        let taken = self.connected.len() + self.partings.len();
+        self.knocks && !self.retries && self.accepted < self.sessions && taken < MOST
     }
 
-    /// Whether somebody is taking their leave.
-    pub fn has_partings(&self) -> bool {
-        !self.partings.is_empty()
+    /// Whether a line named a fault.
+    pub fn is_faulty(&self) -> bool
+        ensures { result ≡ self.now.faulty }
+    {
+        self.faulty
     }
 
-    /// Whether somebody is connected.
-    pub fn has_clients(&self) -> bool {
-        !self.clients.is_empty()
+    /// How long to wait until something comes: not at all where somebody goes on at once; half a second where something is to be looked
+    /// at again though nothing comes, as a door that failed for the moment, somebody who takes their leave, or where clients are left
+    /// for their silence, one of them; else as long as it takes.
+    pub fn wait(&self, at_once: bool, leaves_idle: bool) -> Option<Duration>
+        ensures partings { result ≡ None → length self.now.partings.leaving.items ≡ 0 }
+        ensures clients { result ≡ None → leaves_idle ≡ true → length self.now.connected.clients.items ≡ 0 }
+    {
+        if at_once {
+            return Some(Duration::ZERO);
+        }
+        if self.retries || self.partings.len() > 0 || leaves_idle && self.connected.len() > 0 {
+            return Some(Duration::from_millis(TICK));
+        }
+        None
     }
 
-    /// Accepts connections while there are seats, up to so many in all.
-    pub fn accept_all<E: Export, L: Door<Connection = C>, W: Write>(
+    /// Lets in who is at the door, gives each client its turns, and lets those go that have said all or were silent for too long. Tells
+    /// whether somebody goes on at once.
+    ///
+    /// # Errors
+    ///
+    /// [`Stop::Socket`] where no connection can be accepted any more; where a line can't be printed, as [`tell_end`].
+    pub fn serve_once<E: Export, L: Door<Connection = C>, W: Write>(
         &mut self,
         hub: &mut Sessions<E>,
         door: &L,
         registry: &Registry,
-        sessions: u64,
+        budget: Budget,
+        idle: Option<Duration>,
         output: &mut W,
-    ) -> Result<(), Stop>
-        ensures { GoesOn E.later hub.old hub.new }
+    ) -> Result<bool, Stop>
+        ensures goes_on { GoesOn E.later hub.old hub.new }
+        ensures sessions { self.new.sessions ≡ self.old.sessions }
+        ensures told { OnOk result (Tells (W.contents output.old) (W.contents output.new)
+            (standing self.old.ended self.old.accepted self.old.connected.numbers.items self.old.faulty)
+            (standing self.new.ended self.new.accepted self.new.connected.numbers.items self.new.faulty)) }
     {
-        self.retries = false;
-        for _ in 0..MOST {
-            if !self.may_accept(sessions) {
-                break;
-            }
-            match door.accept() {
-                Ok(connection) => {
-                    self.accepted = self.accepted.saturating_add(1);
-                    let number = self.accepted;
-                    if let Err(fault) = self.seat(hub, connection, number, door.now(), registry) {
-                        self.faulty = true;
-                        tell_end(output, number, Some(fault))?;
-                    }
-                }
-                Err(e) => {
-                    if e.kind() == ErrorKind::WouldBlock {
-                        self.knocks = false;
-                    } else if passes(&e) {
-                        self.retries = true;
-                        break;
-                    } else if e.kind() != ErrorKind::Interrupted {
-                        return Err(Stop::Socket);
-                    }
-                }
-            }
-        }
-        Ok(())
-    }
-
-    /// Gives a connection its session and its seat.
-    fn seat<E: Export>(
-        &mut self,
-        hub: &mut Sessions<E>,
-        connection: C,
-        number: u64,
-        now: Option<Duration>,
-        registry: &Registry,
-    ) -> Result<(), ServeFault>
-        ensures { GoesOn E.later hub.old hub.new }
-    {
-        let none = ServeFault::Hub(HubFault::NoMemory);
-        if connection.prepare().is_err() {
-            return Err(ServeFault::Read);
-        }
-        let fd = connection.as_raw_fd();
-        let socket = Socket::new(self.alloc, connection).map_err(|_| none)?;
-        accept(&mut self.clients, self.alloc, socket, hub).map_err(ServeFault::Hub)?;
-        let at = self.clients.len().saturating_sub(1);
-        let seat = Seat {
-            number,
-            ready: true,
-            done: false,
-            heard: now,
-        };
-        if self.seats.push(seat).is_err() {
-            self.drop_client(hub, at);
-            return Err(none);
-        }
-        let id = match self.clients.get(at) {
-            Some(client) => client.id(),
-            None => 0,
-        };
-        let both = Interest::READABLE | Interest::WRITABLE;
-        if registry
-            .register(&mut SourceFd(&fd), Token(id as usize), both)
-            .is_err()
-        {
-            let _ = self.seats.pop();
-            self.drop_client(hub, at);
-            return Err(ServeFault::Read);
-        }
-        Ok(())
-    }
-
-    fn drop_client<E: Export>(&mut self, hub: &mut Sessions<E>, at: usize)
-        ensures { GoesOn E.later hub.old hub.new }
-    {
-        if at < self.clients.len() {
-            let _client = leave(&mut self.clients, at, hub);
-        }
+        self.accept_all(hub, door, registry, output)?;
+        let goes_on = self.round(hub, budget, door.now(), output)?;
+        let parts_on = self.part_all(door.now());
+        self.leave_idle(hub, idle, door.now(), output)?;
+        Ok(goes_on || parts_on || self.may_accept())
     }
 
     /// Each client that may go on has its turns, one after the other. Tells whether some client goes on at once.
-    pub fn round<E: Export, W: Write>(
+    ///
+    /// # Errors
+    ///
+    /// Where a line can't be printed, as [`tell_end`].
+    fn round<E: Export, W: Write>(
         &mut self,
         hub: &mut Sessions<E>,
         budget: Budget,
         now: Option<Duration>,
         output: &mut W,
     ) -> Result<bool, Stop>
-        ensures { GoesOn E.later hub.old hub.new }
+        ensures goes_on { GoesOn E.later hub.old hub.new }
+        ensures sessions { self.new.sessions ≡ self.old.sessions }
+        ensures told { OnOk result (Tells (W.contents output.old) (W.contents output.new)
+            (standing self.old.ended self.old.accepted self.old.connected.numbers.items self.old.faulty)
+            (standing self.new.ended self.new.accepted self.new.connected.numbers.items self.new.faulty)) }
     {
         let mut goes_on = false;
         let mut at = 0;
         for _ in 0..MOST {
-            if at >= self.clients.len() {
+            if at >= self.connected.len() {
                 break;
             }
-            match self.turns_of(hub, at, budget, now) {
-                Came::On => {
-                    goes_on = true;
-                    at += 1;
-                }
-                Came::Waits | Came::Hungry => at += 1,
-                Came::Done => {
-                    self.part(hub, at, None, output)?;
-                    goes_on = true;
-                }
-                Came::Failed(fault) => {
-                    self.part(hub, at, Some(fault), output)?;
-                    goes_on = true;
-                }
-            }
+            let (next, at_once) = self.turns_at(hub, at, budget, now, output)?;
+            at = next;
+            goes_on = goes_on || at_once;
         }
         Ok(goes_on)
     }
 
-    /// The turns of one client, and what it then holds is handed on where nothing follows at once.
-    fn turns_of<E: Export>(
+    /// The client at this place has its turns, and leaves where it is done or failed. Tells the next one's place, and whether
+    /// some client goes on at once.
+    fn turns_at<E: Export, W: Write>(
         &mut self,
         hub: &mut Sessions<E>,
         at: usize,
         budget: Budget,
         now: Option<Duration>,
-    ) -> Came
-        ensures { GoesOn E.later hub.old hub.new }
+        output: &mut W,
+    ) -> Result<(usize, bool), Stop>
+        requires { at < length self.old.connected.clients.items }
+        ensures goes_on { GoesOn E.later hub.old hub.new }
+        ensures sessions { self.new.sessions ≡ self.old.sessions }
+        ensures told { OnOk result (Tells (W.contents output.old) (W.contents output.new)
+            (standing self.old.ended self.old.accepted self.old.connected.numbers.items self.old.faulty)
+            (standing self.new.ended self.new.accepted self.new.connected.numbers.items self.new.faulty)) }
     {
-        let Some(seat) = self.seats.get_mut(at) else {
-            return Came::Waits;
-        };
-        if !seat.ready {
-            return Came::Waits;
-        }
-        seat.heard = now;
-        let came = if seat.done {
-            Came::Done
-        } else {
-            self.go_on(hub, at, budget)
-        };
-        let flushed = match came {
-            Came::Done | Came::Hungry => match self.clients.get_mut(at) {
-                Some(client) => client.flush(),
-                None => Ok(()),
-            },
-            _ => Ok(()),
-        };
-        let blocked = match flushed {
-            Ok(()) => false,
-            Err(e) => {
-                if e.kind() == ErrorKind::WouldBlock {
-                    true
-                } else {
-                    return Came::Failed(ServeFault::Write);
-                }
+        match self.connected.turns_of(hub, at, budget, now) {
+            Came::On => Ok((at + 1, true)),
+            Came::Waits | Came::Hungry => Ok((at + 1, false)),
+            Came::Done => {
+                self.part(hub, at, output)?;
+                Ok((at, true))
             }
-        };
-        let Some(seat) = self.seats.get_mut(at) else {
-            return came;
-        };
-        seat.done = came == Came::Done;
-        if came == Came::Waits || came == Came::Done && blocked {
-            seat.ready = false;
-            return Came::Waits;
-        }
-        came
-    }
-
-    fn go_on<E: Export>(&mut self, hub: &mut Sessions<E>, at: usize, budget: Budget) -> Came
-        ensures { GoesOn E.later hub.old hub.new }
-    {
-        if at < self.clients.len() {
-            go_on(&mut self.clients, at, hub, budget)
-        } else {
-            Came::Waits
+            Came::Failed(fault) => {
+                self.leave(hub, at, fault, output)?;
+                Ok((at, true))
+            }
         }
     }
 
-    /// A client's session ends, and its line is printed. Where it had no fault its late input is still read.
+    /// A client's session ends without a fault, and its line is printed. Its late input is still read.
     fn part<E: Export, W: Write>(
         &mut self,
         hub: &mut Sessions<E>,
         at: usize,
-        fault: Option<ServeFault>,
         output: &mut W,
     ) -> Result<(), Stop>
-        ensures { GoesOn E.later hub.old hub.new }
+        requires { at < length self.old.connected.clients.items }
+        ensures goes_on { GoesOn E.later hub.old hub.new }
+        ensures sessions { self.new.sessions ≡ self.old.sessions }
+        ensures told { OnOk result (Tells (W.contents output.old) (W.contents output.new)
+            (standing self.old.ended self.old.accepted self.old.connected.numbers.items self.old.faulty)
+            (standing self.new.ended self.new.accepted self.new.connected.numbers.items self.new.faulty)) }
     {
-        if at >= self.clients.len() || at >= self.seats.len() {
-            return Ok(());
-        }
-        let seat = self.seats.remove(at);
-        let client = leave(&mut self.clients, at, hub);
-        let ended = client.stream().connection().end_output();
-        if fault.is_some() {
-            self.faulty = true;
-        } else if ended.is_ok() {
-            let _ = self.partings.push(Parting::new(client));
-        }
-        tell_end(output, seat.number, fault)
+        let (number, client) = self.connected.leave(hub, at);
+        self.ended += 1;
+        self.partings.add(client);
+        tell_end(output, number, None)
+    }
+
+    /// A client is left for a fault, and its line is printed.
+    fn leave<E: Export, W: Write>(
+        &mut self,
+        hub: &mut Sessions<E>,
+        at: usize,
+        fault: ServeFault,
+        output: &mut W,
+    ) -> Result<(), Stop>
+        requires { at < length self.old.connected.clients.items }
+        ensures goes_on { GoesOn E.later hub.old hub.new }
+        ensures sessions { self.new.sessions ≡ self.old.sessions }
+        ensures told { OnOk result (Tells (W.contents output.old) (W.contents output.new)
+            (standing self.old.ended self.old.accepted self.old.connected.numbers.items self.old.faulty)
+            (standing self.new.ended self.new.accepted self.new.connected.numbers.items self.new.faulty)) }
+    {
+        let (number, client) = self.connected.leave(hub, at);
+        self.ended += 1;
+        self.faulty = true;
+        let _ = client.stream().connection().end_output();
+        tell_end(output, number, Some(fault))
     }
 
     /// Reads the late input of those that take their leave, and lets those go that have said all, failed, or been silent for
     /// too long. Tells whether some goes on at once.
-    pub fn part_all(&mut self, now: Option<Duration>) -> bool {
-        let mut goes_on = false;
-        let mut at = 0;
-        for _ in 0..MOST {
-            if at >= self.partings.len() {
-                break;
-            }
-            let stays = match self.partings.get_mut(at) {
-                Some(parting) => parting.hear(now),
-                None => false,
-            };
-            if stays {
-                match self.partings.get(at) {
-                    Some(parting) => {
-                        if parting.is_ready() {
-                            goes_on = true;
-                        }
-                    }
-                    None => {}
-                }
-                at += 1;
-            } else {
-                let _parting = self.partings.remove(at);
-            }
-        }
-        goes_on
+    fn part_all(&mut self, now: Option<Duration>) -> bool
+        ensures sessions { self.new.sessions ≡ self.old.sessions }
+        ensures stands { standing self.new.ended self.new.accepted self.new.connected.numbers.items self.new.faulty
+            ≡ standing self.old.ended self.old.accepted self.old.connected.numbers.items self.old.faulty }
+    {
+        self.partings.hear(now)
     }
 
     /// Notes which clients may go on by what the system says.
-    pub fn note(&mut self, events: &Events<Global>, waited: bool) {
+    pub fn note(&mut self, events: &Events<Global>, waited: bool)
+        ensures sessions { self.new.sessions ≡ self.old.sessions }
+        ensures stands { standing self.new.ended self.new.accepted self.new.connected.numbers.items self.new.faulty
+            ≡ standing self.old.ended self.old.accepted self.old.connected.numbers.items self.old.faulty }
+    {
         let mut heard = false;
         for event in events {
             heard = true;
             let token = event.token();
+            self.knocks |= token == DOOR;
             let closed = event.is_read_closed() || event.is_error();
-            if token == DOOR {
-                self.knocks = true;
-            }
-            for at in 0..self.clients.len() {
-                if let (Some(client), Some(seat)) = (self.clients.get(at), self.seats.get_mut(at)) {
-                    if client.id() as usize == token.0 {
-                        client.stream().wake(closed);
-                        seat.ready = true;
-                    }
-                }
-            }
-            for at in 0..self.partings.len() {
-                if let Some(parting) = self.partings.get_mut(at) {
-                    if parting.id() as usize == token.0 {
-                        parting.wake();
-                    }
-                }
-            }
+            self.connected.wake(token, closed);
+            self.partings.wake(token);
         }
         if waited && !heard {
-            for at in 0..self.partings.len() {
-                if let Some(parting) = self.partings.get_mut(at) {
-                    parting.wait();
-                }
-            }
+            self.partings.wait();
         }
     }
 
     /// Ends the sessions of those that were silent for so long, where there is a limit and a clock.
-    pub fn leave_idle<E: Export, W: Write>(
+    ///
+    /// # Errors
+    ///
+    /// Where a line can't be printed, as [`tell_end`].
+    fn leave_idle<E: Export, W: Write>(
         &mut self,
         hub: &mut Sessions<E>,
         idle: Option<Duration>,
         now: Option<Duration>,
         output: &mut W,
     ) -> Result<(), Stop>
-        ensures { GoesOn E.later hub.old hub.new }
+        ensures goes_on { GoesOn E.later hub.old hub.new }
+        ensures sessions { self.new.sessions ≡ self.old.sessions }
+        ensures told { OnOk result (Tells (W.contents output.old) (W.contents output.new)
+            (standing self.old.ended self.old.accepted self.old.connected.numbers.items self.old.faulty)
+            (standing self.new.ended self.new.accepted self.new.connected.numbers.items self.new.faulty)) }
     {
         let (Some(idle), Some(now)) = (idle, now) else {
             return Ok(());
         };
         let mut at = 0;
         for _ in 0..MOST {
-            if at >= self.clients.len() {
+            if at >= self.connected.len() {
                 break;
             }
-            let silent = match self.seats.get(at) {
-                Some(seat) => match seat.heard {
-                    Some(heard) => now.saturating_sub(heard) >= idle,
-                    None => false,
-                },
-                None => false,
-            };
-            if silent {
-                self.part(hub, at, None, output)?;
-            } else {
-                at += 1;
-            }
+            at = self.part_if_silent(hub, at, idle, now, output)?;
         }
         Ok(())
     }
-}
 
-/// Whether another `accept` may succeed.
-fn passes(error: &io::Error) -> bool {
-    match error.raw_os_error() {
-        Some(code) => PASSING.contains(&code),
-        None => false,
+    /// Ends the session of the client at this place if it was silent for so long. Tells the next one's place.
+    fn part_if_silent<E: Export, W: Write>(
+        &mut self,
+        hub: &mut Sessions<E>,
+        at: usize,
+        idle: Duration,
+        now: Duration,
+        output: &mut W,
+    ) -> Result<usize, Stop>
+        requires { at < length self.old.connected.clients.items }
+        ensures goes_on { GoesOn E.later hub.old hub.new }
+        ensures sessions { self.new.sessions ≡ self.old.sessions }
+        ensures told { OnOk result (Tells (W.contents output.old) (W.contents output.new)
+            (standing self.old.ended self.old.accepted self.old.connected.numbers.items self.old.faulty)
+            (standing self.new.ended self.new.accepted self.new.connected.numbers.items self.new.faulty)) }
+    {
+        if self.connected.is_silent(at, idle, now) {
+            self.part(hub, at, output)?;
+            return Ok(at);
+        }
+        Ok(at + 1)
     }
 }

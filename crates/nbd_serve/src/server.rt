@@ -1,8 +1,11 @@
 //! The loop.
 
+ghost use Rattle.std.specs.Prelude.{◌≡◌, IfOk};
+ghost use Rattle.nbd_serve.specs.Lines.{standing, IsServed, IsServing};
 ghost use Rattle.nbd_serve.specs.Serving.{GoesOn};
 
 use crate::budget::Budget;
+use crate::connection::Connection;
 use crate::door::Door;
 use crate::line::tell_listening;
 use crate::room::{DOOR, Room};
@@ -11,6 +14,7 @@ use mio::unix::SourceFd;
 use mio::{Events, Interest, Poll};
 use nbd_hub::Sessions;
 use nbd_session::Export;
+use std::alloc::Global;
 use std::io::{self, ErrorKind, Write};
 use std::net::{Net, SocketAddr, TcpListener, TcpStream};
 use std::os::fd::AsRawFd;
@@ -18,9 +22,6 @@ use std::time::Duration;
 
 /// How many events are taken at once.
 const EVENTS: usize = 128;
-
-/// How many milliseconds are waited where something is to be looked at again though nothing comes.
-const TICK: u64 = 500;
 
 /// Makes a poll, which opens no socket: so it needs none of a network's calls.
 struct NoNet;
@@ -53,7 +54,8 @@ pub fn serve_clients<E: Export, L: Door, W: Write>(
     sessions: u64,
     output: &mut W,
 ) -> Result<bool, Stop>
-    ensures { GoesOn E.later hub.old hub.new }
+    ensures goes_on { GoesOn E.later hub.old hub.new }
+    ensures served { IfOk result (IsServed (W.contents output.old) (W.contents output.new) sessions) }
 {
     tell_listening(output)?;
     if sessions == 0 {
@@ -81,6 +83,7 @@ fn socket(error: io::Error) -> Stop {
     }
 }
 
+/// Serves so many connections once clients are waited for.
 fn serve_each<E: Export, L: Door, W: Write>(
     hub: &mut Sessions<E>,
     door: &L,
@@ -88,40 +91,48 @@ fn serve_each<E: Export, L: Door, W: Write>(
     sessions: u64,
     output: &mut W,
 ) -> Result<bool, Stop>
-    ensures { GoesOn E.later hub.old hub.new }
+    ensures goes_on { GoesOn E.later hub.old hub.new }
+    ensures serves { IfOk result (IsServing (W.contents output.old) (W.contents output.new) sessions) }
 {
     let alloc = hub.allocator();
     let limits = door.limits();
     let budget = Budget::of(limits.pending);
     let mut events = Events::with_capacity(alloc, EVENTS)?;
-    let mut room = Room::new(alloc)?;
+    let mut room = Room::new(alloc, sessions)?;
     for _ in 0..u64::MAX {
-        room.accept_all(hub, door, poll.registry(), sessions, output)?;
-        let goes_on = room.round(hub, budget, door.now(), output)?;
-        let parts_on = room.part_all(door.now());
-        room.leave_idle(hub, limits.idle, door.now(), output)?;
-        if room.is_empty(sessions) {
-            return Ok(!room.faulty);
+        let at_once = room.serve_once(hub, door, poll.registry(), budget, limits.idle, output)?;
+        if room.is_empty() {
+            return Ok(!room.is_faulty());
         }
-        let ticks = room.retries
-            || room.has_partings()
-            || limits.idle.is_some() && room.has_clients();
-        let at_once = goes_on || parts_on || room.may_accept(sessions);
-        let wait = if at_once {
-            Some(Duration::ZERO)
-        } else if ticks {
-            Some(Duration::from_millis(TICK))
-        } else {
-            None
-        };
-        match poll.poll(&mut events, wait) {
-            Ok(()) => room.note(&events, !at_once),
-            Err(e) => {
-                if e.kind() != ErrorKind::Interrupted {
-                    return Err(socket(e));
-                }
+        let wait = room.wait(at_once, limits.idle.is_some());
+        look(&mut room, poll, &mut events, wait, !at_once)?;
+    }
+    Err(Stop::Socket)
+}
+
+/// Waits so long at most, and notes who may go on.
+fn look<C: Connection + Drop>(
+    room: &mut Room<C>,
+    poll: &mut Poll,
+    events: &mut Events<Global>,
+    wait: Option<Duration>,
+    waits: bool,
+) -> Result<(), Stop>
+    ensures sessions { room.new.sessions ≡ room.old.sessions }
+    ensures stands { standing room.new.ended room.new.accepted room.new.connected.numbers.items room.new.faulty
+        ≡ standing room.old.ended room.old.accepted room.old.connected.numbers.items room.old.faulty }
+{
+    match poll.poll(events, wait) {
+        Ok(()) => {
+            room.note(events, waits);
+            Ok(())
+        }
+        Err(e) => {
+            if e.kind() == ErrorKind::Interrupted {
+                Ok(())
+            } else {
+                Err(socket(e))
             }
         }
     }
-    Ok(!room.faulty)
 }

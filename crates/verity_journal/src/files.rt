@@ -65,7 +65,10 @@ impl<F: RawFile, A: Allocator> FileDisks<F, A> {
         requires data_unknown { F.bytes data_file ≡ None }
         requires hash_unknown { F.bytes hash_file ≡ None }
         requires journal_unknown { F.bytes journal_file ≡ None }
-        ensures { result.past.moments ≡ [] }
+        ensures data_len { length (read_of result.files.on_data) ≡ data_len }
+        ensures hash_len { length (read_of result.files.on_hash) ≡ hash_len }
+        ensures journal { read_of result.files.on_journal ≡ journal.items }
+        ensures past { result.past.moments ≡ [] }
     {
         let on_journal = FileDevice::holding(journal_file, &journal);
         FileDisks::new(

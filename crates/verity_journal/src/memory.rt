@@ -36,6 +36,8 @@ impl<A: Allocator + Copy> TearingDisks<A> {
           on_hash = record { durable = on_hash.items; log = [] };
           on_journal = record { durable = on_journal.items; log = [] };
         }) }
+        ensures calls { IfOk result (λ d. d.calls_left ≡ calls) }
+        ensures failed { IfOk result (λ d. d.failed.steps ≡ 0) }
     {
         let data_device = TearingDevice::new(alloc, on_data)?;
         let hash_device = TearingDevice::new(alloc, on_hash)?;

@@ -48,31 +48,46 @@ pub enum Request<'a> {
 const VERSION: &str = "0.1";
 
 fn tool<'a>(alloc: Global) -> Result<Command<'a>, AllocError> {
-    Command::new(alloc, "dalgovuun")
+    let tool = Command::new(alloc, "dalgovuun")
         .about("Makes, edits, verifies and serves dm-verity volumes")
-        .version(VERSION)
-        .subcommand(format_command(alloc)?)?
-        .subcommand(dump_command(alloc)?)?
-        .subcommand(edit_command(alloc)?)?
-        .subcommand(update_command(alloc)?)?
-        .subcommand(recover_command(alloc)?)?
-        .subcommand(verify_command(alloc)?)?
-        .subcommand(serve_command(alloc)?)?
-        .subcommand(talk_command(alloc)?)
+        .version(VERSION);
+    let tool = with(tool, format_command(alloc))?;
+    let tool = with(tool, dump_command(alloc))?;
+    let tool = with(tool, edit_command(alloc))?;
+    let tool = with(tool, update_command(alloc))?;
+    let tool = with(tool, recover_command(alloc))?;
+    let tool = with(tool, verify_command(alloc))?;
+    let tool = with(tool, serve_command(alloc))?;
+    with(tool, talk_command(alloc))
+}
+
+/// One command more.
+fn with<'a>(
+    tool: Command<'a>,
+    command: Result<Command<'a>, AllocError>,
+) -> Result<Command<'a>, AllocError> {
+    tool.subcommand(command?)
 }
 
 fn asked<'a>(matches: &ArgMatches<'a>) -> Option<Request<'a>> {
     match matches.subcommand() {
         None => Some(Request::Scratch),
-        Some(("format", below)) => Some(Request::Format(format_words(below)?)),
-        Some(("dump", below)) => Some(Request::Dump(dump_words(below)?)),
-        Some(("edit", below)) => Some(Request::Edit(edit_words(below)?)),
-        Some(("verify", below)) => Some(Request::Verify(verify_words(below)?)),
-        Some(("serve", below)) => Some(Request::Serve(serve_words(below)?)),
-        Some(("talk", below)) => Some(Request::Talk(talk_words(below)?)),
-        Some(("recover", below)) => Some(Request::Recover(recover_words(below)?)),
-        Some(("update", below)) => Some(Request::Update(update_words(below)?)),
-        Some(_) => None,
+        Some((name, below)) => asked_by(name, below),
+    }
+}
+
+/// The request of a command.
+fn asked_by<'a>(name: &str, below: &ArgMatches<'a>) -> Option<Request<'a>> {
+    match name {
+        "format" => format_words(below).map(Request::Format),
+        "dump" => dump_words(below).map(Request::Dump),
+        "edit" => edit_words(below).map(Request::Edit),
+        "verify" => verify_words(below).map(Request::Verify),
+        "serve" => serve_words(below).map(Request::Serve),
+        "talk" => talk_words(below).map(Request::Talk),
+        "recover" => recover_words(below).map(Request::Recover),
+        "update" => update_words(below).map(Request::Update),
+        _ => None,
     }
 }
 

@@ -1,0 +1,18 @@
+use Rattle.std.proofs.Common.{◌∙◌, refl}
+use Rattle.nbd_serve.proofs.Servings.{goes_on, goes_same}
+use Rattle.nbd_serve.proofs.Tellings.{tells_none, tells_then}
+use Rattle.nbd_serve.proofs.room.Room.round.Goals as goal
+
+pub loop-preserved : goal.loop-preserved
+loop-preserved g c = record {
+  goes_on = goes_on g.E.Export.later g.met.E.Export.later_on _ _ _ c.loop.invariant.goes_on c.turns_at.ensures.goes_on;
+  sessions = c.turns_at.ensures.sessions ∙ c.loop.invariant.sessions;
+  told = tells_then _ _ _ _ _ _ c.loop.invariant.told c.in_ok-next.ensures.told;
+}
+
+pub loop-init : goal.loop-init
+loop-init g c = record {
+  goes_on = goes_same g.E.Export.later g.met.E.Export.later_same c.args.hub.now;
+  sessions = refl;
+  told = tells_none _ _;
+}

@@ -1,0 +1,202 @@
+//! The clients that are connected, each with its seat.
+
+ghost use Rattle.std.specs.Prelude.{◌≡◌, ◌+◌, ◌<◌, [], ◌∷◌, ◌++◌, length, slice_get, Some, IfOk, OnOk, OnErr};
+ghost use Rattle.std.specs.List.{remove};
+ghost use Rattle.nbd_serve.specs.Serving.{GoesOn};
+
+use crate::budget::Budget;
+use crate::connection::Connection;
+use crate::socket::Socket;
+use crate::turns::{Came, go_on};
+use mio::unix::SourceFd;
+use mio::{Interest, Registry, Token};
+use nbd_hub::{HubFault, ServeFault, Sessions};
+use nbd_relay::{Client, accept, leave};
+use nbd_session::Export;
+use std::alloc::{AllocError, Global};
+use std::io::ErrorKind;
+use std::time::Duration;
+
+/// What is kept of a client beside its relay.
+#[derive(Clone, Copy, Debug)]
+struct Seat {
+    /// Whether it may go on.
+    ready: bool,
+    /// Whether all was said, and the last bytes are to be handed on.
+    done: bool,
+    /// When something last came of it.
+    heard: Option<Duration>,
+}
+
+/// The clients that are connected, with a seat and a number for each at the same place.
+#[derive(Drop)]
+pub struct Connected<C: Connection> {
+    alloc: Global,
+    clients: Vec<Client<Socket<C>>>,
+    seats: Vec<Seat>,
+    /// Under which each was accepted.
+    pub(crate) numbers: Vec<u64>,
+    ghost placed: { length seats.items ≡ length clients.items },
+    ghost numbered: { length numbers.items ≡ length clients.items },
+}
+
+impl<C: Connection + Drop> Connected<C> {
+    /// Nobody is there. It takes memory for so many clients' places.
+    pub fn new(alloc: Global, most: usize) -> Result<Connected<C>, AllocError>
+        ensures clients { IfOk result (λ connected. connected.clients.items ≡ []) }
+        ensures numbers { IfOk result (λ connected. connected.numbers.items ≡ []) }
+    {
+        Ok(Connected {
+            alloc,
+            clients: Vec::with_capacity(alloc, most)?,
+            seats: Vec::with_capacity(alloc, most)?,
+            numbers: Vec::with_capacity(alloc, most)?,
+        })
+    }
+
+    /// How many there are.
+    pub fn len(&self) -> usize
+        ensures clients { result ≡ length self.now.clients.items }
+        ensures numbers { result ≡ length self.now.numbers.items }
+    {
+        self.clients.len()
+    }
+
+    /// Gives a connection its session and its seat.
+    ///
+    /// # Errors
+    ///
+    /// N1 where the system refuses to have it wait for nothing or to watch it, N5 where no session could be opened, of H2 also where
+    /// memory was refused. Nobody is added then.
+    pub fn seat<E: Export>(
+        &mut self,
+        hub: &mut Sessions<E>,
+        connection: C,
+        number: u64,
+        now: Option<Duration>,
+        registry: &Registry,
+    ) -> Result<(), ServeFault>
+        ensures goes_on { GoesOn E.later hub.old hub.new }
+        ensures added { OnOk result (length self.new.clients.items ≡ length self.old.clients.items + 1) }
+        ensures refused { OnErr result (length self.new.clients.items ≡ length self.old.clients.items) }
+        ensures number { OnOk result (self.new.numbers.items ≡ self.old.numbers.items ++ number ∷ []) }
+        ensures numbers { OnErr result (self.new.numbers.items ≡ self.old.numbers.items) }
+    {
+        let none = ServeFault::Hub(HubFault::NoMemory);
+        if connection.prepare().is_err() {
+            return Err(ServeFault::Read);
+        }
+        let fd = connection.as_raw_fd();
+        let socket = Socket::new(self.alloc, connection).map_err(|_| none)?;
+        if self.seats.reserve(1).is_err() || self.numbers.reserve(1).is_err() {
+            return Err(none);
+        }
+        if let Err(fault) = accept(&mut self.clients, self.alloc, socket, hub) {
+            return Err(ServeFault::Hub(fault));
+        }
+        let at = self.clients.len() - 1;
+        let token = Token(self.clients[at].id() as usize);
+        let both = Interest::READABLE | Interest::WRITABLE;
+        if registry.register(&mut SourceFd(&fd), token, both).is_err() {
+            let _client = leave(&mut self.clients, at, hub);
+            return Err(ServeFault::Read);
+        }
+        let seat = Seat {
+            ready: true,
+            done: false,
+            heard: now,
+        };
+        match (self.seats.push(seat), self.numbers.push(number)) {
+            (Ok(()), Ok(())) => Ok(()),
+            _ => unreachable!(),
+        }
+    }
+
+    /// The session of the client at this place ends. The client is handed out, with its number; the others stay in their order.
+    pub fn leave<E: Export>(&mut self, hub: &mut Sessions<E>, at: usize) -> (u64, Client<Socket<C>>)
+        requires { at < length self.old.clients.items }
+        ensures goes_on { GoesOn E.later hub.old hub.new }
+        ensures clients { self.new.clients.items ≡ remove self.old.clients.items at }
+        ensures numbers { self.new.numbers.items ≡ remove self.old.numbers.items at }
+        ensures number { slice_get self.old.numbers.items at ≡ Some result.0 }
+    {
+        let _seat = self.seats.remove(at);
+        let number = self.numbers.remove(at);
+        let client = leave(&mut self.clients, at, hub);
+        (number, client)
+    }
+
+    /// The turns of one client, and what it then holds is handed on where nothing follows at once.
+    pub fn turns_of<E: Export>(
+        &mut self,
+        hub: &mut Sessions<E>,
+        at: usize,
+        budget: Budget,
+        now: Option<Duration>,
+    ) -> Came
+        requires { at < length self.old.clients.items }
+        ensures goes_on { GoesOn E.later hub.old hub.new }
+        ensures count { length self.new.clients.items ≡ length self.old.clients.items }
+        ensures numbers { self.new.numbers.items ≡ self.old.numbers.items }
+    {
+        let seat = &mut self.seats[at];
+        if !seat.ready {
+            return Came::Waits;
+        }
+        seat.heard = now;
+        let came = if seat.done {
+            Came::Done
+        } else {
+            go_on(&mut self.clients, at, hub, budget)
+        };
+        let flushed = match came {
+            Came::Done | Came::Hungry => {
+                let client = &mut self.clients[at];
+                client.flush()
+            }
+            _ => Ok(()),
+        };
+        let blocked = match flushed {
+            Ok(()) => false,
+            Err(e) => {
+                if e.kind() == ErrorKind::WouldBlock {
+                    true
+                } else {
+                    return Came::Failed(ServeFault::Write);
+                }
+            }
+        };
+        let seat = &mut self.seats[at];
+        seat.done = came == Came::Done;
+        if came == Came::Waits || came == Came::Done && blocked {
+            seat.ready = false;
+            return Came::Waits;
+        }
+        came
+    }
+
+    /// Whether the client at this place was silent for so long.
+    pub fn is_silent(&self, at: usize, idle: Duration, now: Duration) -> bool
+        requires { at < length self.now.clients.items }
+    {
+        match self.seats[at].heard {
+            Some(heard) => now.saturating_sub(heard) >= idle,
+            None => false,
+        }
+    }
+
+    /// The system says that the client of this token may go on, and whether it says no more.
+    pub fn wake(&mut self, token: Token, closed: bool)
+        ensures count { length self.new.clients.items ≡ length self.old.clients.items }
+        ensures numbers { self.new.numbers.items ≡ self.old.numbers.items }
+    {
+        'each: for at in 0..self.clients.len() {
+            let client = &self.clients[at];
+            if client.id() as usize == token.0 {
+                client.stream().wake(closed);
+                let seat = &mut self.seats[at];
+                seat.ready = true;
+            }
+        }
+    }
+}
