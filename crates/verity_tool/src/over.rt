@@ -157,13 +157,26 @@ fn do_through<R: Files<File = File> + Clock + Eprint + AllocGlobal, T: Work, W: 
         return do_in_place(rt, words, line, work, data, hash, output, errors);
     };
     let names = volume_names(rt, &data, words.data_path, &hash, words.hash_path)?;
-    let keeper = make_whole(rt, words, path, &data, &hash, &names, errors)?;
-    let data = data.seen_again()?;
-    let hash = hash.seen_again()?;
-    let mut commits = Journalled::new(rt, path, &names, data, hash, keeper);
+    let mut commits = journalled(rt, words, path, &names, &data, &hash, errors)?;
     let done = do_staged(rt, words, line, work, &mut commits, output, errors);
     commits.end();
     done
+}
+
+/// The commits through a journal, once what stands in it is made whole.
+fn journalled<'a, R: Files<File = File> + AllocGlobal, E: Write>(
+    rt: &'a R,
+    words: &Words<'_>,
+    path: &'a str,
+    names: &'a str,
+    data: &Opened,
+    hash: &Opened,
+    errors: &mut E,
+) -> Result<Journalled<'a, R>, Failure> {
+    let keeper = make_whole(rt, words, path, data, hash, names, errors)?;
+    let data = data.seen_again()?;
+    let hash = hash.seen_again()?;
+    Ok(Journalled::new(rt, path, names, data, hash, keeper))
 }
 
 /// Makes whole what stands in the journal, which `errors` is told, and answers the journal where it is there.

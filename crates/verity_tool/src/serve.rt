@@ -1,7 +1,7 @@
 //! The command `serve`: serves a volume over NBD.
 
 use crate::failing::fail;
-use crate::opened::open_hub;
+use crate::opened::{FileHub, open_hub};
 use crate::told::Told;
 use nbd_serve::{Door, Limits, Stop, Watched};
 use std::fs::File;
@@ -35,18 +35,33 @@ pub fn serve<
     let limits = limits(words)?;
     let mut hub = open_hub(rt, words.table, words.name, cache, Command::Serve)?;
     let mut told = Told::new(output, errors, words.listen);
-    match words.listen.strip_prefix(UNIX) {
+    listen(rt, &mut hub, words.listen, limits, count, &mut told)
+}
+
+/// Serves at an address.
+fn listen<
+    R: Files<File = File> + Net<Stream = TcpStream, Listener = TcpListener> + Clock + AllocGlobal,
+    W: Write,
+>(
+    rt: &R,
+    hub: &mut FileHub,
+    address: &str,
+    limits: Limits,
+    count: u64,
+    output: &mut W,
+) -> Result<u8, Failure> {
+    match address.strip_prefix(UNIX) {
         // The system would find a name of its own for an empty path.
         Some("") => Err(Fault::Socket.into()),
         Some(path) => {
             let door = UnixListener::bind(rt, path).map_err(socket)?;
-            let status = serve_on(&mut hub, &watched(rt, door, limits), count, &mut told);
+            let status = serve_on(hub, &watched(rt, door, limits), count, output);
             let _ = rt.remove_file(path);
             Ok(status)
         }
         None => {
-            let door = TcpListener::bind(rt, words.listen).map_err(socket)?;
-            Ok(serve_on(&mut hub, &watched(rt, door, limits), count, &mut told))
+            let door = TcpListener::bind(rt, address).map_err(socket)?;
+            Ok(serve_on(hub, &watched(rt, door, limits), count, output))
         }
     }
 }

@@ -1,12 +1,14 @@
 //! The command `verify`: reports what is wrong in a volume.
 
 use crate::opened::open_stores;
+use std::alloc::Global;
 use std::fs::File;
 use std::io::{Eprint, IsTerminal, Write};
 use std::rt::Files;
 use std::time::Clock;
 use verity_check::{Place, Report, Verdict, Verifier};
 use verity_files::{Command, DONE, Failure, REFUSED};
+use verity_store::BlockStore;
 use verity_superblock::Table;
 use verity_volume::{end_progress, is_watched, progress_of};
 use verity_watch::Watched;
@@ -23,14 +25,33 @@ pub fn verify<R: Files<File = File> + Clock + Eprint + AllocGlobal, W: Write, E:
     output: &mut W,
     errors: &E,
 ) -> Result<u8, Failure> {
+    let report = report_of(rt, words, errors)?;
+    print_report(&report, output)
+}
+
+fn report_of<R: Files<File = File> + Clock + Eprint + AllocGlobal, E: IsTerminal>(
+    rt: &R,
+    words: &VerifyWords<'_>,
+    errors: &E,
+) -> Result<Report, Failure> {
     let table = Table::parse(rt.alloc(), words.table)?;
     let (data_store, hash_store) = open_stores(rt, &table, Command::Verify)?;
     let progress = progress_of(rt, is_watched(words.is_quiet, errors), &data_store);
     let watched = Watched::new(data_store, progress.as_ref());
-    let mut verifier = Verifier::new(rt.alloc(), table, watched, hash_store, CACHE)?;
-    let report = verifier.report();
+    let report = checked(rt.alloc(), table, watched, hash_store);
     end_progress(progress.as_ref());
-    print_report(&report?, output)
+    report
+}
+
+/// Checks each block of a volume.
+fn checked<D: BlockStore + Drop, H: BlockStore + Drop>(
+    alloc: Global,
+    table: Table,
+    data_store: D,
+    hash_store: H,
+) -> Result<Report, Failure> {
+    let mut verifier = Verifier::new(alloc, table, data_store, hash_store, CACHE)?;
+    Ok(verifier.report()?)
 }
 
 fn print_report<W: Write>(report: &Report, output: &mut W) -> Result<u8, Failure> {

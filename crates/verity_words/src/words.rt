@@ -48,25 +48,27 @@ pub enum Request<'a> {
 const VERSION: &str = "0.1";
 
 fn tool<'a>(alloc: Global) -> Result<Command<'a>, AllocError> {
-    let tool = Command::new(alloc, "dalgovuun")
-        .about("Makes, edits, verifies and serves dm-verity volumes")
-        .version(VERSION);
-    let tool = with(tool, format_command(alloc))?;
-    let tool = with(tool, dump_command(alloc))?;
-    let tool = with(tool, edit_command(alloc))?;
-    let tool = with(tool, update_command(alloc))?;
-    let tool = with(tool, recover_command(alloc))?;
-    let tool = with(tool, verify_command(alloc))?;
-    let tool = with(tool, serve_command(alloc))?;
+    let tool = Ok(
+        Command::new(alloc, "dalgovuun")
+            .about("Makes, edits, verifies and serves dm-verity volumes")
+            .version(VERSION),
+    );
+    let tool = with(tool, format_command(alloc));
+    let tool = with(tool, dump_command(alloc));
+    let tool = with(tool, edit_command(alloc));
+    let tool = with(tool, update_command(alloc));
+    let tool = with(tool, recover_command(alloc));
+    let tool = with(tool, verify_command(alloc));
+    let tool = with(tool, serve_command(alloc));
     with(tool, talk_command(alloc))
 }
 
-/// One command more.
+/// The program's words with one command more.
 fn with<'a>(
-    tool: Command<'a>,
+    tool: Result<Command<'a>, AllocError>,
     command: Result<Command<'a>, AllocError>,
 ) -> Result<Command<'a>, AllocError> {
-    tool.subcommand(command?)
+    tool?.subcommand(command?)
 }
 
 fn asked<'a>(matches: &ArgMatches<'a>) -> Option<Request<'a>> {

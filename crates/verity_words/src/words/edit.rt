@@ -1,6 +1,6 @@
 //! The words of `edit`.
 
-use super::parts::{journal, own_offset, own_table, path, quiet};
+use super::parts::{journal, own_offset, own_table, path, quiet, with_arg};
 use clap::{ArgMatches, Command};
 use std::alloc::{AllocError, Global};
 
@@ -24,16 +24,18 @@ pub struct EditWords<'a> {
 }
 
 pub fn edit_command<'a>(alloc: Global) -> Result<Command<'a>, AllocError> {
-    Command::new(alloc, "edit")
-        .about("Does a script's lines over a volume, and prints an answer to each")
-        .after_help(EXAMPLE)
-        .arg(path(alloc, "DATA", "The block image"))?
-        .arg(path(alloc, "HASH", "The hash device"))?
-        .arg(path(alloc, "SCRIPT", "The script"))?
-        .arg(own_offset(alloc))?
-        .arg(own_table(alloc))?
-        .arg(journal(alloc))?
-        .arg(quiet(alloc))
+    let command = Ok(
+        Command::new(alloc, "edit")
+            .about("Does a script's lines over a volume, and prints an answer to each")
+            .after_help(EXAMPLE),
+    );
+    let command = with_arg(command, path(alloc, "DATA", "The block image"));
+    let command = with_arg(command, path(alloc, "HASH", "The hash device"));
+    let command = with_arg(command, path(alloc, "SCRIPT", "The script"));
+    let command = with_arg(command, own_offset(alloc));
+    let command = with_arg(command, own_table(alloc));
+    let command = with_arg(command, journal(alloc));
+    with_arg(command, quiet(alloc))
 }
 
 pub fn edit_words<'a>(matches: &ArgMatches<'a>) -> Option<EditWords<'a>> {

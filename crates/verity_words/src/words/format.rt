@@ -1,6 +1,6 @@
 //! The words of `format`.
 
-use super::parts::{hash_offset, option, path, quiet};
+use super::parts::{hash_offset, option, path, quiet, with_arg};
 use clap::{ArgMatches, Command};
 use std::alloc::{AllocError, Global};
 
@@ -25,23 +25,43 @@ pub struct FormatWords<'a> {
 }
 
 pub fn format_command<'a>(alloc: Global) -> Result<Command<'a>, AllocError> {
-    Command::new(alloc, "format")
-        .about("Makes the hash device of a block image, and prints the table line")
-        .after_help(EXAMPLE)
-        .arg(path(alloc, "DATA", "The block image"))?
-        .arg(path(alloc, "HASH", "The hash device that is made"))?
-        .arg(option(alloc, "salt", "The salt in hexadecimal, or 'none'").required(true))?
-        .arg(option(alloc, "uuid", "The UUID of the volume").required(true))?
-        .arg(option(
+    let command = Ok(
+        Command::new(alloc, "format")
+            .about("Makes the hash device of a block image, and prints the table line")
+            .after_help(EXAMPLE),
+    );
+    let command = with_arg(command, path(alloc, "DATA", "The block image"));
+    let command = with_arg(command, path(alloc, "HASH", "The hash device that is made"));
+    let command = with_arg(
+        command,
+        option(alloc, "salt", "The salt in hexadecimal, or 'none'").required(true),
+    );
+    let command = with_arg(
+        command,
+        option(alloc, "uuid", "The UUID of the volume").required(true),
+    );
+    let command = with_arg(
+        command,
+        option(
             alloc,
             "data-blocks",
             "How many blocks of DATA, where not all",
-        ))?
-        .arg(option(alloc, "data-block-size", "Bytes in a data block").default_value("4096"))?
-        .arg(option(alloc, "hash-block-size", "Bytes in a hash block").default_value("4096"))?
-        .arg(option(alloc, "algorithm", "sha256 or sha512").default_value("sha256"))?
-        .arg(hash_offset(alloc))?
-        .arg(quiet(alloc))
+        ),
+    );
+    let command = with_arg(
+        command,
+        option(alloc, "data-block-size", "Bytes in a data block").default_value("4096"),
+    );
+    let command = with_arg(
+        command,
+        option(alloc, "hash-block-size", "Bytes in a hash block").default_value("4096"),
+    );
+    let command = with_arg(
+        command,
+        option(alloc, "algorithm", "sha256 or sha512").default_value("sha256"),
+    );
+    let command = with_arg(command, hash_offset(alloc));
+    with_arg(command, quiet(alloc))
 }
 
 pub fn format_words<'a>(matches: &ArgMatches<'a>) -> Option<FormatWords<'a>> {

@@ -1,7 +1,15 @@
 //! The arguments and options of which commands are made.
 
-use clap::{Arg, ArgAction};
-use std::alloc::Global;
+use clap::{Arg, ArgAction, Command};
+use std::alloc::{AllocError, Global};
+
+/// A command with one argument more.
+pub fn with_arg<'a>(
+    command: Result<Command<'a>, AllocError>,
+    arg: Arg<'a>,
+) -> Result<Command<'a>, AllocError> {
+    command?.arg(arg)
+}
 
 /// A required argument.
 pub fn path<'a>(alloc: Global, name: &'a str, help: &'a str) -> Arg<'a> {

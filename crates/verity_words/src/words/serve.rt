@@ -1,6 +1,6 @@
 //! The words of `serve`.
 
-use super::parts::{cache, name, option, table};
+use super::parts::{cache, name, option, table, with_arg};
 use clap::{ArgMatches, Command};
 use std::alloc::{AllocError, Global};
 
@@ -23,33 +23,45 @@ pub struct ServeWords<'a> {
 }
 
 pub fn serve_command<'a>(alloc: Global) -> Result<Command<'a>, AllocError> {
-    Command::new(alloc, "serve")
-        .about("Serves a volume over NBD, to up to 64 clients at once")
-        .after_help(EXAMPLE)
-        .arg(table(alloc))?
-        .arg(option(
+    let command = Ok(
+        Command::new(alloc, "serve")
+            .about("Serves a volume over NBD, to up to 64 clients at once")
+            .after_help(EXAMPLE),
+    );
+    let command = with_arg(command, table(alloc));
+    let command = with_arg(
+        command,
+        option(
             alloc,
             "listen",
             "The address to listen on, as HOST:PORT or unix:PATH",
         )
-        .required(true))?
-        .arg(name(alloc))?
-        .arg(cache(alloc))?
-        .arg(option(alloc, "sessions", "How many connections are served").default_value(
-            "4294967295",
-        ))?
-        .arg(option(
+        .required(true),
+    );
+    let command = with_arg(command, name(alloc));
+    let command = with_arg(command, cache(alloc));
+    let command = with_arg(
+        command,
+        option(alloc, "sessions", "How many connections are served").default_value("4294967295"),
+    );
+    let command = with_arg(
+        command,
+        option(
             alloc,
             "memory",
             "The most MiB of replies that wait to be sent",
         )
-        .default_value("128"))?
-        .arg(option(
+        .default_value("128"),
+    );
+    with_arg(
+        command,
+        option(
             alloc,
             "idle",
             "After how many seconds a silent client is left; 0: never",
         )
-        .default_value("0"))
+        .default_value("0"),
+    )
 }
 
 pub fn serve_words<'a>(matches: &ArgMatches<'a>) -> Option<ServeWords<'a>> {

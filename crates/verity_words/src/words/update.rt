@@ -1,6 +1,6 @@
 //! The words of `update`.
 
-use super::parts::{journal, own_offset, own_table, path, quiet};
+use super::parts::{journal, own_offset, own_table, path, quiet, with_arg};
 use clap::{ArgMatches, Command};
 use std::alloc::{AllocError, Global};
 
@@ -23,16 +23,18 @@ pub struct UpdateWords<'a> {
 }
 
 pub fn update_command<'a>(alloc: Global) -> Result<Command<'a>, AllocError> {
-    Command::new(alloc, "update")
-        .about("Makes a volume that of another image, by what differs, with one commit")
-        .after_help(EXAMPLE)
-        .arg(path(alloc, "DATA", "The block image"))?
-        .arg(path(alloc, "HASH", "The hash device"))?
-        .arg(path(alloc, "NEW", "The image to be held"))?
-        .arg(own_offset(alloc))?
-        .arg(own_table(alloc))?
-        .arg(journal(alloc))?
-        .arg(quiet(alloc))
+    let command = Ok(
+        Command::new(alloc, "update")
+            .about("Makes a volume that of another image, by what differs, with one commit")
+            .after_help(EXAMPLE),
+    );
+    let command = with_arg(command, path(alloc, "DATA", "The block image"));
+    let command = with_arg(command, path(alloc, "HASH", "The hash device"));
+    let command = with_arg(command, path(alloc, "NEW", "The image to be held"));
+    let command = with_arg(command, own_offset(alloc));
+    let command = with_arg(command, own_table(alloc));
+    let command = with_arg(command, journal(alloc));
+    with_arg(command, quiet(alloc))
 }
 
 pub fn update_words<'a>(matches: &ArgMatches<'a>) -> Option<UpdateWords<'a>> {
