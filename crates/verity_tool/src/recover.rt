@@ -1,5 +1,9 @@
 //! The command `recover`: makes whole a commit that a stop cut short.
 
+ghost use Rattle.std.specs.Prelude.{◌⊎◌, OnOk, codes};
+ghost use Rattle.std.specs.Io.KnownBytes.{Appends};
+ghost use Rattle.verity_files.specs.Faults.{line};
+
 use std::fs::File;
 use std::io::Write;
 use std::rt::Files;
@@ -13,7 +17,10 @@ pub fn recover<R: Files<File = File> + AllocGlobal, W: Write>(
     rt: &R,
     words: &RecoverWords<'_>,
     output: &mut W,
-) -> Result<(), Failure> {
+) -> Result<(), Failure>
+    ensures { OnOk result (Appends (W.contents output.old) (W.contents output.new) (line (codes "recovered"))
+        ⊎ Appends (W.contents output.old) (W.contents output.new) (line (codes "nothing to recover"))) }
+{
     check_paths(words.data_path, words.hash_path)?;
     let (data, hash) = open_both(rt, words.data_path, words.hash_path, Command::Recover)?;
     let data = data?;

@@ -1,5 +1,8 @@
 //! The command `serve`: serves a volume over NBD.
 
+ghost use Rattle.std.specs.Prelude.{◌≡◌, true, Ok};
+ghost use Rattle.nbd_serve.specs.Lines.{IsServed};
+
 use crate::failing::fail;
 use crate::opened::{FileHub, open_hub};
 use crate::told::Told;
@@ -49,7 +52,9 @@ fn listen<
     limits: Limits,
     count: u64,
     output: &mut W,
-) -> Result<u8, Failure> {
+) -> Result<u8, Failure>
+    ensures { result ≡ Ok 0 → IsServed (W.contents output.old) (W.contents output.new) count true }
+{
     match address.strip_prefix(UNIX) {
         // The system would find a name of its own for an empty path.
         Some("") => Err(Fault::Socket.into()),
@@ -105,7 +110,9 @@ pub fn serve_on<D: BlockStore, H: BlockStore, L: Door, W: Write>(
     listener: &L,
     sessions: u64,
     output: &mut W,
-) -> u8 {
+) -> u8
+    ensures done { result ≡ 0 → IsServed (W.contents output.old) (W.contents output.new) sessions true }
+{
     match serve_clients(hub, listener, sessions, output) {
         Ok(true) => DONE,
         Ok(false) => REFUSED,

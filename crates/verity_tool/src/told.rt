@@ -1,5 +1,7 @@
 //! The output of `serve`, told to a person too.
 
+ghost use Rattle.std.specs.Prelude.{◌≡◌};
+
 use std::io::{ErrorKind, Write};
 use std::{io, str};
 use verity_files::Failure;
@@ -33,7 +35,9 @@ impl<'a, W: Write, E: Write> Told<'a, W, E> {
     }
 
     /// Takes what was written to the line, and tells each that ends.
-    fn hear(&mut self, bytes: &[u8]) {
+    fn hear(&mut self, bytes: &[u8])
+        ensures { self.new.output ≡ self.old.output }
+    {
         for byte in bytes {
             if *byte == b'\n' {
                 self.tell();
@@ -45,7 +49,10 @@ impl<'a, W: Write, E: Write> Told<'a, W, E> {
         }
     }
 
-    fn tell(&mut self) {
+    fn tell(&mut self)
+        ensures output { self.new.output ≡ self.old.output }
+        ensures len { self.new.len ≡ self.old.len }
+    {
         if let Some(line) = self.line.get(..self.len) {
             if let Ok(line) = str::from_utf8(line) {
                 explain_served(line, self.address, self.errors);
@@ -54,7 +61,9 @@ impl<'a, W: Write, E: Write> Told<'a, W, E> {
     }
 
     /// Says once that the output can't be written.
-    fn lose(&mut self, kind: ErrorKind) {
+    fn lose(&mut self, kind: ErrorKind)
+        ensures { self.new.output ≡ self.old.output }
+    {
         if !self.is_lost && kind != ErrorKind::Interrupted && kind != ErrorKind::OutOfMemory {
             self.is_lost = true;
             explain_words(Failure::Output, self.errors);
@@ -63,6 +72,8 @@ impl<'a, W: Write, E: Write> Told<'a, W, E> {
 }
 
 impl<'a, W: Write, E: Write> Write for Told<'a, W, E> {
+    ghost contents = { λ told. W.contents told.output.now };
+
     fn write(&mut self, buf: &[u8]) -> io::Result<usize> {
         match self.output.write(buf) {
             Ok(count) => {

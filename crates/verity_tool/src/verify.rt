@@ -1,5 +1,9 @@
 //! The command `verify`: reports what is wrong in a volume.
 
+ghost use Rattle.std.specs.Prelude.{◌≡◌, ◌↔◌, ℕ, [], Ok, OnOk, IfOk};
+ghost use Rattle.std.specs.Io.KnownBytes.{Appends};
+ghost use Rattle.verity_tool.specs.Printed.{place_line, report_lines};
+
 use crate::opened::open_stores;
 use std::alloc::Global;
 use std::fs::File;
@@ -24,7 +28,9 @@ pub fn verify<R: Files<File = File> + Clock + Eprint + AllocGlobal, W: Write, E:
     words: &VerifyWords<'_>,
     output: &mut W,
     errors: &E,
-) -> Result<u8, Failure> {
+) -> Result<u8, Failure>
+    ensures verified { result ≡ Ok 0 → (unchecked : ℕ) × Appends (W.contents output.old) (W.contents output.new) (report_lines [] unchecked) }
+{
     let report = report_of(rt, words, errors)?;
     print_report(&report, output)
 }
@@ -54,7 +60,12 @@ fn checked<D: BlockStore + Drop, H: BlockStore + Drop>(
     Ok(verifier.report()?)
 }
 
-fn print_report<W: Write>(report: &Report, output: &mut W) -> Result<u8, Failure> {
+/// Prints a report. The status is 0 where it names no block, 1 where it does.
+fn print_report<W: Write>(report: &Report, output: &mut W) -> Result<u8, Failure>
+    ensures printed { OnOk result (Appends (W.contents output.old) (W.contents output.new)
+        (report_lines report.now.faults report.now.unchecked)) }
+    ensures status { IfOk result (λ status. (status ≡ 0) ↔ (report.now.faults ≡ [])) }
+{
     for (place, verdict) in report.faults.as_slice() {
         print_place(*place, *verdict, output)?;
     }
@@ -69,7 +80,9 @@ fn print_report<W: Write>(report: &Report, output: &mut W) -> Result<u8, Failure
     }
 }
 
-fn print_place<W: Write>(place: Place, verdict: Verdict, output: &mut W) -> Result<(), Failure> {
+fn print_place<W: Write>(place: Place, verdict: Verdict, output: &mut W) -> Result<(), Failure>
+    ensures { OnOk result (Appends (W.contents output.old) (W.contents output.new) (place_line (place, verdict))) }
+{
     match verdict {
         Verdict::Bad => writeln!(output, "bad {place}")?,
         Verdict::Unread => writeln!(output, "unread {place}")?,
