@@ -19,7 +19,8 @@ use verity_store::BlockStore;
 ///
 /// An editor's fault leaves the devices as they were. Device comes where one failed, or where they weren't settled before; NoMemory
 /// leaves what is read of them; Foreign never comes over devices that hold the stores below. After a fault of the devices a start comes
-/// next, and the editor is of no more use. It writes each changed block twice, syncs five times, and takes memory for the changed blocks three times.
+/// next, and the editor is of no more use. It writes each changed block twice, syncs five times, and takes memory for the changed
+/// blocks three times.
 pub fn commit_editor<K: Disks, D: BlockStore, H: BlockStore, A: Allocator + Copy>(
     alloc: A,
     keeper: &mut Keeper<K>,

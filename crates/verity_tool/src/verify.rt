@@ -29,7 +29,8 @@ pub fn verify<R: Files<File = File> + Clock + Eprint + AllocGlobal, W: Write, E:
     output: &mut W,
     errors: &E,
 ) -> Result<u8, Failure>
-    ensures verified { result ≡ Ok 0 → (unchecked : ℕ) × Appends (W.contents output.old) (W.contents output.new) (report_lines [] unchecked) }
+    ensures verified { result ≡ Ok 0 → (unchecked : ℕ)
+        × Appends (W.contents output.old) (W.contents output.new) (report_lines [] unchecked) }
 {
     let report = report_of(rt, words, errors)?;
     print_report(&report, output)
