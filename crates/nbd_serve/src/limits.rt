@@ -1,5 +1,7 @@
 //! What clients may take of a server.
 
+ghost use Rattle.std.specs.Prelude.{◌≡◌, None};
+
 use std::time::Duration;
 
 /// The bytes of a mebibyte.
@@ -14,7 +16,10 @@ pub struct Limits {
 
 impl Limits {
     /// 128 MiB, and no client is left for its silence.
-    pub fn usual() -> Limits {
+    pub fn usual() -> Limits
+        ensures pending { result.pending ≡ 134217728 }
+        ensures idle { result.idle ≡ None }
+    {
         Limits {
             pending: 128 * MEBIBYTE,
             idle: None,

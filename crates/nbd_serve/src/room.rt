@@ -77,6 +77,7 @@ impl<C: Connection + Drop> Room<C> {
         ensures ended { IsTrue result → self.now.ended ≡ self.now.sessions }
         ensures accepted { IsTrue result → self.now.accepted ≡ self.now.sessions }
         ensures numbers { IsTrue result → self.now.connected.numbers.items ≡ [] }
+        ensures told { self.now.ended ≡ self.now.sessions → length self.now.partings.leaving.items ≡ 0 → IsTrue result }
     {
         let _all = self.connected.len();
         self.ended == self.sessions && self.partings.len() == 0
@@ -86,6 +87,8 @@ impl<C: Connection + Drop> Room<C> {
     pub fn may_accept(&self) -> bool
         ensures sessions { IsTrue result → self.now.accepted < self.now.sessions }
         ensures seat { IsTrue result → length self.now.connected.clients.items + length self.now.partings.leaving.items < 64 }
+        ensures told { self.now.knocks ≡ true → self.now.retries ≡ false → self.now.accepted < self.now.sessions
+            → length self.now.connected.clients.items + length self.now.partings.leaving.items < 64 → IsTrue result }
     {
         let taken = self.connected.len() + self.partings.len();
         self.knocks && !self.retries && self.accepted < self.sessions && taken < MOST

@@ -1,5 +1,8 @@
 //! Why a server ends before its last connection.
 
+ghost use Rattle.std.specs.Prelude.{◌≡◌};
+ghost use Rattle.nbd_serve.specs.declared.stop.Stop.TheVariants as stop;
+
 use std::alloc::AllocError;
 
 /// Why a server ends before its last connection.
@@ -14,7 +17,9 @@ pub enum Stop {
 }
 
 impl From<AllocError> for Stop {
-    fn from(_error: AllocError) -> Stop {
+    fn from(_error: AllocError) -> Stop
+        ensures { result ≡ stop.NoMemory }
+    {
         Stop::NoMemory
     }
 }
