@@ -2,7 +2,7 @@
 //!
 //! The work is done by the layers below, whose contracts say what it is worth; here a command reads its words, opens a volume
 //! (`verity_volume`), makes one call or a few, and prints lines. What `verify` and `recover` print, and what was printed where
-//! `serve` answers 0, their clauses say, over an output whose bytes are known; all else that is printed and refused is shown by tests.
+//! [`serve_on`] answers 0, their clauses say, over an output whose bytes are known; all else that is printed and refused is shown by tests.
 #![tactic(auto)]
 
 mod dump;
