@@ -4,7 +4,10 @@ use Rattle.std.specs.Prelude.{Result, Ok, Err, IsErrOf, ◌↔◌}
 use Rattle.nbd_session.specs.declared.offer.Offer.{Offer}
 use Rattle.nbd_hub.specs.declared.events.Event.{Event}
 use Rattle.nbd_hub.specs.declared.events.HubReply.{HubReply}
-use Rattle.nbd_hub.specs.After.{EachAfter, IsAfter}
+use Rattle.nbd_session.specs.Talk.{Verdict}
+use Rattle.nbd_hub.specs.After.{AsksOn, EachAfter, IsAfter}
+use Rattle.nbd_hub.specs.History.{Step}
+use Rattle.nbd_hub.proofs.Runs.{each_weaker}
 use Rattle.nbd_hub.specs.Sessions.{HubState}
 use Rattle.verity_store.specs.declared.store.BlockStore as store
 use Rattle.verity_chain.specs.Table.{Table}
@@ -42,8 +45,15 @@ module _ {D H : Type 0} (data_facts : store.Ghosts D) (hash_facts : store.Ghosts
       (reads : IsOnlyReading data_facts hash_facts hub.1 hub'.1)
       (replies : new ≡ old ++ added)
       (ran : IsAfter (facts_of data_facts hash_facts hub.1) hub.0 [] → (image : List (List ℕ)) → Fits hub.1.table image
-      → EachAfter (IsOnlyReading data_facts hash_facts) (λ x. IsRightFor data_facts hash_facts x image) hub.1 hub'.1 hub.0.offer []
-      events added) where
+      → EachAfter (AsksOn (IsOnlyReading data_facts hash_facts) (facts_of data_facts hash_facts))
+      (λ x. IsRightFor data_facts hash_facts x image) hub.1 hub'.1 hub.0.offer [] events added) where
+    -- what each step makes of the verifier
+    abbrev Reads : Verifying D H → Verifying D H → Offer → List Step → Event B → HubReply A → Type 0
+    Reads now next o k e r = IsOnlyReading data_facts hash_facts now next
+
+    abbrev pub Told : List (List ℕ) → Verifying D H → Offer → Type 0
+    Told image x o = EachAfter Reads (λ y. IsRightFor data_facts hash_facts y image) x hub'.1 o [] events added
+
     pub answered : AreRightAnswers data_facts hash_facts t d h called events old new
     answered = record {
       made = v;
@@ -53,12 +63,14 @@ module _ {D H : Type 0} (data_facts : store.Ghosts D) (hash_facts : store.Ghosts
       added = added;
       replies = replies;
       right = λ image fits.
-          subst (λ (x : Verifying D H). EachAfter (IsOnlyReading data_facts hash_facts) (λ y. IsRightFor data_facts hash_facts y image)
-          x hub'.1 (offer_of t called) [] events added) same
-          (subst (λ (o : Offer). EachAfter (IsOnlyReading data_facts hash_facts) (λ y. IsRightFor data_facts hash_facts y image)
-          hub.1 hub'.1 o [] events added) (offer ∙ same_offer v over called)
-          (ran (subst (λ x. IsAfter (facts_of data_facts hash_facts x) hub.0 []) (sym same) begins) image
-          (subst (λ (x : Table). Fits x image) (sym (ap (λ (x : Verifying D H). x.table) same ∙ over.table)) fits)));
+          let right : Verifying D H → ℕ → ℕ → Verdict → Type 0 = λ x. IsRightFor data_facts hash_facts x image in
+          let done = ran (subst (λ x. IsAfter (facts_of data_facts hash_facts x) hub.0 []) (sym same) begins) image
+          (subst (λ (x : Table). Fits x image) (sym (ap (λ (x : Verifying D H). x.table) same ∙ over.table)) fits) in
+          let told : Told image hub.1 hub.0.offer =
+          each_weaker (AsksOn (IsOnlyReading data_facts hash_facts) (facts_of data_facts hash_facts)) Reads right right (λ x. Unit {0})
+          (λ x y o k e r asks good. (tt, asks.0)) (λ x good o l w p. p) hub.1 hub'.1 hub.0.offer [] events added tt done in
+          subst (λ (x : Verifying D H). Told image x (offer_of t called)) same
+          (subst (λ (o : Offer). Told image hub.1 o) (offer ∙ same_offer v over called) told);
     }
 
 abbrev pub fault_in : AnswerFault → CheckFault

@@ -1,8 +1,8 @@
 -- A volume that was opened, edited and closed.
 use Rattle.std.proofs.Common.{◌≡◌, ◌/◌, ◌-◌, ◌<◌, ◌≤◌, ℕ, true, false, List, [], ◌∷◌, length, take, drop, ◌++◌, get_or, get_or-take}
 use Rattle.std.proofs.Common.{length-take, inl, refl, sym, ap, ◌∙◌, subst, arith}
-use Rattle.std.specs.List.{concat, list_any, All}
-use Rattle.std.specs.Prelude.{Option, Some, None, IfSome, Result, Ok, Err, OnOk}
+use Rattle.std.specs.List.{concat, list_any, All, Contains}
+use Rattle.std.specs.Prelude.{Option, Some, None, IfSome, Result, Ok, Err, OnOk, OnErr}
 use Rattle.std.proofs.lemmas.List.{take_all, append_assoc}
 use Rattle.verity_digest.specs.Hash.{hashing, size_of}
 use Rattle.verity_digest.specs.Tree.{Hashing, root, tree, per_block}
@@ -16,12 +16,20 @@ use Rattle.verity_superblock.specs.Line.{TableLine}
 use Rattle.verity_superblock.proofs.LineReads.{algorithm_of-sized}
 use Rattle.verity_edit.specs.declared.command.Command.{Command}
 use Rattle.verity_edit.specs.declared.command.Reply.{Reply}
+use Rattle.verity_edit.specs.declared.command.Reply.TheVariants.{Refused}
+use Rattle.verity_edit.specs.declared.fault.EditFault.TheVariants.{Store}
+use Rattle.verity_build.specs.Faults.{HasFailed}
+use Rattle.verity_store.specs.declared.fault.Which.{Which}
+use Rattle.verity_store.specs.declared.fault.Which.TheVariants as which
 use Rattle.verity_edit.specs.Edits.{unedited}
 use Rattle.verity_edit.specs.After.{State, After}
 use Rattle.verity_edit.specs.Planning.{volume_hashing}
 use Rattle.verity_edit.specs.Editing.{Editing, FitsStores, Stands, IsWhole, hashing_in}
 use Rattle.verity_edit.specs.Opening.{IsOpened}
-use Rattle.verity_edit.specs.Running.{AreAnswered, LeadsAll, IsUnfailed, is_commit}
+use Rattle.verity_edit.specs.Running.{AreAnswered, LeadsAll, IsNoFailure, IsUnfailed, is_commit}
+use Rattle.verity_edit.specs.Faults.{IsNotPassedOver}
+use Rattle.verity_edit.specs.declared.fault.EditFault.{EditFault}
+use Rattle.verity_edit.specs.declared.fault.EditFault.TheVariants as fault
 use Rattle.verity_chain.specs.Table.{hashing_of, tree_len}
 use Rattle.verity_check.specs.Holds.{Holds}
 use Rattle.verity_check.specs.Verifier.{AreStoresOf}
@@ -40,6 +48,31 @@ on_ok-by (Err e) P Q f h = tt
 
 pub on_ok : {X E : Type 0} (r s : Result X E) (P Q : Type 0) → s ≡ r → (P → Q) → OnOk r P → OnOk s Q
 on_ok {X = X} {E = E} r s P Q same f h = subst (λ (x : Result X E). OnOk x Q) (sym same) (on_ok-by r P Q f h)
+
+on_err-by : {X E : Type 0} (r : Result X E) (P Q : Type 0) → (P → Q) → OnErr r P → OnErr r Q
+on_err-by (Ok x) P Q f h = tt
+on_err-by (Err e) P Q f h = f h
+
+pub on_err : {X E : Type 0} (r s : Result X E) (P Q : Type 0) → s ≡ r → (P → Q) → OnErr r P → OnErr s Q
+on_err {X = X} {E = E} r s P Q same f h = subst (λ (x : Result X E). OnErr x Q) (sym same) (on_err-by r P Q f h)
+
+-- no store failed in an opening that was refused for another reason
+pub refused_unfailed : (data_old data_new hash_old hash_new : ℕ) (fault : EditFault)
+    → IsNotPassedOver data_old data_new hash_old hash_new fault → IsNoFailure fault → (data_new ≡ data_old) × (hash_new ≡ hash_old)
+refused_unfailed a b c d fault.OutOfRange p n = p
+refused_unfailed a b c d fault.WrongLength p n = p
+refused_unfailed a b c d fault.TooSmall p n = p
+refused_unfailed a b c d fault.TooLarge p n = p
+refused_unfailed a b c d fault.NoMemory p n = p
+refused_unfailed a b c d (fault.Store which) p n = absurd n
+refused_unfailed a b c d fault.Broken p n = absurd n
+refused_unfailed a b c d (fault.Mismatch level index) p n = p
+refused_unfailed a b c d (fault.Superblock super) p n = p
+refused_unfailed a b c d fault.DataLength p n = p
+refused_unfailed a b c d (fault.StoreSize which) p n = p
+refused_unfailed a b c d fault.Offset p n = p
+refused_unfailed a b c d fault.Line p n = p
+refused_unfailed a b c d (fault.Untrusted level index) p n = p
 
 concat-append : (xs ys : List (List ℕ)) → concat (xs ++ ys) ≡ concat xs ++ concat ys
 concat-append [] ys = refl
@@ -211,10 +244,22 @@ module _ {D H A C : Type 0} (data_facts : store.Ghosts D) (hash_facts : store.Gh
           )) line;
         }
 
+  -- a store that a reply names failed
+  named : (which : Which) → Contains runs.added (Refused (Store which)) → HasFailed (data_facts.failures d < data_facts.failures
+      left.data_store) (hash_facts.failures h < hash_facts.failures left.hash_store) which
+  named which.Data there =
+      let a = opens.data_store.later.failures in
+      let e = ap (λ x. data_facts.failures x) data_is in
+      omega (arith, a, e, runs.named which.Data there)
+  named which.Hash there =
+      let a = opens.hash_store.later.failures in
+      let e = ap (λ x. hash_facts.failures x) hash_is in
+      omega (arith, a, e, runs.named which.Hash there)
+
   -- so it was edited
-  pub edited_by : OnOk left.done (length runs.added ≡ length commands) →
-      IsEdited data_facts hash_facts d h offset commands old_replies new_replies left
-  edited_by all =
+  pub edited_by : OnOk left.done (length runs.added ≡ length commands) → OnErr left.done (length runs.added < length commands)
+      → IsEdited data_facts hash_facts d h offset commands old_replies new_replies left
+  edited_by all short =
       let data_stays : StaysStore data_facts opened.data_store left.data_store =
       subst (λ x. StaysStore data_facts opened.data_store x) (sym data_is) runs.stays.data_store in
       let hash_stays : StaysStore hash_facts opened.hash_store left.hash_store =
@@ -225,8 +270,9 @@ module _ {D H A C : Type 0} (data_facts : store.Ghosts D) (hash_facts : store.Gh
         is_volume = opens.volume;
         added = runs.added;
         replies = runs.replies;
-        few = omega (arith, runs.each, runs.few);
         all = all;
+        short = short;
+        named = λ which there. named which there;
         data_opened = opened.data_store;
         hash_opened = opened.hash_store;
         data_read = opens.data_store;

@@ -1,8 +1,8 @@
 -- A volume that was edited under a table line, and one client of it.
-use Rattle.std.proofs.Common.{◌≡◌, ◌⊎◌, ◌/◌, ℕ, ◌≤◌, List, length, take, inl, inr, ⊎_elim, sym, ap, ◌∙◌, subst, arith}
+use Rattle.std.proofs.Common.{◌≡◌, ◌⊎◌, ◌/◌, ℕ, ◌<◌, ◌≤◌, List, length, take, inl, inr, ⊎_elim, sym, ap, ◌∙◌, subst, arith}
 use Rattle.std.proofs.Math.Seq.{take-length}
 use Rattle.std.specs.declared.alloc.AllocError.{AllocError}
-use Rattle.std.specs.Prelude.{Option, None, IfSome, Result, Ok, IfOk, IfErr, OnOk}
+use Rattle.std.specs.Prelude.{Option, None, IfSome, Result, Ok, IfOk, IfErr, OnOk, OnErr}
 use Rattle.verity_digest.specs.Hash.{hashing, size_of}
 use Rattle.verity_digest.specs.Tree.{Hashing, root, per_block}
 use Rattle.verity_digest.specs.Shape.{total}
@@ -28,7 +28,7 @@ use Rattle.verity_promise.specs.Delivery.{ExplainsUnmade}
 use Rattle.verity_promise.specs.OnTheWay.{IsAt, AreAnsweredUnder, IsClosedUnder}
 use Rattle.verity_promise.specs.Under.{IsChainUnder, IsEditedUnder, ClashesOnTheWay, DeliversUnder, ExplainsUnservedUnder}
 use Rattle.verity_promise.specs.Under.{made, committed_by}
-use Rattle.verity_promise.proofs.Closed.{if_some, on_ok}
+use Rattle.verity_promise.proofs.Closed.{if_some, on_ok, on_err}
 use Rattle.verity_promise.proofs.Served.{if_ok, if_err}
 
 -- an editor that was opened stands at the image
@@ -45,7 +45,7 @@ module _ {D H A B : Type 0} (on_data : store.Ghosts D) (on_hash : store.Ghosts H
     (opens : IsOpenedUnder on_data on_hash d h t opened)
     (runs : AreAnsweredUnder on_data on_hash commands count opened closed old new)
     (done : Result (Unit {0}) AllocError) (left : Edited D H B) (shut : IsClosedUnder on_data on_hash closed done left)
-    (all : OnOk done (count ≡ length commands)) where
+    (all : OnOk done (count ≡ length commands)) (short : OnErr done (count < length commands)) where
   -- so it was edited
   pub edited_under : IsEditedUnder on_data on_hash d h t commands old new left
   edited_under =
@@ -60,8 +60,8 @@ module _ {D H A B : Type 0} (on_data : store.Ghosts D) (on_hash : store.Ghosts H
         opens = opens;
         added = added;
         replies = runs.replies;
-        few = omega (arith, each, runs.few);
         all = on_ok done left.done _ _ shut.done_is (λ e. each ∙ e) all;
+        short = on_err done left.done _ _ shut.done_is (λ e. omega (arith, each, e)) short;
         chain = subst (λ n. IsChainUnder on_data on_hash (take n commands) added opened closed) (sym each) runs.chain;
         stays = runs.stays;
         data_store = shut.data_store;

@@ -30,7 +30,8 @@ module _ {D H : Type 0} (on_data : store.Ghosts D) (on_hash : store.Ghosts H) (t
   -- Replies were added to the first of the events. For every image that fits the table line, after each of them the output of
   -- each session is the talk of its own input, by verdicts that are right for the image: its own bytes, unless a store, in a
   -- later state of the very one that was handed in, had given by then a block that clashes with the image's own; ENOMEM; or EIO,
-  -- where such a store had given a wrong block in the range by then, or had failed.
+  -- where such a store had given a wrong block in the range by then, or had failed. These states follow one another; that what an
+  -- event asked lies between the state before it and its own is said by `Hub::run`.
   pub record AreRightAnswers {A B : Type 0} (called : List ℕ) (events : List (Event B)) (old new : List (HubReply A)) : Type 0 where
     pub made : Verifying D H
     pub left : Verifying D H
@@ -38,12 +39,12 @@ module _ {D H : Type 0} (on_data : store.Ghosts D) (on_hash : store.Ghosts H) (t
     pub reads : IsOnlyReading on_data on_hash made left
     pub added : List (HubReply A)
     pub replies : new ≡ old ++ added
-    pub right : (image : List (List ℕ)) → Fits t image
-        → EachAfter (IsOnlyReading on_data on_hash) (λ v. IsRightFor on_data on_hash v image) made left (offer_of t called) [] events added
+    pub right : (image : List (List ℕ)) → Fits t image → EachAfter (λ now next o k e r. IsOnlyReading on_data on_hash now next)
+        (λ v. IsRightFor on_data on_hash v image) made left (offer_of t called) [] events added
 
   -- No other fault is named. Where no verifier was made, nothing was done; where memory was refused for a reply, the events with
-  -- a reply were done and no other.
+  -- a reply were done and no other, and not all of them have one.
   abbrev pub ExplainsUnanswered : {A B : Type 0} → List ℕ → List (Event B) → (old new : List (HubReply A)) → AnswerFault → Type 0
   ExplainsUnanswered called events old new (Check fault) =
       (new ≡ old) × ((fault ≡ check.Lengths) ⊎ (fault ≡ check.CacheSize) ⊎ (fault ≡ check.NoMemory))
-  ExplainsUnanswered called events old new Memory = AreRightAnswers called events old new
+  ExplainsUnanswered called events old new Memory = AreRightAnswers called events old new × (length new < length old + length events)

@@ -1,19 +1,23 @@
 -- What any list of edits and commits leaves of a volume. The facts of a store of the type S are S.BlockStore.
-use Rattle.std.specs.Prelude.{◌≡◌, ℕ, ◌/◌, ◌<◌, ◌≤◌, true, false, List, [], ◌++◌, length, take, slice_index_or, All, IfSome, OnOk}
-use Rattle.std.specs.List.{concat, list_any}
+use Rattle.std.specs.Prelude.{◌≡◌, ℕ, ◌/◌, ◌<◌, ◌≤◌, true, false, List, [], ◌++◌, length, take, slice_index_or, All, IfSome, OnOk, OnErr}
+use Rattle.std.specs.List.{concat, list_any, Contains}
 use Rattle.verity_digest.specs.Tree.{root}
 use Rattle.verity_store.specs.Stores.{IsOnlyRead, StaysStore}
 use Rattle.verity_store.specs.declared.store.BlockStore as store
+use Rattle.verity_store.specs.declared.fault.Which.{Which}
 use Rattle.verity_superblock.specs.Superblock.{Params, Volume}
 use Rattle.verity_superblock.specs.Image.{hash_image}
 use Rattle.verity_edit.specs.declared.command.Command.{Command}
 use Rattle.verity_edit.specs.declared.command.Reply.{Reply}
+use Rattle.verity_edit.specs.declared.command.Reply.TheVariants.{Refused}
+use Rattle.verity_edit.specs.declared.fault.EditFault.TheVariants.{Store}
+use Rattle.verity_build.specs.Faults.{HasFailed}
 use Rattle.verity_edit.specs.Edits.{unedited}
 use Rattle.verity_edit.specs.After.{State, After}
 use Rattle.verity_edit.specs.Planning.{volume_hashing}
 use Rattle.verity_edit.specs.declared.editor.OpenRefused.{OpenRefused}
 use Rattle.verity_edit.specs.Opening.{IsVolume, ExplainsOpen, first_block_in, presented}
-use Rattle.verity_edit.specs.Running.{IsUnfailed, is_commit}
+use Rattle.verity_edit.specs.Running.{IsNoFailure, IsUnfailed, is_commit}
 use Rattle.verity_check.specs.Holds.{Holds}
 use Rattle.verity_check.specs.Verifier.{AreStoresOf}
 use Rattle.verity_promise.specs.declared.edited.Edited.{Edited}
@@ -38,26 +42,30 @@ module _ {D H : Type 0} (on_data : store.Ghosts D) (on_hash : store.Ghosts H) (d
     pub device : state.broken ≡ false → list_any is_commit added ≡ true
         → concat (on_hash.content left.hash_store) ≡ hash_image p state.edits.committed front
     pub root : state.broken ≡ false → left.root ≡ root (volume_hashing p) state.edits.committed
-    pub table : IfSome left.table (λ t. (state.broken ≡ false)
-        × Holds t (on_data.tells left.data_store) (on_data.content left.data_store)
-        (on_hash.tells left.hash_store) (on_hash.content left.hash_store) state.edits.committed)
+    pub table : IfSome left.table (λ t. (state.broken ≡ false) × Holds t (on_data.tells left.data_store)
+        (on_data.content left.data_store) (on_hash.tells left.hash_store) (on_hash.content left.hash_store) state.edits.committed)
 
-  -- no volume was opened, for this fault, and both stores were only read
+  -- no volume was opened, for this fault, for which no store failed unless it says so, and both stores were only read
   pub record IsRefused (r : OpenRefused D H) : Type 0 where
     pub fault : ExplainsOpen (presented on_data on_hash d h offset) (on_data.tells d ≡ true) (on_hash.tells h ≡ true)
         (on_data.failures d < on_data.failures r.data_store) (on_hash.failures h < on_hash.failures r.hash_store) r.fault
+    pub unfailed : IsNoFailure r.fault → (on_data.failures r.data_store ≡ on_data.failures d)
+        × (on_hash.failures r.hash_store ≡ on_hash.failures h)
     pub data_store : IsOnlyRead on_data d r.data_store
     pub hash_store : IsOnlyRead on_hash h r.hash_store
 
   -- A volume at the offset was opened, edited and closed, and replies were added to the first of the commands. Over any stores no
-  -- data block is read behind the opening, and the blocks in front stay; `scratch` is over stores that tell.
+  -- data block is read behind the opening, the blocks in front stay, and a store that a reply names failed; `scratch` is over stores
+  -- that tell.
   pub record IsEdited {A C : Type 0} (commands : List (Command C)) (old new : List Reply) (left : Edited D H A) : Type 0 where
     pub volume : Volume
     pub is_volume : on_hash.tells h ≡ true → IsVolume (first_block_in (presented on_data on_hash d h offset)) volume
     pub added : List Reply
     pub replies : new ≡ old ++ added
-    pub few : length added ≤ length commands
     pub all : OnOk left.done (length added ≡ length commands)
+    pub short : OnErr left.done (length added < length commands)
+    pub named : (which : Which) → Contains added (Refused (Store which)) → HasFailed (on_data.failures d < on_data.failures left.data_store)
+        (on_hash.failures h < on_hash.failures left.hash_store) which
     pub data_opened : D
     pub hash_opened : H
     pub data_read : IsOnlyRead on_data d data_opened

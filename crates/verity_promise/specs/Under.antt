@@ -1,6 +1,6 @@
 -- Edits under a trusted table line, and what is then served. The facts of a store of the type S are S.BlockStore.
 use Rattle.std.specs.Prelude.{◌≡◌, ◌≢◌, ◌⊎◌, ℕ, ◌<◌, ◌≤◌, true, false, List, [], ◌∷◌, ◌++◌, length, take}
-use Rattle.std.specs.Prelude.{IfSome, None, Ok, OnOk, Result, Some}
+use Rattle.std.specs.Prelude.{IfSome, None, Ok, OnOk, OnErr, Result, Some}
 use Rattle.verity_digest.specs.Tree.{root}
 use Rattle.nbd_hub.specs.declared.fault.ServeFault.{ServeFault}
 use Rattle.nbd_hub.specs.Stream.{Ends}
@@ -87,8 +87,8 @@ module _ {D H A : Type 0} (on_data : store.Ghosts D) (on_hash : store.Ghosts H) 
     pub opens : IsOpenedUnder on_data on_hash d h t opened
     pub added : List Reply
     pub replies : new ≡ old ++ added
-    pub few : length added ≤ length commands
     pub all : OnOk left.done (length added ≡ length commands)
+    pub short : OnErr left.done (length added < length commands)
     pub chain : IsChainUnder on_data on_hash (take (length added) commands) added opened closed
     pub stays : Stays on_data on_hash (editing_of opened) (editing_of closed)
     pub data_store : left.data_store ≡ closed.data_store

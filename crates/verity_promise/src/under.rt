@@ -1,6 +1,6 @@
 //! Edits under a trusted table line, and what is then served under the new one.
 
-ghost use Rattle.std.specs.Prelude.{◌≡◌, ◌+◌, ◌-◌, false, length, vec_len, IfOk, IfErr, IfSome, OnErr, OnOk};
+ghost use Rattle.std.specs.Prelude.{◌≡◌, ◌<◌, ◌+◌, ◌-◌, false, length, vec_len, IfOk, IfErr, IfSome, OnErr, OnOk};
 ghost use Rattle.verity_promise.specs.Delivery.{ends_of};
 ghost use Rattle.verity_promise.specs.OnTheWay.{AreAnsweredUnder, IsClosedUnder};
 ghost use Rattle.verity_promise.specs.Under.{DeliversUnder, ExplainsUnservedUnder, IsEditedUnder, IsRefusedUnder};
@@ -84,6 +84,7 @@ fn run_under<D: BlockStore, H: BlockStore, A: Allocator + Copy + Drop>(
     ensures answered { AreAnsweredUnder D.BlockStore H.BlockStore commands.now (vec_len replies.new - vec_len replies.old) editor
         result.0 replies.old.items replies.new.items }
     ensures all { OnOk result.1 (vec_len replies.new ≡ vec_len replies.old + length commands.now) }
+    ensures short { OnErr result.1 (vec_len replies.new < vec_len replies.old + length commands.now) }
 {
     let mut editor = editor;
     for command in commands {

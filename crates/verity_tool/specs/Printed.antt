@@ -1,12 +1,21 @@
 -- What the commands print.
-use Rattle.std.specs.Prelude.{ℕ, List, [], ◌∷◌, ◌++◌, codes}
-use Rattle.std.specs.List.{flat_map}
+use Rattle.std.specs.Prelude.{◌≡◌, ℕ, Bool, true, false, List, [], ◌∷◌, ◌++◌, codes, Option, None, Some, Ok}
+use Rattle.std.specs.List.{flat_map, list_any}
 use Rattle.std.specs.Fmt.{decimal}
+use Rattle.std.specs.Io.KnownBytes.{Appends}
 use Rattle.verity_chain.specs.Texts.{place_text}
 use Rattle.verity_chain.specs.declared.place.Place.{Place}
 use Rattle.verity_check.specs.declared.finding.Verdict.{Verdict}
 use Rattle.verity_check.specs.declared.finding.Verdict.TheVariants as verdict
-use Rattle.verity_files.specs.Faults.{line}
+use Rattle.verity_superblock.specs.Image.{CanBegin, start_behind}
+use Rattle.verity_superblock.specs.Line.{TableLine, IsTableLine, canonical}
+use Rattle.verity_superblock.specs.Superblock.{Volume, IsProfile}
+use Rattle.verity_files.specs.Faults.{line, fault_text}
+use Rattle.verity_files.specs.Words.{number_in, salt_of}
+use Rattle.verity_files.specs.declared.failure.Word.TheVariants as word
+use Rattle.verity_files.specs.declared.fault.Fault.{Fault}
+use Rattle.verity_volume.specs.Lines.{superblock_lines}
+use Rattle.verity_words.specs.declared.words.format.FormatWords.{FormatWords}
 
 -- the line of a block that is bad or couldn't be read
 abbrev pub place_line : Place × Verdict → List ℕ
@@ -21,3 +30,66 @@ last_line (fault ∷ faults) = line (codes "corrupt")
 -- a report: a line for each of its blocks, one that says how many weren't read, and the last
 abbrev pub report_lines : List (Place × Verdict) → ℕ → List ℕ
 report_lines faults unchecked = flat_map place_line faults ++ (codes "unchecked " ++ (line (decimal unchecked) ++ last_line faults))
+
+-- what `dump` prints: the superblock of a volume of the profile that stands at the offset that was asked for, and its tree
+pub record IsDumped (text : List ℕ) (old new : Option (List ℕ)) : Type 0 where
+  pub offset : ℕ
+  pub volume : Volume
+  pub asked : number_in word.HashOffset text ≡ Ok offset
+  pub profile : IsProfile volume.params volume.data_blocks
+  pub begins : CanBegin offset volume.params.hash_block_size
+  pub printed : Appends old new (superblock_lines volume (start_behind offset volume.params.hash_block_size))
+
+-- what `format` prints: one table line of the profile, with the paths, the block sizes and the salt that were asked for, of a tree that
+-- begins behind the superblock
+pub record IsFormatted (words : FormatWords) (old new : Option (List ℕ)) : Type 0 where
+  pub table : TableLine
+  pub offset : ℕ
+  pub profile : IsTableLine table
+  pub dev : table.dev ≡ words.data_path.now
+  pub hash_dev : table.hash_dev ≡ words.hash_path.now
+  pub data_block_size : number_in word.DataBlockSize words.data_block_size.now ≡ Ok table.data_block_size
+  pub hash_block_size : number_in word.HashBlockSize words.hash_block_size.now ≡ Ok table.hash_block_size
+  pub salt : salt_of words.salt.now ≡ Some table.salt
+  pub asked : number_in word.HashOffset words.hash_offset.now ≡ Ok offset
+  pub start : table.hash_start_block ≡ start_behind offset table.hash_block_size
+  pub printed : Appends old new (line (canonical table))
+
+-- what is answered to a line of a script
+pub data Answered : Type 0 where
+  Done : Answered
+  Committed : TableLine → Answered
+  BadLine : Answered
+  Refused : Fault → Answered
+
+abbrev pub answer_line : Answered → List ℕ
+answer_line Done = line (codes "ok")
+answer_line (Committed table) = codes "committed " ++ line (canonical table)
+answer_line BadLine = line (codes "bad line")
+answer_line (Refused fault) = codes "refused " ++ line (fault_text fault)
+
+abbrev pub is_refusal : Answered → Bool
+is_refusal Done = false
+is_refusal (Committed table) = false
+is_refusal BadLine = true
+is_refusal (Refused fault) = true
+
+-- the status of a script: 0, or 1 where a line was refused
+abbrev pub status_for : Bool → ℕ
+status_for false = 0
+status_for true = 1
+
+-- what a script prints: answers alone, a line each; and its status is 0 exactly where none of them is a refusal
+pub record AreAnswers (old new : Option (List ℕ)) (answered : ℕ) : Type 0 where
+  pub answers : List Answered
+  pub printed : Appends old new (flat_map answer_line answers)
+  pub status : answered ≡ status_for (list_any is_refusal answers)
+
+-- where it tells of a refusal there was one, and else none
+abbrev pub told_status : {R : Type 0} → Option R → ℕ
+told_status None = 0
+told_status (Some refusal) = 1
+
+-- what `update` prints: how many blocks were written or added, and the table line of the commit
+abbrev pub update_lines : ℕ → TableLine → List ℕ
+update_lines changed table = (codes "changed " ++ line (decimal changed)) ++ (codes "committed " ++ line (canonical table))

@@ -1,5 +1,8 @@
 //! The command `dump`: prints the superblock of a hash device.
 
+ghost use Rattle.std.specs.Prelude.{OnOk};
+ghost use Rattle.verity_tool.specs.Printed.{IsDumped};
+
 use std::fs::File;
 use std::io::Write;
 use std::rt::Files;
@@ -13,7 +16,9 @@ pub fn dump<R: Files<File = File> + AllocGlobal, W: Write>(
     rt: &R,
     words: &DumpWords<'_>,
     output: &mut W,
-) -> Result<(), Failure> {
+) -> Result<(), Failure>
+    ensures { OnOk result (IsDumped words.now.hash_offset.now (W.contents output.old) (W.contents output.new)) }
+{
     let offset = number(Word::HashOffset, words.hash_offset)?;
     let hash = open_locked(rt, words.hash_path, Command::Dump, Which::Hash)?;
     let (superblock, start) = read_superblock(rt.alloc(), hash, offset)?;

@@ -1,5 +1,11 @@
 //! The command `format`: makes the hash device of a block image.
 
+ghost use Rattle.std.specs.Prelude.{◌≡◌, IfOk, OnOk, string_bytes};
+ghost use Rattle.verity_superblock.specs.Line.{IsTableLine, canonical};
+ghost use Rattle.verity_superblock.specs.Image.{start_behind};
+ghost use Rattle.verity_tool.specs.Formatting.{line_made, IsAsked};
+ghost use Rattle.verity_tool.specs.Printed.{IsFormatted};
+
 use std::alloc::Global;
 use std::fs::File;
 use std::io::{Eprint, IsTerminal, Write};
@@ -49,7 +55,9 @@ pub fn format<R: Files<File = File> + Clock + Eprint + AllocGlobal, W: Write, E:
     words: &FormatWords<'_>,
     output: &mut W,
     errors: &E,
-) -> Result<(), Failure> {
+) -> Result<(), Failure>
+    ensures { OnOk result (IsFormatted words.now (W.contents output.old) (W.contents output.new)) }
+{
     check_paths(words.data_path, words.hash_path)?;
     let shape = read_shape(words)?;
     let bytes = salt_bytes(rt.alloc(), words.salt)?;
@@ -72,7 +80,10 @@ fn made_line(
     shape: &Shape,
     made: &Made,
     salt: &[u8],
-) -> Result<String, Failure> {
+) -> Result<String, Failure>
+    ensures { IfOk result (λ text. IsTableLine (line_made words.now shape.now made.now salt.now)
+        × (string_bytes text ≡ canonical (line_made words.now shape.now made.now salt.now))) }
+{
     let volume = LineParts {
         data_path: words.data_path,
         hash_path: words.hash_path,
@@ -85,7 +96,9 @@ fn made_line(
     table_line(alloc, &volume, made.root)
 }
 
-fn read_shape(words: &FormatWords<'_>) -> Result<Shape, Failure> {
+fn read_shape(words: &FormatWords<'_>) -> Result<Shape, Failure>
+    ensures { IfOk result (IsAsked words.now) }
+{
     Ok(Shape {
         data_block_size: block_size(Word::DataBlockSize, words.data_block_size)?,
         hash_block_size: block_size(Word::HashBlockSize, words.hash_block_size)?,
@@ -102,7 +115,9 @@ fn make<R: Files<File = File> + Clock + Eprint + AllocGlobal>(
     shape: &Shape,
     salt_bytes: &[u8],
     is_watched: bool,
-) -> Result<Made, Failure> {
+) -> Result<Made, Failure>
+    ensures { IfOk result (λ made. made.hash_start_block ≡ start_behind shape.now.hash_offset shape.now.hash_block_size) }
+{
     let params = BuildParameters::new(salt(rt.alloc(), salt_bytes)?, shape.uuid, shape.algorithm);
     let (data_store, data) = open_data(rt, words.data_path, shape)?;
     check_gate(rt, words.hash_path)?;

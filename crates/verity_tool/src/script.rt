@@ -1,5 +1,9 @@
 //! A script over a volume: read whole, then done line by line.
 
+ghost use Rattle.std.specs.Prelude.{◌≡◌, ◌==◌, ◌<◌, ◌+◌, ℕ, length, take, drop, IfOk, IfSome, IsSome, Some, None};
+ghost use Rattle.std.specs.List.{position};
+ghost use Rattle.verity_tool.specs.Printed.{AreAnswers, told_status};
+
 use std::alloc::{AllocError, Global};
 use std::io::{ErrorKind, Read, Write};
 use std::{io, str};
@@ -54,11 +58,16 @@ pub fn run_script<V: Edits, C: Commits<V>, W: Write, E: Write>(
     script: Script<'_>,
     output: &mut W,
     errors: &mut E,
-) -> Result<u8, Failure> {
+) -> Result<u8, Failure>
+    ensures { IfOk result (λ status. AreAnswers (W.contents output.old) (W.contents output.new) status) }
+{
     let mut status = DONE;
     let mut line: usize = 0;
     let mut editor = editor;
-    for text in script.bytes.split(|byte| *byte == b'\n') {
+    let mut rest = Some(script.bytes);
+    'lines: while let Some(bytes) = rest {
+        let (text, behind) = first_line(bytes);
+        rest = behind;
         line = line.saturating_add(1);
         let (after, done) = run_line(alloc, editor, commits, devices, text, output);
         editor = after;
@@ -68,6 +77,27 @@ pub fn run_script<V: Edits, C: Commits<V>, W: Write, E: Write>(
         }
     }
     Ok(status)
+}
+
+/// The bytes of the first line, and what follows its line feed, where it has one.
+fn first_line(bytes: &[u8]) -> (&[u8], Option<&[u8]>)
+    ensures last { position (λ b. b == 10) bytes.now ≡ None → (result.0.now ≡ bytes.now) × (result.1 ≡ None) }
+    ensures cut { (at : ℕ) → position (λ b. b == 10) bytes.now ≡ Some at → (result.0.now ≡ take at bytes.now)
+        × IsSome result.1 × IfSome result.1 (λ behind. behind.now ≡ drop (at + 1) bytes.now) }
+    ensures shorter { IfSome result.1 (λ behind. length behind.now < length bytes.now) }
+{
+    match end_of_line(bytes) {
+        Some(at) => (&bytes[..at], Some(&bytes[at + 1..])),
+        None => (bytes, None),
+    }
+}
+
+/// Where the first line feed stands.
+fn end_of_line(bytes: &[u8]) -> Option<usize>
+    ensures place { result ≡ position (λ b. b == 10) bytes.now }
+    ensures within { IfSome result (λ at. at < length bytes.now) }
+{
+    bytes.iter().position(|byte| *byte == b'\n')
 }
 
 /// Where a line of a script is done.
@@ -88,7 +118,9 @@ fn run_line<'a, V: Edits, C: Commits<V>, W: Write>(
     devices: Devices<'_>,
     text: &'a [u8],
     output: &mut W,
-) -> (V, Result<Option<Refusal<'a>>, Failure>) {
+) -> (V, Result<Option<Refusal<'a>>, Failure>)
+    ensures { IfOk result.1 (λ told. AreAnswers (W.contents output.old) (W.contents output.new) (told_status told)) }
+{
     if text.is_empty() {
         return (editor, Ok(None));
     }
@@ -105,7 +137,9 @@ fn run_line<'a, V: Edits, C: Commits<V>, W: Write>(
 }
 
 /// Prints that a line is none.
-fn print_bad<'a, W: Write>(output: &mut W) -> Result<Option<Refusal<'a>>, Failure> {
+fn print_bad<'a, W: Write>(output: &mut W) -> Result<Option<Refusal<'a>>, Failure>
+    ensures { IfOk result (λ told. AreAnswers (W.contents output.old) (W.contents output.new) (told_status told)) }
+{
     writeln!(output, "bad line")?;
     Ok(Some(Refusal::BadLine))
 }
@@ -118,7 +152,9 @@ fn print_answer<'a, V: Edits, W: Write>(
     line: Line<'a>,
     answer: Answer,
     output: &mut W,
-) -> Result<Option<Refusal<'a>>, Failure> {
+) -> Result<Option<Refusal<'a>>, Failure>
+    ensures { IfOk result (λ told. AreAnswers (W.contents output.old) (W.contents output.new) (told_status told)) }
+{
     match answer {
         Answer::Done => {
             writeln!(output, "ok")?;

@@ -1,5 +1,7 @@
 //! The command `talk`: serves a volume to one NBD client, over standard input and output.
 
+ghost use Rattle.std.specs.Prelude.{◌≡◌, ◌↔◌, Ok, Err, IsOk};
+
 use crate::opened::open_hub;
 use std::fs::File;
 use std::io::{Read, Write};
@@ -28,7 +30,11 @@ pub fn talk<R: Files<File = File> + AllocGlobal, I: Read, W: Write>(
 }
 
 /// The status of a session that ended so.
-fn ended(served: Result<(), ServeFault>) -> Result<u8, Failure> {
+fn ended(served: Result<(), ServeFault>) -> Result<u8, Failure>
+    ensures done { (result ≡ Ok 0) ↔ IsOk served }
+    ensures starved { (result ≡ Ok 3) ↔ (served ≡ Err ServeFault.Starved) }
+    ensures memory { (result ≡ Err Failure.NoMemory) ↔ (served ≡ Err (ServeFault.Hub HubFault.NoMemory)) }
+{
     match served {
         Ok(()) => Ok(DONE),
         Err(ServeFault::Starved) => Ok(NO_MEMORY),

@@ -1,4 +1,11 @@
 //! The lines that commands print of a volume.
+ghost use Rattle.std.specs.Prelude.{◌≡◌, ◌^◌, ◌<◌, ◌≤◌, IfOk, OnOk, string_bytes};
+ghost use Rattle.verity_geometry.specs.Geometry.{levels_of};
+ghost use Rattle.std.specs.Io.KnownBytes.{Appends};
+ghost use Rattle.verity_superblock.specs.Line.{IsTableLine, canonical};
+ghost use Rattle.std.specs.Fmt.{decimal};
+ghost use Rattle.verity_volume.specs.Lines.{line_of, volume_line, named_line, kind_lines, size_lines, shape_of, level_line, tree_lines};
+ghost use Rattle.verity_volume.specs.Lines.{superblock_lines};
 
 use std::alloc::Global;
 use std::io::Write;
@@ -20,12 +27,18 @@ pub struct LineParts<'a> {
 }
 
 /// The table line of a volume with this root hash, as it is printed.
-pub fn table_line(alloc: Global, volume: &LineParts<'_>, root: Digest) -> Result<String, Failure> {
+pub fn table_line(alloc: Global, volume: &LineParts<'_>, root: Digest) -> Result<String, Failure>
+    ensures text { IfOk result (λ text. string_bytes text ≡ canonical (line_of volume.now root)) }
+    ensures profile { IfOk result (λ text. IsTableLine (line_of volume.now root)) }
+{
     Ok(table_of(alloc, volume, root)?.text()?)
 }
 
 /// The table line of a volume with this root hash.
-pub fn table_of(alloc: Global, volume: &LineParts<'_>, root: Digest) -> Result<Table, Failure> {
+pub fn table_of(alloc: Global, volume: &LineParts<'_>, root: Digest) -> Result<Table, Failure>
+    ensures value { IfOk result (λ table. table ≡ line_of volume.now root) }
+    ensures profile { IfOk result IsTableLine }
+{
     Ok(Table::new(
         alloc,
         volume.data_path,
@@ -57,7 +70,9 @@ pub fn committed_line(
     devices: Devices<'_>,
     superblock: &Superblock,
     root: Digest,
-) -> Result<String, Failure> {
+) -> Result<String, Failure>
+    ensures { IfOk result (λ text. string_bytes text ≡ canonical (volume_line devices.entry superblock.now root)) }
+{
     let volume = LineParts {
         data_path: devices.data_path,
         hash_path: devices.hash_path,
@@ -76,8 +91,19 @@ pub fn print_superblock<W: Write>(
     superblock: &Superblock,
     start: u64,
     output: &mut W,
-) -> Result<(), Failure> {
-    print_fields(alloc, superblock, output)?;
+) -> Result<(), Failure>
+    requires { start ≤ 2 ^ 40 }
+    ensures { OnOk result (Appends (W.contents output.old) (W.contents output.new) (superblock_lines superblock.now start)) }
+{
+    print_kind(superblock, output)?;
+    print_sizes(alloc, superblock, output)?;
+    print_tree(&geometry_of(superblock), start, output)
+}
+
+/// The geometry of a superblock, which is of the profile.
+fn geometry_of(superblock: &Superblock) -> Geometry
+    ensures { result ≡ shape_of superblock.now }
+{
     let geometry = Geometry::with_digest(
         superblock.data_block_size(),
         superblock.hash_block_size(),
@@ -85,42 +111,85 @@ pub fn print_superblock<W: Write>(
         superblock.algorithm().size(),
     );
     match geometry {
-        Ok(geometry) => print_levels(&geometry, start, output),
-        Err(_) => Ok(()),
+        Ok(geometry) => geometry,
+        Err(_) => unreachable!(),
     }
 }
 
-fn print_fields<W: Write>(
+fn print_kind<W: Write>(superblock: &Superblock, output: &mut W) -> Result<(), Failure>
+    ensures { OnOk result (Appends (W.contents output.old) (W.contents output.new) (kind_lines superblock.now)) }
+{
+    let mut uuid = [0; 36];
+    print_text("version", "1", output)?;
+    print_text("hash_type", "1", output)?;
+    print_text(
+        "uuid",
+        superblock.uuid().hyphenated().encode_lower(&mut uuid),
+        output,
+    )?;
+    print_text("algorithm", superblock.algorithm().name(), output)
+}
+
+fn print_sizes<W: Write>(
     alloc: Global,
     superblock: &Superblock,
     output: &mut W,
-) -> Result<(), Failure> {
-    let uuid = superblock.uuid();
-    let algorithm = superblock.algorithm().name();
-    let data_block_size = superblock.data_block_size();
-    let hash_block_size = superblock.hash_block_size();
-    let data_blocks = superblock.data_blocks();
+) -> Result<(), Failure>
+    ensures { OnOk result (Appends (W.contents output.old) (W.contents output.new) (size_lines superblock.now)) }
+{
     let salt = spell_salt(alloc, superblock.salt())?;
-    writeln!(output, "version 1")?;
-    writeln!(output, "hash_type 1")?;
-    writeln!(output, "uuid {uuid}")?;
-    writeln!(output, "algorithm {algorithm}")?;
-    writeln!(output, "data_block_size {data_block_size}")?;
-    writeln!(output, "hash_block_size {hash_block_size}")?;
-    writeln!(output, "data_blocks {data_blocks}")?;
-    writeln!(output, "salt {salt}")?;
+    print_number(
+        "data_block_size",
+        superblock.data_block_size() as u64,
+        output,
+    )?;
+    print_number(
+        "hash_block_size",
+        superblock.hash_block_size() as u64,
+        output,
+    )?;
+    print_number("data_blocks", superblock.data_blocks(), output)?;
+    print_text("salt", &salt, output)
+}
+
+fn print_text<W: Write>(name: &str, text: &str, output: &mut W) -> Result<(), Failure>
+    ensures { OnOk result (Appends (W.contents output.old) (W.contents output.new) (named_line name.now text.now)) }
+{
+    writeln!(output, "{name} {text}")?;
     Ok(())
 }
 
-fn print_levels<W: Write>(geometry: &Geometry, start: u64, output: &mut W) -> Result<(), Failure> {
+fn print_number<W: Write>(name: &str, number: u64, output: &mut W) -> Result<(), Failure>
+    ensures { OnOk result (Appends (W.contents output.old) (W.contents output.new) (named_line name.now (decimal number))) }
+{
+    writeln!(output, "{name} {number}")?;
+    Ok(())
+}
+
+fn print_tree<W: Write>(geometry: &Geometry, start: u64, output: &mut W) -> Result<(), Failure>
+    requires { start ≤ 2 ^ 40 }
+    ensures { OnOk result (Appends (W.contents output.old) (W.contents output.new) (tree_lines geometry.now start)) }
+{
     let levels = geometry.levels();
-    writeln!(output, "levels {levels}")?;
-    for level in (0..levels).rev() {
-        let first = start.saturating_add(geometry.level_start(level));
-        let blocks = geometry.level_len(level);
-        writeln!(output, "level {level} start {first} blocks {blocks}")?;
+    print_number("levels", levels as u64, output)?;
+    'levels: for printed in 0..levels {
+        print_level(geometry, start, levels - 1 - printed, output)?;
     }
-    let blocks = start.saturating_add(geometry.total());
-    writeln!(output, "hash_blocks {blocks}")?;
+    print_number("hash_blocks", start + geometry.total(), output)
+}
+
+fn print_level<W: Write>(
+    geometry: &Geometry,
+    start: u64,
+    level: usize,
+    output: &mut W,
+) -> Result<(), Failure>
+    requires there { level < levels_of geometry.now }
+    requires near { start ≤ 2 ^ 40 }
+    ensures { OnOk result (Appends (W.contents output.old) (W.contents output.new) (level_line geometry.now start level)) }
+{
+    let first = start + geometry.level_start(level);
+    let blocks = geometry.level_len(level);
+    writeln!(output, "level {level} start {first} blocks {blocks}")?;
     Ok(())
 }

@@ -1,4 +1,7 @@
 //! The superblock of a hash device, read before the sizes that it names are known.
+ghost use Rattle.std.specs.Prelude.{◌≡◌, ◌^◌, ◌≤◌, IfOk};
+ghost use Rattle.verity_superblock.specs.Image.{CanBegin, start_behind};
+ghost use Rattle.verity_superblock.specs.Superblock.{IsProfile};
 
 use std::alloc::Global;
 use verity_files::{Fault, Opened, store_of_most};
@@ -10,11 +13,12 @@ const SUPERBLOCK_SIZE: usize = 512;
 
 /// The superblock that stands at a byte offset of a file, and the hash block at which its tree begins. B10 where the
 /// offset is no multiple of 512, or of the superblock's own hash blocks; B1 where the file ends before it.
-pub fn read_superblock(
-    alloc: Global,
-    hash: Opened,
-    offset: u64,
-) -> Result<(Superblock, u64), Fault> {
+pub fn read_superblock(alloc: Global, hash: Opened, offset: u64) -> Result<(Superblock, u64), Fault>
+    ensures profile { IfOk result (λ read. IsProfile read.0.params read.0.data_blocks) }
+    ensures begins { IfOk result (λ read. CanBegin offset read.0.params.hash_block_size) }
+    ensures start { IfOk result (λ read. read.1 ≡ start_behind offset read.0.params.hash_block_size) }
+    ensures near { IfOk result (λ read. read.1 ≤ 2 ^ 40) }
+{
     let mut hash_store = store_of_most(hash, SUPERBLOCK_SIZE, u64::MAX)?;
     let mut bytes = [0; SUPERBLOCK_SIZE];
     read_bytes(&mut hash_store, offset, &mut bytes)?;

@@ -39,6 +39,10 @@ pub enum Detail<'a> {
 }
 
 impl fmt::Display for Detail<'_> {
+    ghost use Rattle.verity_words.specs.Details.{detail_text};
+
+    ghost output = { detail_text };
+
     fn fmt<W: fmt::Write>(&self, f: &mut fmt::Formatter<W>) -> fmt::Result {
         match self {
             Detail::None => Ok(()),

@@ -50,6 +50,7 @@ returns-clause-refused g c =
     let hub : HubState × Verifying g.row.D.Denot g.row.H.Denot = c.new-hub.result in
     let hub' : HubState × Verifying g.row.D.Denot g.row.H.Denot = c.run.new.self in
     let r = c.run.ensures.ran in
-    answered D H c.args.table c.args.data_store c.args.hash_store c.args.name c.args.events.now c.args.replies.now.items
+    let replied = answered D H c.args.table c.args.data_store c.args.hash_store c.args.name c.args.events.now c.args.replies.now.items
     c.run.new.replies.items r.0 v hub hub'
-    over c.new-hub.ensures.verifier c.new-hub.ensures.offer c.new-hub.ensures.after c.run.ensures.verifier r.1 (λ after. (r.3 [] after).1)
+    over c.new-hub.ensures.verifier c.new-hub.ensures.offer c.new-hub.ensures.after c.run.ensures.verifier r.1 (λ after. (r.3 [] after).1) in
+    (replied, c.run.ensures.short)

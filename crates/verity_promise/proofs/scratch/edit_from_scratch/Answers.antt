@@ -4,7 +4,7 @@ use Rattle.verity_edit.specs.Editing.{Editing}
 use Rattle.verity_edit.specs.Opening.{IsOpened}
 use Rattle.verity_edit.specs.Running.{AreAnswered}
 use Rattle.verity_promise.specs.Closing.{IsClosed}
-use Rattle.verity_promise.proofs.Closed.{on_ok, edited_by}
+use Rattle.verity_promise.proofs.Closed.{on_ok, on_err, refused_unfailed, edited_by}
 use Rattle.verity_promise.proofs.scratch.edit_from_scratch.Goals as goal
 
 pub returns-clause-edited : goal.returns-clause-edited
@@ -27,3 +27,12 @@ returns-clause-edited g c =
     edited_by D H d h c.args.offset commands _ c.start_of-start.result _ _ opened closed opens runs c.close.result shut.data_store
     shut.hash_store shut.root shut.fits shut.stands begins shut.table
     (on_ok c.run-done.result c.close.result.done _ _ shut.done_is (λ e. omega (arith, e, runs.each)) c.run-done.ensures.all)
+    (on_err c.run-done.result c.close.result.done _ _ shut.done_is (λ e. omega (arith, e, runs.each)) c.run-done.ensures.short)
+
+pub returns-in-Err-clause-refused : goal.returns-in-Err-clause-refused
+returns-in-Err-clause-refused g c = record {
+  fault = c.in-Err.ensures.refused;
+  unfailed = refused_unfailed _ _ _ _ c.in-Err.refused.fault c.in-Err.ensures.fails;
+  data_store = c.in-Err.ensures.data_store;
+  hash_store = c.in-Err.ensures.hash_store;
+}

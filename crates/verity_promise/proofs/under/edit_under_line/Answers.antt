@@ -1,7 +1,7 @@
-use Rattle.std.proofs.Common.{◌≡◌, ◌+◌, ◌-◌, length, vec_len, refl, arith}
+use Rattle.std.proofs.Common.{◌≡◌, ◌<◌, ◌+◌, ◌-◌, length, vec_len, refl, arith}
 use Rattle.verity_edit.specs.Line.{LineEditing, IsOpenedUnder}
 use Rattle.verity_promise.specs.OnTheWay.{AreAnsweredUnder, IsClosedUnder}
-use Rattle.verity_promise.proofs.Closed.{on_ok}
+use Rattle.verity_promise.proofs.Closed.{on_ok, on_err}
 use Rattle.verity_promise.proofs.UnderLemmas.{edited_under}
 use Rattle.verity_promise.proofs.under.edit_under_line.Goals as goal
 
@@ -25,3 +25,5 @@ returns-clause-edited g c =
     c.close_under.result shut
     (on_ok done done (vec_len new ≡ vec_len old + length commands) (vec_len new - vec_len old ≡ length commands) refl
     (λ e. omega (arith, e)) c.run_under-editor.ensures.all)
+    (on_err done done (vec_len new < vec_len old + length commands) (vec_len new - vec_len old < length commands) refl
+    (λ e. omega (arith, e, runs.each)) c.run_under-editor.ensures.short)

@@ -1,0 +1,23 @@
+-- What is said of what is seen, behind the words on a refusal.
+use Rattle.std.specs.Prelude.{ℕ, List, [], ◌++◌, Option, Some, None, codes}
+use Rattle.std.specs.Fmt.{decimal}
+use Rattle.verity_words.specs.declared.looking.Detail.{Detail as Seen}
+use Rattle.verity_words.specs.declared.looking.Detail.TheVariants as seen
+
+-- two numbers, with what stands in front of each of them
+abbrev pub two_numbers : List ℕ → ℕ → List ℕ → ℕ → List ℕ
+two_numbers before first between second = before ++ (decimal first ++ (between ++ decimal second))
+
+-- its text; what the system says is the system's own
+abbrev pub detail_text : Seen → Option (List ℕ)
+detail_text seen.None = Some []
+detail_text (seen.System error) = None
+detail_text seen.NoFile = Some (codes ": it is neither a file nor a block device")
+detail_text seen.Unmade = Some (codes ": it isn't there, and can't be made there")
+detail_text (seen.Bytes bytes size) = Some (two_numbers (codes ": ") bytes (codes " bytes, blocks of ") size)
+detail_text (seen.Block block count) = Some (two_numbers (codes ": block ") block (codes ", count ") count)
+detail_text (seen.Count asked count) = Some (two_numbers (codes ": ") asked (codes ", where the count is ") count)
+detail_text (seen.Few found wanted) = Some (two_numbers (codes ": ") found (codes " blocks, not ") wanted)
+detail_text (seen.Fields count) = Some (codes ": this one has " ++ decimal count)
+detail_text (seen.Text text) = Some (codes ": " ++ text.now)
+detail_text (seen.Number number) = Some (codes ": " ++ decimal number)
