@@ -14,6 +14,6 @@ invariant-loop-event g l =
       later : g.E.Export.later l.fn.self.1 l.self.1;
       ran : (added : List (HubReply g.row.A.Denot)) × (l.replies.items ≡ l.fn.replies.items ++ added) × (length added ≡ l.event-index)
           × ((history : List Step) → IsAfter (facts l.fn.self.1) l.fn.self.0 history
-          → EachAfter g.E.Export.later (λ e. Given (facts e)) l.fn.self.1 l.self.1 l.fn.self.0.offer history l.events added
+          → EachAfter g.E.Export.later facts (λ e. Given (facts e)) l.fn.self.1 l.self.1 l.fn.self.0.offer history l.events added
           × IsAfter (facts l.self.1) l.self.0 (history ++ steps l.events added));
     }
