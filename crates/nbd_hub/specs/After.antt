@@ -56,17 +56,22 @@ AskedBetween facts now next offer history (event.Feed id piece) (reply.Fed s byt
     (s ≢ status.Starved → TalksOn (facts now) (facts next) offer (own history id) piece [] bytes) × (s ≡ status.Starved → bytes ≡ [])
 AskedBetween facts now next offer history e r = next ≡ now
 
--- The events that have a reply lead from one moment of the export to the last, one after the other. After each of them, at the next
--- moment: the reply is right, what the event asked lies between the moment before and this one, and each session's output is the
--- talk of its own input, by verdicts of which P holds at this moment.
-abbrev pub EachAfter : {X A B : Type 0} → (later : X → X → Type 0) → (facts : X → Facts) → (P : X → ℕ → ℕ → Verdict → Type 0)
-    → (now last : X) → Offer → List Step → List (Event A) → List (HubReply B) → Type 0
-EachAfter later facts P now last offer history events [] = last ≡ now
-EachAfter later facts P now last offer history [] (r ∷ replies) = ⊥
-EachAfter {X = X} later facts P now last offer history (e ∷ events) (r ∷ replies) =
-    (next : X) × later now next × Replies offer history e r × AskedBetween facts now next offer history e r
+-- and the second moment is later
+abbrev pub AsksOn : {X A B : Type 0} → (later : X → X → Type 0) → (facts : X → Facts) → (now next : X) → Offer → List Step → Event A
+    → HubReply B → Type 0
+AsksOn later facts now next offer history e r = later now next × AskedBetween facts now next offer history e r
+
+-- The events that have a reply lead from one moment of the export to the last, one after the other, each by a step that an event may
+-- make. After each of them, at the next moment: the reply is right, and each session's output is the talk of its own input, by verdicts
+-- of which P holds at this moment.
+abbrev pub EachAfter : {X A B : Type 0} → (makes : (now next : X) → Offer → List Step → Event A → HubReply B → Type 0)
+    → (P : X → ℕ → ℕ → Verdict → Type 0) → (now last : X) → Offer → List Step → List (Event A) → List (HubReply B) → Type 0
+EachAfter makes P now last offer history events [] = last ≡ now
+EachAfter makes P now last offer history [] (r ∷ replies) = ⊥
+EachAfter {X = X} makes P now last offer history (e ∷ events) (r ∷ replies) =
+    (next : X) × makes now next offer history e r × Replies offer history e r
     × ((k : ℕ) → k < opened (history ++ step_of e r ∷ []) → IsTold (P next) offer (history ++ step_of e r ∷ []) k)
-    × EachAfter later facts P next last offer (history ++ step_of e r ∷ []) events replies
+    × EachAfter makes P next last offer (history ++ step_of e r ∷ []) events replies
 
 -- what is kept of session k: nothing unless it is open, and then it is at its own input
 abbrev pub Stands : List Step → ℕ → Option State → Type 0

@@ -4,7 +4,7 @@ ghost use Rattle.std.specs.Prelude.{◌≡◌, ◌≤◌, ◌<◌, ◌+◌, ◌+
 ghost use Rattle.nbd_session.specs.Export.{Keeps};
 ghost use Rattle.nbd_hub.specs.declared.events.HubReply.{HubReply};
 ghost use Rattle.nbd_hub.specs.History.{Step, step_of, steps};
-ghost use Rattle.nbd_hub.specs.After.{AskedBetween, EachAfter, Given, IsAfter, Replies};
+ghost use Rattle.nbd_hub.specs.After.{AskedBetween, AsksOn, EachAfter, Given, IsAfter, Replies};
 
 use crate::events::{Event, HubReply};
 use crate::sessions::Sessions;
@@ -58,7 +58,7 @@ impl<E: Export, A: Allocator + Copy> Sessions<E, A> {
         // the moment before it and its own.
         ensures ran { (added : List (HubReply A)) × (replies.new.items ≡ replies.old.items ++ added) × (length added ≤ length events.now)
             × ((history : List Step) → IsAfter (E.facts self.old.1) self.old.0 history
-            → EachAfter E.later E.facts (λ e. Given (E.facts e)) self.old.1 self.new.1 self.old.0.offer history events.now added
+            → EachAfter (AsksOn E.later E.facts) (λ e. Given (E.facts e)) self.old.1 self.new.1 self.old.0.offer history events.now added
             × IsAfter (E.facts self.new.1) self.new.0 (history ++ steps events.now added)) }
     {
         for event in events {
