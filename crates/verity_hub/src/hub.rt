@@ -8,7 +8,7 @@ ghost use Rattle.verity_check.specs.Verifier.{IsOnlyReading, IsVerifier};
 ghost use Rattle.nbd_hub.specs.declared.events.HubReply.{HubReply};
 ghost use Rattle.nbd_hub.specs.Sessions.{OpensOne, FeedsOne, EndsOne, lookup, max_open, max_opened};
 ghost use Rattle.nbd_hub.specs.History.{Step, steps};
-ghost use Rattle.nbd_hub.specs.After.{EachAfter, Given, IsAfter, OpenedAfter, FedAfter, EndedAfter};
+ghost use Rattle.nbd_hub.specs.After.{AsksOn, EachAfter, Given, IsAfter, OpenedAfter, FedAfter, EndedAfter};
 ghost use Rattle.verity_hub.specs.Verdicts.{facts_of, IsRightFor};
 
 use crate::checked_image::CheckedImage;
@@ -139,10 +139,10 @@ impl<D: BlockStore, H: BlockStore, A: Allocator + Copy + Drop> Hub<D, H, A> {
         // asked the verifier lies between the moment before it and its own.
         ensures ran { (added : List (HubReply A)) × (replies.new.items ≡ replies.old.items ++ added) × (length added ≤ length events.now)
             × ((history : List Step) → IsAfter (facts_of D.BlockStore H.BlockStore self.old.1) self.old.0 history
-            → EachAfter (IsOnlyReading D.BlockStore H.BlockStore) (facts_of D.BlockStore H.BlockStore)
+            → EachAfter (AsksOn (IsOnlyReading D.BlockStore H.BlockStore) (facts_of D.BlockStore H.BlockStore))
             (λ v. Given (facts_of D.BlockStore H.BlockStore v)) self.old.1 self.new.1 self.old.0.offer history events.now added
             × ((image : List (List ℕ)) → Fits self.old.1.table image
-            → EachAfter (IsOnlyReading D.BlockStore H.BlockStore) (facts_of D.BlockStore H.BlockStore)
+            → EachAfter (AsksOn (IsOnlyReading D.BlockStore H.BlockStore) (facts_of D.BlockStore H.BlockStore))
             (λ v. IsRightFor D.BlockStore H.BlockStore v image) self.old.1 self.new.1 self.old.0.offer history events.now added)
             × IsAfter (facts_of D.BlockStore H.BlockStore self.new.1) self.new.0 (history ++ steps events.now added)) }
     {
