@@ -1,5 +1,5 @@
 -- A hub after one more step, by what was done.
-use Rattle.std.proofs.Common.{◌≡◌, ◌↔◌, ◌⊎◌, ◌<◌, ◌+◌, ℕ, false, true, nat_eq, List, [], ◌∷◌, ◌++◌, Option, Some, None, length, inl}
+use Rattle.std.proofs.Common.{◌≡◌, ◌≢◌, ◌↔◌, ◌⊎◌, ◌<◌, ◌+◌, ℕ, false, true, nat_eq, List, [], ◌∷◌, ◌++◌, Option, Some, None, length, inl}
 use Rattle.std.proofs.Common.{inr, refl, sym, ◌∙◌, subst, arith, eq-eqb, append-nil}
 use Rattle.std.proofs.lemmas.Bool.{cases_Bool, cases_eq, ne_eqb}
 use Rattle.nbd_session.specs.declared.status.Status.{Status}
@@ -187,6 +187,15 @@ from_none a b offer offer' input piece out out' e t =
         exact = refl;
       },
     )
+
+-- what a fed session said, after the input that it was at
+pub talked_between : (a b : Facts) (hub hub' : HubState) (h : List Step) (id : ℕ) (piece out out' : List ℕ) (s : Status)
+    → FeedsOne a b hub hub' id piece out out' s → IsAfter a hub h
+    → (s ≢ status.Starved → TalksOn a b hub.offer (own h id) piece out out') × (s ≡ status.Starved → out' ≡ out)
+talked_between a b hub hub' h id piece out out' s o x =
+    let st = open_at a hub h id o.before x o.found in
+    let P : Offer → Type 0 = λ y. TalksOn a b y (own h id) piece out out' in
+    ((λ y. subst P o.offers (o.feeds.talks y (own h id) st.2)), λ y. (o.feeds.starved y).0)
 
 pub after_fed : (a b : Facts) (hub hub' : HubState) (h : List Step) (id : ℕ) (piece out out' : List ℕ) (s : Status)
     → FeedsOne a b hub hub' id piece out out' s → IsAfter a hub h → FedAfter b hub' h id piece s out out'

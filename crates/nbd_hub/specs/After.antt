@@ -7,7 +7,7 @@ use Rattle.nbd_session.specs.declared.offer.Offer.{Offer}
 use Rattle.nbd_session.specs.Handshake.{greeting}
 use Rattle.nbd_session.specs.Protocol.{nbd_eio, nbd_enomem}
 use Rattle.nbd_session.specs.Talk.{Verdict, Bytes, Refused, hear, Judged, talk}
-use Rattle.nbd_session.specs.Session.{State, IsAt}
+use Rattle.nbd_session.specs.Session.{State, IsAt, TalksOn}
 use Rattle.nbd_session.specs.Export.{Facts}
 use Rattle.nbd_hub.specs.declared.events.Event.{Event}
 use Rattle.nbd_hub.specs.declared.events.Event.TheVariants as event
@@ -48,15 +48,30 @@ Replies offer history (event.End id) reply.Closed = IsOpen history id
 Replies offer history (event.End id) (reply.Refused fault.Unknown) = IsOpen history id → ⊥
 Replies offer history e r = ⊥
 
--- After each of the events that have a reply, at a moment that is later than the one before and not after the last: the reply is
--- right, and each session's output is the talk of its own input, by verdicts of which P holds at that moment.
-abbrev pub EachAfter : {X A B : Type 0} → (X → X → Type 0) → (X → ℕ → ℕ → Verdict → Type 0) → (now last : X)
-    → Offer → List Step → List (Event A) → List (HubReply B) → Type 0
-EachAfter later P now last offer history events [] = later now last
-EachAfter later P now last offer history [] (r ∷ replies) = ⊥
-EachAfter {X = X} later P now last offer history (e ∷ events) (r ∷ replies) = (next : X) × later now next × Replies offer history e r
+-- What an event asked of the export lies between two moments of it. What a piece adds to its session's talk was said by verdicts that
+-- the export gave between them, where failures rose for each EIO, and each READ was read once and nothing else; a piece that starved
+-- its session said nothing. Any other event asked nothing.
+abbrev pub AskedBetween : {X A B : Type 0} → (facts : X → Facts) → (now next : X) → Offer → List Step → Event A → HubReply B → Type 0
+AskedBetween facts now next offer history (event.Feed id piece) (reply.Fed s bytes) =
+    (s ≢ status.Starved → TalksOn (facts now) (facts next) offer (own history id) piece [] bytes) × (s ≡ status.Starved → bytes ≡ [])
+AskedBetween facts now next offer history e r = next ≡ now
+
+-- and the second moment is later
+abbrev pub AsksOn : {X A B : Type 0} → (later : X → X → Type 0) → (facts : X → Facts) → (now next : X) → Offer → List Step → Event A
+    → HubReply B → Type 0
+AsksOn later facts now next offer history e r = later now next × AskedBetween facts now next offer history e r
+
+-- The events that have a reply lead from one moment of the export to the last, one after the other, each by a step that an event may
+-- make. After each of them, at the next moment: the reply is right, and each session's output is the talk of its own input, by verdicts
+-- of which P holds at this moment.
+abbrev pub EachAfter : {X A B : Type 0} → (makes : (now next : X) → Offer → List Step → Event A → HubReply B → Type 0)
+    → (P : X → ℕ → ℕ → Verdict → Type 0) → (now last : X) → Offer → List Step → List (Event A) → List (HubReply B) → Type 0
+EachAfter makes P now last offer history events [] = last ≡ now
+EachAfter makes P now last offer history [] (r ∷ replies) = ⊥
+EachAfter {X = X} makes P now last offer history (e ∷ events) (r ∷ replies) =
+    (next : X) × makes now next offer history e r × Replies offer history e r
     × ((k : ℕ) → k < opened (history ++ step_of e r ∷ []) → IsTold (P next) offer (history ++ step_of e r ∷ []) k)
-    × EachAfter later P next last offer (history ++ step_of e r ∷ []) events replies
+    × EachAfter makes P next last offer (history ++ step_of e r ∷ []) events replies
 
 -- what is kept of session k: nothing unless it is open, and then it is at its own input
 abbrev pub Stands : List Step → ℕ → Option State → Type 0

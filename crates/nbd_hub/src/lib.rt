@@ -10,8 +10,9 @@
 //! up to the one that starved it), its own output, and which sessions are open. `specs/After.antt` says what it is for
 //! sessions to be after a history (`IsAfter`): each session's output is the talk of its own input, by verdicts of its own
 //! that the export gave. [`Sessions::new`] is after no step; for every history that they were after, each call leaves them
-//! after the longer one. `EachAfter` says the same of each event of a run, by what was given
-//! when it was done, and not later.
+//! after the longer one. `EachAfter` says the same of each event of a run, by what was given when it was done. The moments of
+//! the events follow one another: what a piece's answers had of the export, what failed then and what they cost lie between the
+//! moment before it and its own, no other event asked the export for anything (`AskedBetween`), and nothing did after the last.
 //!
 //! `specs/Stream.antt` says what [`serve`] has read and written at each of its exits (`Served`), where the reader and the
 //! writer tell their bytes.

@@ -8,7 +8,7 @@ ghost use Rattle.verity_check.specs.Verifier.{IsOnlyReading, IsVerifier};
 ghost use Rattle.nbd_hub.specs.declared.events.HubReply.{HubReply};
 ghost use Rattle.nbd_hub.specs.Sessions.{OpensOne, FeedsOne, EndsOne, lookup, max_open, max_opened};
 ghost use Rattle.nbd_hub.specs.History.{Step, steps};
-ghost use Rattle.nbd_hub.specs.After.{EachAfter, Given, IsAfter, OpenedAfter, FedAfter, EndedAfter};
+ghost use Rattle.nbd_hub.specs.After.{AsksOn, EachAfter, Given, IsAfter, OpenedAfter, FedAfter, EndedAfter};
 ghost use Rattle.verity_hub.specs.Verdicts.{facts_of, IsRightFor};
 
 use crate::checked_image::CheckedImage;
@@ -123,8 +123,8 @@ impl<D: BlockStore, H: BlockStore, A: Allocator + Copy + Drop> Hub<D, H, A> {
     ///
     /// # Errors
     ///
-    /// `AllocError` where memory was refused for a reply. Room for a reply is made before its event, so the events with a
-    /// reply were done and no other. Every other want of memory is a reply.
+    /// `AllocError` where memory was refused for a reply, and then not all of them have one. Room for a reply is made before its
+    /// event, so the events with a reply were done and no other. Every other want of memory is a reply.
     pub fn run<B: Allocator, C: Allocator>(
         &mut self,
         events: &[Event<B>],
@@ -133,15 +133,17 @@ impl<D: BlockStore, H: BlockStore, A: Allocator + Copy + Drop> Hub<D, H, A> {
         ensures offer { self.new.0.offer ≡ self.old.0.offer }
         ensures verifier { IsOnlyReading D.BlockStore H.BlockStore self.old.1 self.new.1 }
         ensures all { OnOk result (length replies.new.items ≡ length replies.old.items + length events.now) }
+        ensures short { OnErr result (length replies.new.items < length replies.old.items + length events.now) }
 
-        // Whatever was done since it was made, and for every image that fits the table line: at the moment of each event.
+        // Whatever was done since it was made, and for every image that fits the table line: at the moment of each event, and what it
+        // asked the verifier lies between the moment before it and its own.
         ensures ran { (added : List (HubReply A)) × (replies.new.items ≡ replies.old.items ++ added) × (length added ≤ length events.now)
             × ((history : List Step) → IsAfter (facts_of D.BlockStore H.BlockStore self.old.1) self.old.0 history
-            → EachAfter (IsOnlyReading D.BlockStore H.BlockStore) (λ v. Given (facts_of D.BlockStore H.BlockStore v))
-            self.old.1 self.new.1 self.old.0.offer history events.now added
+            → EachAfter (AsksOn (IsOnlyReading D.BlockStore H.BlockStore) (facts_of D.BlockStore H.BlockStore))
+            (λ v. Given (facts_of D.BlockStore H.BlockStore v)) self.old.1 self.new.1 self.old.0.offer history events.now added
             × ((image : List (List ℕ)) → Fits self.old.1.table image
-            → EachAfter (IsOnlyReading D.BlockStore H.BlockStore) (λ v. IsRightFor D.BlockStore H.BlockStore v image)
-            self.old.1 self.new.1 self.old.0.offer history events.now added)
+            → EachAfter (AsksOn (IsOnlyReading D.BlockStore H.BlockStore) (facts_of D.BlockStore H.BlockStore))
+            (λ v. IsRightFor D.BlockStore H.BlockStore v image) self.old.1 self.new.1 self.old.0.offer history events.now added)
             × IsAfter (facts_of D.BlockStore H.BlockStore self.new.1) self.new.0 (history ++ steps events.now added)) }
     {
         self.sessions.export().check();

@@ -12,7 +12,9 @@
 //! session's output is the talk of its own input, by verdicts of its own that the verifier gave. [`Hub::new`] is after no
 //! step; for every history that a hub was after, each call leaves it after the longer one. The bytes of a verdict are right
 //! for every image that fits the table line, whatever the stores return, and a refusal with EIO has the verifier's leave:
-//! [`Hub::run`] says so of each event, and [`laws::outputs_are_right`] of every hub.
+//! [`Hub::run`] says so of each event, by what the stores had given when it was done, and [`laws::outputs_are_right`] of every
+//! hub. The moments of the events follow one another: what a piece's answers had of the verifier, what failed then and what they
+//! cost lie between the moment before it and its own, and no other event asked the verifier for anything.
 //!
 //! [`serve_stream`] says what was read and written at each of its exits, where the reader and the writer tell their bytes.
 //! Where the stores hold an image, each verdict is the image's exact bytes, or ENOMEM, or EIO for which a store's failures

@@ -20,7 +20,7 @@ loop-event-init g c =
         refl,
         λ history x.
             let I : List Step → Type 0 = λ z. IsAfter (f c.args.self.now.1) c.args.self.now.0 z in
-            (g.met.E.Export.later_same c.args.self.now.1, subst I (sym (append-nil history)) x),
+            (refl, subst I (sym (append-nil history)) x),
       );
     }
 
@@ -44,9 +44,8 @@ loop-event-preserved g c =
         r.0 ++ one,
         c.in-Ok.ensures.items ∙ ap (λ x. x ++ one) (c.reserve.ensures.items ∙ r.1) ∙ append_assoc c.args.replies.now.items r.0 one,
         omega (arith, length-append r.0 one, n),
-        λ history x. ran_on g.E.Export.later g.met.E.Export.later_same g.met.E.Export.later_on f c.args.self.now.1
-            c.loop-event.self.1 a.new.self.1 c.args.self.now.0.offer c.loop-event.self.0 a.new.self.0
-            history events r.0 c.event-item.result a.result
-            a.ensures.later i.offer a.ensures.offer l is (r.3 history x) a.ensures.replies a.ensures.after,
+        λ history x. ran_on g.E.Export.later f c.args.self.now.1 c.loop-event.self.1 a.new.self.1 c.args.self.now.0.offer
+            c.loop-event.self.0 a.new.self.0 history events r.0 c.event-item.result a.result
+            a.ensures.later i.offer a.ensures.offer l is (r.3 history x) a.ensures.replies a.ensures.asked a.ensures.after,
       );
     }

@@ -2,7 +2,7 @@ use Rattle.std.proofs.Common.{◌≡◌, ◌++◌, List, length}
 use Rattle.nbd_session.specs.Export.{Keeps}
 use Rattle.nbd_hub.specs.declared.events.HubReply.{HubReply}
 use Rattle.nbd_hub.specs.History.{Step, steps}
-use Rattle.nbd_hub.specs.After.{EachAfter, Given, IsAfter}
+use Rattle.nbd_hub.specs.After.{AsksOn, EachAfter, Given, IsAfter}
 use Rattle.nbd_hub.proofs.sessions.Sessions.run.Given as goal
 
 abbrev pub invariant-loop-event : goal.invariant-loop-event
@@ -14,6 +14,6 @@ invariant-loop-event g l =
       later : g.E.Export.later l.fn.self.1 l.self.1;
       ran : (added : List (HubReply g.row.A.Denot)) × (l.replies.items ≡ l.fn.replies.items ++ added) × (length added ≡ l.event-index)
           × ((history : List Step) → IsAfter (facts l.fn.self.1) l.fn.self.0 history
-          → EachAfter g.E.Export.later (λ e. Given (facts e)) l.fn.self.1 l.self.1 l.fn.self.0.offer history l.events added
+          → EachAfter (AsksOn g.E.Export.later facts) (λ e. Given (facts e)) l.fn.self.1 l.self.1 l.fn.self.0.offer history l.events added
           × IsAfter (facts l.self.1) l.self.0 (history ++ steps l.events added));
     }
