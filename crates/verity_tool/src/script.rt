@@ -7,9 +7,9 @@ ghost use Rattle.verity_tool.specs.Printed.{AreAnswers, told_status};
 use std::alloc::{AllocError, Global};
 use std::io::{ErrorKind, Read, Write};
 use std::{io, str};
-use verity_edit::{Command, Committed, EditFault, Reply};
+use verity_edit::{Command, Committed, EditFault, Reply, geometry_over};
 use verity_files::{DONE, Failure, Fault, REFUSED};
-use verity_geometry::Geometry;
+use verity_profile::is_block_count;
 use verity_script::{Line, read_line};
 use verity_store::{Block, StoreFault, Which};
 use verity_volume::{Commits, Devices, Edits, committed_line};
@@ -242,17 +242,12 @@ pub fn commit<V: Edits, C: Commits<V>>(
 
 /// Whether HASH can hold the tree of the working image.
 fn has_room<V: Edits>(editor: &V, devices: Devices<'_>) -> bool {
-    let superblock = editor.superblock();
-    let tree = Geometry::with_digest(
-        superblock.data_block_size(),
-        superblock.hash_block_size(),
-        editor.blocks(),
-        superblock.algorithm().size(),
-    );
-    match tree {
-        Ok(tree) => tree.total() <= devices.hash_room.saturating_sub(devices.hash_start_block),
-        Err(_) => true,
+    let blocks = editor.blocks();
+    if !is_block_count(blocks) {
+        return true;
     }
+    let tree = geometry_over(editor.superblock(), blocks);
+    tree.total() <= devices.hash_room.saturating_sub(devices.hash_start_block)
 }
 
 /// The command that a line asks for.

@@ -2,8 +2,9 @@
 use Rattle.std.specs.Prelude.{ℕ, zero, suc, ◌+◌, ◌-◌, List, [], ◌∷◌, ◌++◌, codes}
 use Rattle.std.specs.Fmt.{decimal}
 use Rattle.uuid.specs.Text.{hyphenated_text, lower}
-use Rattle.verity_digest.specs.Hash.{name_of, size_of}
+use Rattle.verity_digest.specs.Hash.{name_of}
 use Rattle.verity_geometry.specs.Geometry.{Shape, levels_of, len_of, start_of, total_of}
+use Rattle.verity_edit.specs.Planning.{volume_shape}
 use Rattle.verity_superblock.specs.Superblock.{Volume}
 use Rattle.verity_superblock.specs.Line.{TableLine, salt_text, algorithm_of}
 use Rattle.verity_files.specs.Faults.{line}
@@ -54,15 +55,6 @@ size_lines volume = named_line (codes "data_block_size") (decimal volume.params.
     ++ (named_line (codes "hash_block_size") (decimal volume.params.hash_block_size)
     ++ (named_line (codes "data_blocks") (decimal volume.data_blocks) ++ named_line (codes "salt") (salt_text volume.params.salt)))
 
--- the shape of its tree
-abbrev pub shape_of : Volume → Shape
-shape_of volume = record {
-  data_size = volume.params.data_block_size;
-  hash_size = volume.params.hash_block_size;
-  digest_size = size_of volume.params.algorithm;
-  blocks = volume.data_blocks;
-}
-
 -- a level of a tree that begins at a hash block: where it stands, and its length
 abbrev pub level_line : Shape → ℕ → ℕ → List ℕ
 level_line shape start level = codes "level " ++ (decimal level
@@ -80,4 +72,4 @@ tree_lines shape start = (named_line (codes "levels") (decimal (levels_of shape)
 
 -- a superblock, and the tree that begins at a hash block
 abbrev pub superblock_lines : Volume → ℕ → List ℕ
-superblock_lines volume start = kind_lines volume ++ (size_lines volume ++ tree_lines (shape_of volume) start)
+superblock_lines volume start = kind_lines volume ++ (size_lines volume ++ tree_lines (volume_shape volume.params volume.data_blocks) start)

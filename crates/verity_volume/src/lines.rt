@@ -4,12 +4,13 @@ ghost use Rattle.verity_geometry.specs.Geometry.{levels_of};
 ghost use Rattle.std.specs.Io.KnownBytes.{Appends};
 ghost use Rattle.verity_superblock.specs.Line.{IsTableLine, canonical};
 ghost use Rattle.std.specs.Fmt.{decimal};
-ghost use Rattle.verity_volume.specs.Lines.{line_of, volume_line, named_line, kind_lines, size_lines, shape_of, level_line, tree_lines};
+ghost use Rattle.verity_volume.specs.Lines.{line_of, volume_line, named_line, kind_lines, size_lines, level_line, tree_lines};
 ghost use Rattle.verity_volume.specs.Lines.{superblock_lines};
 
 use std::alloc::Global;
 use std::io::Write;
 use verity_digest::Digest;
+use verity_edit::geometry_over;
 use verity_files::{Failure, salt};
 use verity_geometry::Geometry;
 use verity_superblock::{Superblock, Table, spell_salt};
@@ -97,23 +98,8 @@ pub fn print_superblock<W: Write>(
 {
     print_kind(superblock, output)?;
     print_sizes(alloc, superblock, output)?;
-    print_tree(&geometry_of(superblock), start, output)
-}
-
-/// The geometry of a superblock, which is of the profile.
-fn geometry_of(superblock: &Superblock) -> Geometry
-    ensures { result ≡ shape_of superblock.now }
-{
-    let geometry = Geometry::with_digest(
-        superblock.data_block_size(),
-        superblock.hash_block_size(),
-        superblock.data_blocks(),
-        superblock.algorithm().size(),
-    );
-    match geometry {
-        Ok(geometry) => geometry,
-        Err(_) => unreachable!(),
-    }
+    let geometry = geometry_over(superblock, superblock.data_blocks());
+    print_tree(&geometry, start, output)
 }
 
 fn print_kind<W: Write>(superblock: &Superblock, output: &mut W) -> Result<(), Failure>
