@@ -1,5 +1,5 @@
 -- A commit under a trusted table line. The facts of a store of the type S are S.BlockStore.
-use Rattle.std.specs.Prelude.{◌≡◌, ℕ, suc, ◌<◌, ◌⊎◌, Bool, true, false, List, drop, Option, Some, None}
+use Rattle.std.specs.Prelude.{◌≡◌, ℕ, suc, ◌+◌, ◌<◌, ◌≤◌, ◌⊎◌, Bool, true, false, List, length, drop, Option, Some, None}
 use Rattle.verity_digest.specs.Tree.{root, tree}
 use Rattle.verity_geometry.specs.Geometry.{levels_of}
 use Rattle.verity_store.specs.declared.store.BlockStore as store
@@ -15,11 +15,12 @@ use Rattle.verity_edit.specs.declared.fault.EditFault.{EditFault}
 use Rattle.verity_edit.specs.declared.fault.EditFault.TheVariants as fault
 use Rattle.verity_edit.specs.declared.planning.CommitPlan.{CommitPlan}
 use Rattle.verity_edit.specs.declared.under.PlanRefused.{PlanRefused}
+use Rattle.verity_edit.specs.declared.under.PlanUnder.{PlanUnder}
 use Rattle.verity_edit.specs.declared.under.PlanRefused.TheVariants.{Untrusted, Fault}
 use Rattle.verity_build.specs.Faults.{HasFailed}
 use Rattle.verity_edit.specs.Draft.{Draft, edits_of}
 use Rattle.verity_edit.specs.Making.{touched_blocks}
-use Rattle.verity_edit.specs.Planning.{volume_shape, volume_hashing}
+use Rattle.verity_edit.specs.Planning.{volume_shape, volume_hashing, IsPlan, IsRight, ReadsPaths, moves_of}
 use Rattle.verity_edit.specs.Standing.{BeginsWith}
 
 -- the table line has the volume's parameters and count, and the start and the root of its tree
@@ -48,6 +49,33 @@ line_given hash t mark h = given_by t (λ n block. ⊥) (GaveSince (hash.given h
 abbrev pub IsRightUnder : {H A : Type 0} → store.Ghosts H → Table → ℕ → H → Volume → Draft → ℕ → CommitPlan A → Type 0
 IsRightUnder hash t mark h v d first plan = (image : List (List ℕ)) → Fits t image
     → PlansEdits v d first image plan ⊎ Clash t (line_given hash t mark h) image
+
+-- what is read for a plan that is made: each hash block above an edited one, once, and one digest is made to check each
+pub record ReadsEach (v : Volume) (d : Draft) (old new checks : ℕ) : Type 0 where
+  pub paths : ReadsPaths v d 0 old new
+  pub each : checks + old ≡ new
+
+-- and whatever comes of it: at most those and one path, and no more digests
+pub record ReadsMost (v : Volume) (d : Draft) (path old new checks : ℕ) : Type 0 where
+  pub paths : ReadsPaths v d path old new
+  pub few : checks + old ≤ new
+
+-- what is read for a commit that is answered, where levels are moved too, and how many digests are made to check it
+pub record ReadsAll (v : Volume) (d : Draft) (old new checks : ℕ) : Type 0 where
+  pub paths : d.working ≡ d.committed → ReadsPaths v d 0 old new
+  pub moved : ReadsPaths v d (moves_of v d) old new
+  pub checks_most : ReadsPaths v d 0 0 checks
+  pub each : new ≤ old + checks + moves_of v d
+
+-- a commit that is answered: its plan is one for the volume and right for every image of the line, and over a store that tells for the
+-- image that it holds; the next line has the new count and the new root; and what was hashed is the plan's count
+pub record IsMadeUnder {H A : Type 0} (hash : store.Ghosts H) (t : Table) (h h' : H) (v : Volume) (d : Draft) (hashed hashed' : ℕ)
+    (made : PlanUnder A) : Type 0 where
+  pub plan : IsPlan v d t.hash_start_block t.root made.plan
+  pub next : made.tree ≡ record t { data_blocks = d.working; root = made.plan.root }
+  pub right : IsRightUnder hash t (length (hash.given h)) h' v d t.hash_start_block made.plan
+  pub told : hash.tells h ≡ true → IsRight v d t.hash_start_block t.root (hash.content h) made.plan
+  pub counted : hashed' ≡ hashed + made.plan.hashed
 
 -- Behind the first `mark` of what it gave the hash store gave the block at this place of the tree without the digest that is named
 -- for it, below a chain of given blocks. So for every image that fits the line it gave a block that isn't the image's own, and it

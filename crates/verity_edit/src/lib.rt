@@ -61,3 +61,4 @@ pub use command::{Command, Committed, Reply};
 pub use editor::{Editor, OpenRefused};
 pub use fault::EditFault;
 pub use line::LineEditor;
+pub use planning::geometry_over;

@@ -37,7 +37,8 @@ pub enum PlanRefused {
     Fault(EditFault),
 }
 
-ghost use Rattle.verity_edit.specs.Under.{IsLineFor, IsRightUnder, ExplainsUnplanned, ExplainsUncommitted};
+ghost use Rattle.verity_edit.specs.Under.{IsLineFor, IsRightUnder, IsMadeUnder, ReadsEach, ReadsMost, ReadsAll};
+ghost use Rattle.verity_edit.specs.Under.{ExplainsUnplanned, ExplainsUncommitted};
 ghost use Rattle.verity_edit.specs.Under.{LeavesWhole, refusal_of, fault_under};
 
 /// Why there is no plan, where a read was refused for this reason, or none was.
@@ -83,12 +84,10 @@ fn plan_checked<H: BlockStore, A: Allocator + Copy + Drop>(
     ensures unfailed { OnOk result (H.failures checked.new.hash_store ≡ H.failures checked.old.hash_store) }
     ensures counted { IfOk result (λ plan. hasher.new.hashed ≡ hasher.old.hashed + plan.hashed) }
     ensures salted { hasher.new.salted ≡ hasher.old.salted }
-    ensures reads { OnOk result (ReadsPaths superblock.now pending.now 0 (H.reads checked.old.hash_store)
-        (H.reads checked.new.hash_store)) }
-    ensures most_reads { ReadsPaths superblock.now pending.now (height checked.old.table) (H.reads checked.old.hash_store)
-        (H.reads checked.new.hash_store) }
-    ensures checks { checked.new.hashed + H.reads checked.old.hash_store ≤ H.reads checked.new.hash_store }
-    ensures checks_each { OnOk result (checked.new.hashed + H.reads checked.old.hash_store ≡ H.reads checked.new.hash_store) }
+    ensures each { OnOk result (ReadsEach superblock.now pending.now (H.reads checked.old.hash_store)
+        (H.reads checked.new.hash_store) checked.new.hashed) }
+    ensures most { ReadsMost superblock.now pending.now (height checked.old.table) (H.reads checked.old.hash_store)
+        (H.reads checked.new.hash_store) checked.new.hashed }
     ensures read_only { IsOnlyRead H.BlockStore checked.old.hash_store checked.new.hash_store }
 {
     pending.facts();
@@ -134,10 +133,8 @@ pub fn plan_under<H: BlockStore, A: Allocator + Copy + Drop>(
     ensures unfailed { OnOk result.2 (H.failures result.1 ≡ H.failures hash_store) }
     ensures counted { IfOk result.2 (λ plan. hasher.new.hashed ≡ hasher.old.hashed + plan.hashed) }
     ensures salted { hasher.new.salted ≡ hasher.old.salted }
-    ensures reads { OnOk result.2 (ReadsPaths superblock.now pending.now 0 (H.reads hash_store) (H.reads result.1)) }
-    ensures most_reads { ReadsPaths superblock.now pending.now (height tree) (H.reads hash_store) (H.reads result.1) }
-    ensures checks { checks.new.steps + H.reads hash_store ≤ H.reads result.1 }
-    ensures checks_each { OnOk result.2 (checks.new.steps + H.reads hash_store ≡ H.reads result.1) }
+    ensures each { OnOk result.2 (ReadsEach superblock.now pending.now (H.reads hash_store) (H.reads result.1) checks.new.steps) }
+    ensures most { ReadsMost superblock.now pending.now (height tree) (H.reads hash_store) (H.reads result.1) checks.new.steps }
     ensures read_only { IsOnlyRead H.BlockStore hash_store result.1 }
 {
     let _allowed = tree.table();
@@ -217,35 +214,24 @@ pub fn commit_under<D: BlockStore, H: BlockStore, A: Allocator + Copy + Drop>(
     ensures same { result.0 ≡ tree }
     ensures done { OnOk result.2 (IsCarriedOut D.BlockStore H.BlockStore superblock.now pending.now tree.hash_start_block tree.root
         data_store.old data_store.new hash_store result.1) }
-    ensures plan { IfOk result.2 (λ made. IsPlan superblock.now pending.now tree.hash_start_block tree.root made.plan) }
-    ensures next { IfOk result.2 (λ made. made.tree ≡ record tree { data_blocks = pending.now.working; root = made.plan.root }) }
-    ensures right { IfOk result.2 (λ made. IsRightUnder H.BlockStore tree (length (H.given hash_store)) result.1
-        superblock.now pending.now tree.hash_start_block made.plan) }
-    ensures told { IfOk result.2 (λ made. H.tells hash_store ≡ true
-        → IsRight superblock.now pending.now tree.hash_start_block tree.root (H.content hash_store) made.plan) }
+    ensures made { IfOk result.2 (IsMadeUnder H.BlockStore tree hash_store result.1 superblock.now pending.now hasher.old.hashed
+        hasher.new.hashed) }
     ensures refused { IfErr result.2 (ExplainsUncommitted D.BlockStore H.BlockStore tree (length (H.given hash_store)) data_store.old
         data_store.new hash_store result.1) }
     ensures whole { IfErr result.2 (LeavesWhole broken.new) }
     ensures unfailed { OnOk result.2 ((D.failures data_store.new ≡ D.failures data_store.old)
         × (H.failures result.1 ≡ H.failures hash_store)) }
-    ensures counts { IfOk result.2 (λ made. hasher.new.hashed ≡ hasher.old.hashed + made.plan.hashed) }
     ensures salted { hasher.new.salted ≡ hasher.old.salted }
     ensures unchanged { OnErr result.2 (broken.new ≡ false
         → (D.content data_store.new ≡ D.content data_store.old) × (H.content result.1 ≡ H.content hash_store)) }
     ensures front { KeepsFront (tree.hash_start_block - 1) (H.content hash_store) (H.content result.1) }
     ensures data_store { IsOnlyWritten D.BlockStore data_store.old data_store.new }
     ensures hash_store { StaysStore H.BlockStore hash_store result.1 }
-    ensures reads { OnOk result.2 (pending.now.working ≡ pending.now.committed
-        → ReadsPaths superblock.now pending.now 0 (H.reads hash_store) (H.reads result.1)) }
+    ensures reads { OnOk result.2 (ReadsAll superblock.now pending.now (H.reads hash_store) (H.reads result.1) checks.new.steps) }
     ensures most_reads { broken.new ≡ false
         → ReadsPaths superblock.now pending.now (height tree) (H.reads hash_store) (H.reads result.1) }
-    ensures moved_reads { OnOk result.2 (ReadsPaths superblock.now pending.now (moves_of superblock.now pending.now)
-        (H.reads hash_store) (H.reads result.1)) }
     ensures all_reads { ReadsPaths superblock.now pending.now (height tree + moves_of superblock.now pending.now)
         (H.reads hash_store) (H.reads result.1) }
-    ensures checks { OnOk result.2 (ReadsPaths superblock.now pending.now 0 0 checks.new.steps) }
-    ensures checks_each { OnOk result.2 (H.reads result.1 ≤ H.reads hash_store + checks.new.steps
-        + moves_of superblock.now pending.now) }
     ensures most_checks { ReadsPaths superblock.now pending.now (height tree) 0 checks.new.steps }
 {
     *checks = Count::new();

@@ -1,14 +1,14 @@
-use Rattle.std.proofs.Common.{◌≡◌, ℕ, ◌+◌, true≢false, true, List, [], length, get_or, arith, subst, sym, ap, ◌∙◌}
+use Rattle.std.proofs.Common.{◌≡◌, ℕ, true≢false, true, List, [], length, get_or, arith, rules, subst, sym, ap, ◌∙◌}
 use Rattle.verity_geometry.specs.Geometry.{total_of}
 use Rattle.verity_store.proofs.GivenLemmas.{goes_on_then}
 use Rattle.verity_chain.proofs.ChainLemmas.{ok_here}
 use Rattle.verity_superblock.specs.Superblock.{Volume}
 use Rattle.verity_edit.specs.declared.tree.Change.{Change}
 use Rattle.verity_edit.specs.Draft.{Draft}
-use Rattle.verity_edit.specs.Planning.{IsPlan, IsRight, ReadsPaths, moves_of}
+use Rattle.verity_edit.specs.Planning.{IsPlan, IsRight}
 use Rattle.verity_edit.specs.Levels.{moved_blocks}
 use Rattle.verity_edit.specs.Committing.{IsCarriedOut}
-use Rattle.verity_edit.specs.Under.{IsRightUnder}
+use Rattle.verity_edit.specs.Under.{IsRightUnder, ReadsEach}
 use Rattle.verity_edit.proofs.CommitLemmas.{carried_before}
 use Rattle.verity_edit.proofs.UnderLemmas.{from_ok, right_later}
 use Rattle.verity_edit.proofs.LineCommits.{at_ok}
@@ -85,35 +85,6 @@ returns-in-Ok-carry_out-clause-done g c =
     carried_before D H v d t.hash_start_block t.root c.args.data_store.now now new_data c.args.hash_store hash_now new_hash here
     data_kept.content data_kept.later.tells (kept.content ∙ read.content) (kept.later.tells ∙ read.later.tells)
 
-pub returns-in-Ok-carry_out-clause-plan : goal.returns-in-Ok-carry_out-clause-plan
-returns-in-Ok-carry_out-clause-plan g c =
-    let v : Volume = c.args.superblock.now in
-    let d : Draft = c.args.pending.now in
-    let plan = c.in-Ok-planned.plan in
-    let t = c.args.tree in
-    let first : c.hash_start_block-first.result ≡ t.hash_start_block =
-    c.hash_start_block-first.ensures.value ∙ ap (λ u. u.hash_start_block) c.table.ensures.value in
-    let made = from_ok c.plan_under-tree.result.2 plan (λ p. IsPlan v d c.hash_start_block-first.result c.root-root.result p)
-    c.in-Ok-planned.is c.plan_under-tree.ensures.plan in
-    subst (λ (r : List ℕ). IsPlan v d t.hash_start_block r plan) c.root-root.ensures
-    (subst (λ (f : ℕ). IsPlan v d f c.root-root.result plan) first made)
-
-pub returns-in-Ok-carry_out-clause-right : goal.returns-in-Ok-carry_out-clause-right
-returns-in-Ok-carry_out-clause-right g c =
-    let H = g.H.BlockStore in
-    let v : Volume = c.args.superblock.now in
-    let d : Draft = c.args.pending.now in
-    let plan = c.in-Ok-planned.plan in
-    let t = c.args.tree in
-    let mark : ℕ = length (H.given c.args.hash_store) in
-    let first : c.hash_start_block-first.result ≡ t.hash_start_block =
-    c.hash_start_block-first.ensures.value ∙ ap (λ u. u.hash_start_block) c.table.ensures.value in
-    let right = from_ok c.plan_under-tree.result.2 plan (λ p. IsRightUnder H t mark c.plan_under-tree.result.1 v d
-    c.hash_start_block-first.result p) c.in-Ok-planned.is c.plan_under-tree.ensures.right in
-    let here = subst (λ (f : ℕ). IsRightUnder H t mark c.plan_under-tree.result.1 v d f plan) first right in
-    right_later H t mark c.plan_under-tree.result.1 c.carry_out.new.hash_store v d t.hash_start_block plan
-    (goes_on_then _ _ _ c.reserve_both.ensures.hash_store.later.gave c.carry_out.ensures.hash_store.gave) here
-
 pub returns-then-is_err-clause-front : goal.returns-then-is_err-clause-front
 returns-then-is_err-clause-front g c =
     let read = c.plan_under-tree.ensures.read_only in
@@ -123,58 +94,14 @@ returns-then-is_err-clause-front g c =
     let all = ap length same in
     record { len = omega arith; each = λ q below. ap (λ blocks. get_or blocks q []) same }
 
-pub returns-in-Ok-carry_out-clause-told : goal.returns-in-Ok-carry_out-clause-told
-returns-in-Ok-carry_out-clause-told g c =
-    let H = g.H.BlockStore in
-    let v : Volume = c.args.superblock.now in
-    let d : Draft = c.args.pending.now in
-    let plan = c.in-Ok-planned.plan in
-    let t = c.args.tree in
-    let first : c.hash_start_block-first.result ≡ t.hash_start_block =
-    c.hash_start_block-first.ensures.value ∙ ap (λ u. u.hash_start_block) c.table.ensures.value in
-    let right = from_ok c.plan_under-tree.result.2 plan (λ p. H.tells c.args.hash_store ≡ true
-    → IsRight v d c.hash_start_block-first.result c.root-root.result (H.content c.args.hash_store) p) c.in-Ok-planned.is
-    c.plan_under-tree.ensures.told in
-    subst (λ (r : List ℕ). H.tells c.args.hash_store ≡ true → IsRight v d t.hash_start_block r (H.content c.args.hash_store) plan)
-    c.root-root.ensures
-    (subst (λ (f : ℕ). H.tells c.args.hash_store ≡ true → IsRight v d f c.root-root.result (H.content c.args.hash_store) plan) first right)
-
-pub returns-in-Ok-carry_out-clause-reads : goal.returns-in-Ok-carry_out-clause-reads
-returns-in-Ok-carry_out-clause-reads g c = λ stays image len.
-    let H = g.H.BlockStore in
-    let v : Volume = c.args.superblock.now in
-    let d : Draft = c.args.pending.now in
-    let read = at_ok c.plan_under-tree.result.2 c.in-Ok-planned.plan (ReadsPaths v d 0 (H.reads c.args.hash_store)
-    (H.reads c.plan_under-tree.result.1)) c.in-Ok-planned.is c.plan_under-tree.ensures.reads in
-    let most = read image len in
-    let kept = c.reserve_both.ensures.hash_store.reads in
-    let same = c.carry_out.ensures.hash_reads stays in
-    omega arith
-
 pub returns-then-is_err-clause-most_reads : goal.returns-then-is_err-clause-most_reads
 returns-then-is_err-clause-most_reads g c = λ whole image len.
-    let most = c.plan_under-tree.ensures.most_reads image len in
+    let most = c.plan_under-tree.ensures.most.paths image len in
     let kept = c.reserve_both.ensures.hash_store.reads in
     omega arith
 
 pub returns-in-Ok-carry_out-clause-most_reads : goal.returns-in-Ok-carry_out-clause-most_reads
 returns-in-Ok-carry_out-clause-most_reads g c = λ whole. absurd (true≢false (sym c.carry_out.ensures.raised ∙ whole))
-
-pub returns-in-Ok-carry_out-clause-moved_reads : goal.returns-in-Ok-carry_out-clause-moved_reads
-returns-in-Ok-carry_out-clause-moved_reads g c = λ image len.
-    let H = g.H.BlockStore in
-    let v : Volume = c.args.superblock.now in
-    let d : Draft = c.args.pending.now in
-    let plan = c.in-Ok-planned.plan in
-    let read = at_ok c.plan_under-tree.result.2 plan (ReadsPaths v d 0 (H.reads c.args.hash_store) (H.reads c.plan_under-tree.result.1))
-    c.in-Ok-planned.is c.plan_under-tree.ensures.reads in
-    let made = from_ok c.plan_under-tree.result.2 plan (λ p. IsPlan v d c.hash_start_block-first.result c.root-root.result p)
-    c.in-Ok-planned.is c.plan_under-tree.ensures.plan in
-    let moves = ap (λ (x : Change). moved_blocks x.old x.new) made.change in
-    let most = read image len in
-    let kept = c.reserve_both.ensures.hash_store.reads in
-    let moved = c.carry_out.ensures.moved_reads in
-    omega arith
 
 pub returns-in-Ok-carry_out-clause-all_reads : goal.returns-in-Ok-carry_out-clause-all_reads
 returns-in-Ok-carry_out-clause-all_reads g c = λ image len.
@@ -185,7 +112,7 @@ returns-in-Ok-carry_out-clause-all_reads g c = λ image len.
     let made = from_ok c.plan_under-tree.result.2 plan (λ p. IsPlan v d c.hash_start_block-first.result c.root-root.result p)
     c.in-Ok-planned.is c.plan_under-tree.ensures.plan in
     let moves = ap (λ (x : Change). moved_blocks x.old x.new) made.change in
-    let most = c.plan_under-tree.ensures.most_reads image len in
+    let most = c.plan_under-tree.ensures.most.paths image len in
     let kept = c.reserve_both.ensures.hash_store.reads in
     let moved = c.carry_out.ensures.moved_reads in
     omega arith
@@ -199,63 +126,89 @@ returns-clause-all_reads g c = λ image len.
     let made = from_ok c.plan_under-tree.result.2 plan (λ p. IsPlan v d c.hash_start_block-first.result c.root-root.result p)
     c.in-Ok-planned.is c.plan_under-tree.ensures.plan in
     let moves = ap (λ (x : Change). moved_blocks x.old x.new) made.change in
-    let most = c.plan_under-tree.ensures.most_reads image len in
+    let most = c.plan_under-tree.ensures.most.paths image len in
     let kept = c.reserve_both.ensures.hash_store.reads in
     let moved = c.carry_out.ensures.moved_reads in
     omega arith
 
 pub returns-then-is_err-clause-all_reads : goal.returns-then-is_err-clause-all_reads
 returns-then-is_err-clause-all_reads g c = λ image len.
-    let most = c.plan_under-tree.ensures.most_reads image len in
+    let most = c.plan_under-tree.ensures.most.paths image len in
     let kept = c.reserve_both.ensures.hash_store.reads in
-    omega arith
-
-pub returns-in-Ok-carry_out-clause-checks : goal.returns-in-Ok-carry_out-clause-checks
-returns-in-Ok-carry_out-clause-checks g c = λ image len.
-    let H = g.H.BlockStore in
-    let v : Volume = c.args.superblock.now in
-    let d : Draft = c.args.pending.now in
-    let read = at_ok c.plan_under-tree.result.2 c.in-Ok-planned.plan (ReadsPaths v d 0 (H.reads c.args.hash_store)
-    (H.reads c.plan_under-tree.result.1)) c.in-Ok-planned.is c.plan_under-tree.ensures.reads in
-    let most = read image len in
-    let once = c.plan_under-tree.ensures.checks in
     omega arith
 
 pub returns-in-Ok-carry_out-clause-most_checks : goal.returns-in-Ok-carry_out-clause-most_checks
 returns-in-Ok-carry_out-clause-most_checks g c = λ image len.
-    let most = c.plan_under-tree.ensures.most_reads image len in
-    let once = c.plan_under-tree.ensures.checks in
+    let most = c.plan_under-tree.ensures.most.paths image len in
+    let once = c.plan_under-tree.ensures.most.few in
     omega arith
 
 pub returns-clause-most_checks : goal.returns-clause-most_checks
 returns-clause-most_checks g c = λ image len.
-    let most = c.plan_under-tree.ensures.most_reads image len in
-    let once = c.plan_under-tree.ensures.checks in
+    let most = c.plan_under-tree.ensures.most.paths image len in
+    let once = c.plan_under-tree.ensures.most.few in
     omega arith
 
 pub returns-then-is_err-clause-most_checks : goal.returns-then-is_err-clause-most_checks
 returns-then-is_err-clause-most_checks g c = λ image len.
-    let most = c.plan_under-tree.ensures.most_reads image len in
-    let once = c.plan_under-tree.ensures.checks in
+    let most = c.plan_under-tree.ensures.most.paths image len in
+    let once = c.plan_under-tree.ensures.most.few in
     omega arith
 
 pub returns-in-Err-clause-most_checks : goal.returns-in-Err-clause-most_checks
 returns-in-Err-clause-most_checks g c = λ image len.
-    let most = c.plan_under-tree.ensures.most_reads image len in
-    let once = c.plan_under-tree.ensures.checks in
+    let most = c.plan_under-tree.ensures.most.paths image len in
+    let once = c.plan_under-tree.ensures.most.few in
     omega arith
 
-pub returns-in-Ok-carry_out-clause-checks_each : goal.returns-in-Ok-carry_out-clause-checks_each
-returns-in-Ok-carry_out-clause-checks_each g c =
+pub returns-in-Ok-carry_out-clause-made : goal.returns-in-Ok-carry_out-clause-made
+returns-in-Ok-carry_out-clause-made g c =
     let H = g.H.BlockStore in
     let v : Volume = c.args.superblock.now in
     let d : Draft = c.args.pending.now in
     let plan = c.in-Ok-planned.plan in
-    let each = at_ok c.plan_under-tree.result.2 plan (c.plan_under-tree.new.checks.steps + H.reads c.args.hash_store
-    ≡ H.reads c.plan_under-tree.result.1) c.in-Ok-planned.is c.plan_under-tree.ensures.checks_each in
+    let t = c.args.tree in
+    let mark : ℕ = length (H.given c.args.hash_store) in
+    let first : c.hash_start_block-first.result ≡ t.hash_start_block =
+    c.hash_start_block-first.ensures.value ∙ ap (λ u. u.hash_start_block) c.table.ensures.value in
+    let planned = from_ok c.plan_under-tree.result.2 plan (λ p. IsPlan v d c.hash_start_block-first.result c.root-root.result p)
+    c.in-Ok-planned.is c.plan_under-tree.ensures.plan in
+    let right = from_ok c.plan_under-tree.result.2 plan (λ p. IsRightUnder H t mark c.plan_under-tree.result.1 v d
+    c.hash_start_block-first.result p) c.in-Ok-planned.is c.plan_under-tree.ensures.right in
+    let right_here = subst (λ (f : ℕ). IsRightUnder H t mark c.plan_under-tree.result.1 v d f plan) first right in
+    let told = from_ok c.plan_under-tree.result.2 plan (λ p. H.tells c.args.hash_store ≡ true
+    → IsRight v d c.hash_start_block-first.result c.root-root.result (H.content c.args.hash_store) p) c.in-Ok-planned.is
+    c.plan_under-tree.ensures.told in
+    record {
+      plan = subst (λ (r : List ℕ). IsPlan v d t.hash_start_block r plan) c.root-root.ensures
+          (subst (λ (f : ℕ). IsPlan v d f c.root-root.result plan) first planned);
+      next = search rules;
+      right = right_later H t mark c.plan_under-tree.result.1 c.carry_out.new.hash_store v d t.hash_start_block plan
+          (goes_on_then _ _ _ c.reserve_both.ensures.hash_store.later.gave c.carry_out.ensures.hash_store.gave) right_here;
+      told = subst (λ (r : List ℕ). H.tells c.args.hash_store ≡ true
+          → IsRight v d t.hash_start_block r (H.content c.args.hash_store) plan) c.root-root.ensures
+          (subst (λ (f : ℕ). H.tells c.args.hash_store ≡ true
+          → IsRight v d f c.root-root.result (H.content c.args.hash_store) plan) first told);
+      counted = search rules;
+    }
+
+pub returns-in-Ok-carry_out-clause-reads : goal.returns-in-Ok-carry_out-clause-reads
+returns-in-Ok-carry_out-clause-reads g c =
+    let H = g.H.BlockStore in
+    let v : Volume = c.args.superblock.now in
+    let d : Draft = c.args.pending.now in
+    let plan = c.in-Ok-planned.plan in
+    let each = at_ok c.plan_under-tree.result.2 plan (ReadsEach v d (H.reads c.args.hash_store) (H.reads c.plan_under-tree.result.1)
+    c.plan_under-tree.new.checks.steps) c.in-Ok-planned.is c.plan_under-tree.ensures.each in
     let made = from_ok c.plan_under-tree.result.2 plan (λ p. IsPlan v d c.hash_start_block-first.result c.root-root.result p)
     c.in-Ok-planned.is c.plan_under-tree.ensures.plan in
     let moves = ap (λ (x : Change). moved_blocks x.old x.new) made.change in
     let kept = c.reserve_both.ensures.hash_store.reads in
     let moved = c.carry_out.ensures.moved_reads in
-    omega arith
+    let checked = each.each in
+    record {
+      paths = λ stays image len. let most = each.paths image len in let same = c.carry_out.ensures.hash_reads stays in omega arith;
+      moved = λ image len. let most = each.paths image len in omega arith;
+      checks_most = λ image len. let most = each.paths image len in omega arith;
+      each = omega arith;
+    }

@@ -54,58 +54,49 @@ returns-in-Err-clause-read_only g c =
     read_then g.H.BlockStore old.table old.hash_store new c.table-facts.ensures.facts
     (c.in-Err.ensures.read_only.later.fixed ∙ ap (λ s. bound_to old.table s.origin) c.requires.unread)
 
-pub returns-in-Ok-clause-most_reads : goal.returns-in-Ok-clause-most_reads
-returns-in-Ok-clause-most_reads g c =
+pub returns-in-Ok-clause-each : goal.returns-in-Ok-clause-each
+returns-in-Ok-clause-each g c =
     let old = c.args.checked.now in
     let new = c.plan_commit-planned.new.hash_store in
-    reads_most
-    g.H.BlockStore old.table old.hash_store new c.table-facts.ensures.facts
-    (c.in-Ok.ensures.read_only.later.fixed ∙ ap (λ s. bound_to old.table s.origin) c.requires.unread) c.args.superblock.now
-    c.args.pending.now c.args.first c.args.root c.requires.line (sym c.requires.committed) c.facts.ensures.some
-    (subst (λ rows. GivesTouched c.args.superblock.now c.args.pending.now c.args.first c.args.root rows new.given)
-    (ap (λ s. s.given) c.requires.unread) c.in-Ok.ensures.gives)
+    record {
+      paths = reads_paths
+          g.H.BlockStore old.table old.hash_store new c.table-facts.ensures.facts
+          (c.in-Ok.ensures.read_only.later.fixed ∙ ap (λ s. bound_to old.table s.origin) c.requires.unread) c.args.superblock.now
+          c.args.pending.now c.args.first c.args.root c.requires.line (sym c.requires.committed) c.facts.ensures.some
+          (subst (λ rows. GivesTouched c.args.superblock.now c.args.pending.now c.args.first c.args.root rows new.given)
+          (ap (λ s. s.given) c.requires.unread) c.in-Ok.ensures.gives)
+          (c.table-facts.ensures.facts.counted (c.in-Ok.ensures.fails ∙ ap (λ s. s.refused) c.requires.unread));
+      each = checks_each_then g.H.BlockStore old.table old.hash_store new c.table-facts.ensures.facts
+          (c.in-Ok.ensures.read_only.later.fixed ∙ ap (λ s. bound_to old.table s.origin) c.requires.unread)
+          (c.table-facts.ensures.facts.counted (c.in-Ok.ensures.fails ∙ ap (λ s. s.refused) c.requires.unread));
+    }
 
-pub returns-in-Err-clause-most_reads : goal.returns-in-Err-clause-most_reads
-returns-in-Err-clause-most_reads g c =
+pub returns-in-Ok-clause-most : goal.returns-in-Ok-clause-most
+returns-in-Ok-clause-most g c =
     let old = c.args.checked.now in
     let new = c.plan_commit-planned.new.hash_store in
-    reads_most
-    g.H.BlockStore old.table old.hash_store new c.table-facts.ensures.facts
-    (c.in-Err.ensures.read_only.later.fixed ∙ ap (λ s. bound_to old.table s.origin) c.requires.unread) c.args.superblock.now
-    c.args.pending.now c.args.first c.args.root c.requires.line (sym c.requires.committed) c.facts.ensures.some
-    (subst (λ rows. GivesTouched c.args.superblock.now c.args.pending.now c.args.first c.args.root rows new.given)
-    (ap (λ s. s.given) c.requires.unread) c.in-Err.ensures.gives)
+    record {
+      paths = reads_most
+          g.H.BlockStore old.table old.hash_store new c.table-facts.ensures.facts
+          (c.in-Ok.ensures.read_only.later.fixed ∙ ap (λ s. bound_to old.table s.origin) c.requires.unread) c.args.superblock.now
+          c.args.pending.now c.args.first c.args.root c.requires.line (sym c.requires.committed) c.facts.ensures.some
+          (subst (λ rows. GivesTouched c.args.superblock.now c.args.pending.now c.args.first c.args.root rows new.given)
+          (ap (λ s. s.given) c.requires.unread) c.in-Ok.ensures.gives);
+      few = checks_then g.H.BlockStore old.table old.hash_store new c.table-facts.ensures.facts
+          (c.in-Ok.ensures.read_only.later.fixed ∙ ap (λ s. bound_to old.table s.origin) c.requires.unread);
+    }
 
-pub returns-in-Ok-clause-reads : goal.returns-in-Ok-clause-reads
-returns-in-Ok-clause-reads g c =
+pub returns-in-Err-clause-most : goal.returns-in-Err-clause-most
+returns-in-Err-clause-most g c =
     let old = c.args.checked.now in
     let new = c.plan_commit-planned.new.hash_store in
-    reads_paths
-    g.H.BlockStore old.table old.hash_store new c.table-facts.ensures.facts
-    (c.in-Ok.ensures.read_only.later.fixed ∙ ap (λ s. bound_to old.table s.origin) c.requires.unread) c.args.superblock.now
-    c.args.pending.now c.args.first c.args.root c.requires.line (sym c.requires.committed) c.facts.ensures.some
-    (subst (λ rows. GivesTouched c.args.superblock.now c.args.pending.now c.args.first c.args.root rows new.given)
-    (ap (λ s. s.given) c.requires.unread) c.in-Ok.ensures.gives)
-    (c.table-facts.ensures.facts.counted (c.in-Ok.ensures.fails ∙ ap (λ s. s.refused) c.requires.unread))
-
-pub returns-in-Ok-clause-checks : goal.returns-in-Ok-clause-checks
-returns-in-Ok-clause-checks g c =
-    let old = c.args.checked.now in
-    let new = c.plan_commit-planned.new.hash_store in
-    checks_then g.H.BlockStore old.table old.hash_store new c.table-facts.ensures.facts
-    (c.in-Ok.ensures.read_only.later.fixed ∙ ap (λ s. bound_to old.table s.origin) c.requires.unread)
-
-pub returns-in-Err-clause-checks : goal.returns-in-Err-clause-checks
-returns-in-Err-clause-checks g c =
-    let old = c.args.checked.now in
-    let new = c.plan_commit-planned.new.hash_store in
-    checks_then g.H.BlockStore old.table old.hash_store new c.table-facts.ensures.facts
-    (c.in-Err.ensures.read_only.later.fixed ∙ ap (λ s. bound_to old.table s.origin) c.requires.unread)
-
-pub returns-in-Ok-clause-checks_each : goal.returns-in-Ok-clause-checks_each
-returns-in-Ok-clause-checks_each g c =
-    let old = c.args.checked.now in
-    let new = c.plan_commit-planned.new.hash_store in
-    checks_each_then g.H.BlockStore old.table old.hash_store new c.table-facts.ensures.facts
-    (c.in-Ok.ensures.read_only.later.fixed ∙ ap (λ s. bound_to old.table s.origin) c.requires.unread)
-    (c.table-facts.ensures.facts.counted (c.in-Ok.ensures.fails ∙ ap (λ s. s.refused) c.requires.unread))
+    record {
+      paths = reads_most
+          g.H.BlockStore old.table old.hash_store new c.table-facts.ensures.facts
+          (c.in-Err.ensures.read_only.later.fixed ∙ ap (λ s. bound_to old.table s.origin) c.requires.unread) c.args.superblock.now
+          c.args.pending.now c.args.first c.args.root c.requires.line (sym c.requires.committed) c.facts.ensures.some
+          (subst (λ rows. GivesTouched c.args.superblock.now c.args.pending.now c.args.first c.args.root rows new.given)
+          (ap (λ s. s.given) c.requires.unread) c.in-Err.ensures.gives);
+      few = checks_then g.H.BlockStore old.table old.hash_store new c.table-facts.ensures.facts
+          (c.in-Err.ensures.read_only.later.fixed ∙ ap (λ s. bound_to old.table s.origin) c.requires.unread);
+    }

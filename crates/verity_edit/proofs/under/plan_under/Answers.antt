@@ -1,8 +1,8 @@
-use Rattle.std.proofs.Common.{◌≡◌, ℕ, ◌+◌, ◌≤◌, true, length, IfOk, IfErr, OnOk, arith, sym, subst}
+use Rattle.std.proofs.Common.{◌≡◌, ℕ, true, length, IfOk, IfErr, OnOk, sym, subst}
 use Rattle.verity_chain.specs.Checked.{Checking}
 use Rattle.verity_chain.specs.Table.{height}
-use Rattle.verity_edit.specs.Planning.{IsRight, ReadsPaths}
-use Rattle.verity_edit.specs.Under.{ExplainsUnplanned}
+use Rattle.verity_edit.specs.Planning.{IsRight}
+use Rattle.verity_edit.specs.Under.{ReadsEach, ReadsMost, ExplainsUnplanned}
 use Rattle.verity_edit.proofs.under.plan_under.Goals as goal
 
 pub returns-clause-told : goal.returns-clause-told
@@ -22,41 +22,29 @@ returns-clause-refused g c =
     subst (λ h. IfErr result (ExplainsUnplanned H c.args.tree (length (H.given c.args.hash_store)) c.args.hash_store h))
     (sym c.into_parts-tree.ensures.store) old
 
-pub returns-clause-reads : goal.returns-clause-reads
-returns-clause-reads g c =
+pub returns-clause-each : goal.returns-clause-each
+returns-clause-each g c =
     let H = g.H.BlockStore in
     let v = c.args.superblock.now in
     let d = c.args.pending.now in
-    let result = c.plan_checked-planned.result in
-    let old = subst (λ (s : Checking g.row.H.Denot). OnOk result (ReadsPaths v d 0 (H.reads s.hash_store)
-    (H.reads c.plan_checked-planned.new.checked.hash_store))) c.new-checked.ensures c.plan_checked-planned.ensures.reads in
-    subst (λ h. OnOk result (ReadsPaths v d 0 (H.reads c.args.hash_store) (H.reads h))) (sym c.into_parts-tree.ensures.store) old
-
-pub returns-clause-most_reads : goal.returns-clause-most_reads
-returns-clause-most_reads g c =
-    let H = g.H.BlockStore in
-    let v = c.args.superblock.now in
-    let d = c.args.pending.now in
-    let old = subst (λ (s : Checking g.row.H.Denot). ReadsPaths v d (height s.table) (H.reads s.hash_store)
-    (H.reads c.plan_checked-planned.new.checked.hash_store)) c.new-checked.ensures c.plan_checked-planned.ensures.most_reads in
-    subst (λ h. ReadsPaths v d (height c.args.tree) (H.reads c.args.hash_store) (H.reads h)) (sym c.into_parts-tree.ensures.store) old
-
-pub returns-clause-checks : goal.returns-clause-checks
-returns-clause-checks g c =
-    let H = g.H.BlockStore in
-    let old = subst (λ (s : Checking g.row.H.Denot). c.plan_checked-planned.new.checked.hashed + H.reads s.hash_store
-    ≤ H.reads c.plan_checked-planned.new.checked.hash_store) c.new-checked.ensures c.plan_checked-planned.ensures.checks in
-    let here = subst (λ h. c.plan_checked-planned.new.checked.hashed + H.reads c.args.hash_store ≤ H.reads h) (sym
-    c.into_parts-tree.ensures.store) old in
-    omega (arith, c.into_parts-tree.ensures.hashed)
-
-pub returns-clause-checks_each : goal.returns-clause-checks_each
-returns-clause-checks_each g c =
-    let H = g.H.BlockStore in
     let result = c.plan_checked-planned.result in
     let hashed = c.plan_checked-planned.new.checked.hashed in
-    let old = subst (λ (s : Checking g.row.H.Denot). OnOk result (hashed + H.reads s.hash_store
-    ≡ H.reads c.plan_checked-planned.new.checked.hash_store)) c.new-checked.ensures c.plan_checked-planned.ensures.checks_each in
-    let here = subst (λ h. OnOk result (hashed + H.reads c.args.hash_store ≡ H.reads h)) (sym c.into_parts-tree.ensures.store) old in
-    subst (λ (n : ℕ). OnOk result (n + H.reads c.args.hash_store ≡ H.reads c.into_parts-tree.result.1))
+    let old = subst (λ (s : Checking g.row.H.Denot). OnOk result (ReadsEach v d (H.reads s.hash_store)
+    (H.reads c.plan_checked-planned.new.checked.hash_store) hashed)) c.new-checked.ensures c.plan_checked-planned.ensures.each in
+    let here = subst (λ h. OnOk result (ReadsEach v d (H.reads c.args.hash_store) (H.reads h) hashed))
+    (sym c.into_parts-tree.ensures.store) old in
+    subst (λ (n : ℕ). OnOk result (ReadsEach v d (H.reads c.args.hash_store) (H.reads c.into_parts-tree.result.1) n))
+    (sym c.into_parts-tree.ensures.hashed) here
+
+pub returns-clause-most : goal.returns-clause-most
+returns-clause-most g c =
+    let H = g.H.BlockStore in
+    let v = c.args.superblock.now in
+    let d = c.args.pending.now in
+    let hashed = c.plan_checked-planned.new.checked.hashed in
+    let old = subst (λ (s : Checking g.row.H.Denot). ReadsMost v d (height s.table) (H.reads s.hash_store)
+    (H.reads c.plan_checked-planned.new.checked.hash_store) hashed) c.new-checked.ensures c.plan_checked-planned.ensures.most in
+    let here = subst (λ h. ReadsMost v d (height c.args.tree) (H.reads c.args.hash_store) (H.reads h) hashed)
+    (sym c.into_parts-tree.ensures.store) old in
+    subst (λ (n : ℕ). ReadsMost v d (height c.args.tree) (H.reads c.args.hash_store) (H.reads c.into_parts-tree.result.1) n)
     (sym c.into_parts-tree.ensures.hashed) here

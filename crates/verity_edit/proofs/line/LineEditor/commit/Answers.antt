@@ -1,14 +1,13 @@
-use Rattle.std.proofs.Common.{◌≡◌, ℕ, ◌+◌, ◌≤◌, true, false, length, arith, sym, ap, subst}
+use Rattle.std.proofs.Common.{◌≡◌, ℕ, ◌+◌, ◌≤◌, false, length, arith, sym, ap, subst}
 use Rattle.verity_superblock.specs.Superblock.{Volume}
 use Rattle.verity_chain.specs.Table.{Table, height}
 use Rattle.verity_edit.specs.declared.command.Committed.{Committed}
 use Rattle.verity_edit.specs.declared.fault.EditFault.{EditFault}
 use Rattle.verity_edit.specs.declared.under.PlanUnder.{PlanUnder}
 use Rattle.verity_edit.specs.Draft.{Draft}
-use Rattle.verity_edit.specs.Planning.{IsPlan, IsRight, ReadsPaths, moves_of}
 use Rattle.verity_edit.specs.Committing.{IsCarriedOut}
 use Rattle.verity_edit.specs.Editing.{Stays}
-use Rattle.verity_edit.specs.Under.{ExplainsUncommitted, IsRightUnder, LeavesWhole}
+use Rattle.verity_edit.specs.Under.{ExplainsUncommitted, IsMadeUnder, LeavesWhole, ReadsAll}
 use Rattle.verity_edit.specs.Line.{LineEditing, CommitsUnder, IsRefusalUnder, editing_of, paths_in, moved_in}
 use Rattle.verity_edit.proofs.Frames.{stays_of}
 use Rattle.verity_edit.proofs.UnderLemmas.{from_ok}
@@ -55,24 +54,15 @@ returns-in-Ok-clause-committed g c =
     } in
     let committed : Committed = record { root = made.plan.root; hashed = made.plan.hashed } in
     let done = at_ok r made (IsCarriedOut D H v d t.hash_start_block t.root s.data_store new_data s.hash_store new_hash) is told.done in
-    let planned = from_ok r made (λ m. IsPlan v d t.hash_start_block t.root m.plan) is told.plan in
-    let next = from_ok r made (λ m. m.tree ≡ record t { data_blocks = d.working; root = m.plan.root }) is told.next in
-    let right = from_ok r made (λ m. IsRightUnder H t (length (H.given s.hash_store)) new_hash v d t.hash_start_block m.plan) is
-    told.right in
-    let tells = from_ok r made (λ m. H.tells s.hash_store ≡ true
-    → IsRight v d t.hash_start_block t.root (H.content s.hash_store) m.plan) is told.told in
+    let m = from_ok r made (IsMadeUnder H t s.hash_store new_hash v d s.hasher.hashed hashed) is told.made in
     let unfailed = at_ok r made ((D.failures new_data ≡ D.failures s.data_store) × (H.failures new_hash ≡ H.failures s.hash_store)) is
     told.unfailed in
-    let counts = from_ok r made (λ m. hashed ≡ s.hasher.hashed + m.plan.hashed) is told.counts in
-    let reads = at_ok r made (d.working ≡ d.committed → ReadsPaths v d 0 (H.reads s.hash_store) (H.reads new_hash)) is told.reads in
-    let moved_reads = at_ok r made (ReadsPaths v d (moves_of v d) (H.reads s.hash_store) (H.reads new_hash)) is told.moved_reads in
-    let checks = at_ok r made (ReadsPaths v d 0 0 checked) is told.checks in
-    let each = at_ok r made (H.reads new_hash ≤ H.reads s.hash_store + checked + moves_of v d) is told.checks_each in
+    let reads = at_ok r made (ReadsAll v d (H.reads s.hash_store) (H.reads new_hash) checked) is told.reads in
     let P : LineEditing g.row.D.Denot g.row.H.Denot → Type 0 = λ e. CommitsUnder D H e new committed in
     subst P c.self.view_is
     (commits_under D H old made.plan new_data new_hash hashed checked c.facts.ensures invariant.line invariant.behind (invariant.fits sound)
-    done planned tells told.data_store.later.tells told.hash_store.tells sound right unfailed.0 unfailed.1 counts reads moved_reads checks
-    each made.tree c.settle.new.self next c.settle.ensures)
+    done m.plan m.told told.data_store.later.tells told.hash_store.tells sound m.right unfailed.0 unfailed.1 m.counted reads.paths
+    reads.moved reads.checks_most reads.each made.tree c.settle.new.self m.next c.settle.ensures)
 
 pub returns-in-Ok-clause-stays : goal.returns-in-Ok-clause-stays
 returns-in-Ok-clause-stays g c =
@@ -86,8 +76,8 @@ returns-in-Ok-clause-stays g c =
     let told = c.commit_under-tree.ensures in
     let made : PlanUnder g.row.A.Denot = c.in-Ok.made in
     let is = c.in-Ok.is in
-    let planned = from_ok r made (λ m. IsPlan v d t.hash_start_block t.root m.plan) is told.plan in
-    let next = from_ok r made (λ m. m.tree ≡ record t { data_blocks = d.working; root = m.plan.root }) is told.next in
+    let hashed : ℕ = c.commit_under-tree.new.hasher.hashed in
+    let m = from_ok r made (IsMadeUnder H t s.hash_store c.commit_under-tree.result.1 v d s.hasher.hashed hashed) is told.made in
     let new : LineEditing g.row.D.Denot g.row.H.Denot = record {
       data_store = c.commit_under-tree.new.data_store;
       hash_store = c.commit_under-tree.result.1;
@@ -100,8 +90,8 @@ returns-in-Ok-clause-stays g c =
     } in
     let P : LineEditing g.row.D.Denot g.row.H.Denot → Type 0 = λ e. Stays D H (editing_of e) (editing_of new) in
     subst P c.self.view_is (record {
-      params = ap (λ w. w.params) planned.superblock;
-      first = ap (λ u. u.hash_start_block) next;
+      params = ap (λ w. w.params) m.plan.superblock;
+      first = ap (λ u. u.hash_start_block) m.next;
       size = ap (λ x. x.size) c.settle.ensures;
       data_reads = told.data_store.reads;
       data_store = stays_of D _ _ told.data_store.later;
