@@ -1,5 +1,5 @@
 -- What clients are told, whatever two stores return. The facts of a store of the type S are S.BlockStore.
-use Rattle.std.specs.Prelude.{◌≡◌, ℕ, ◌*◌, ◌⊎◌, List, [], ◌++◌, length}
+use Rattle.std.specs.Prelude.{◌≡◌, ℕ, ◌+◌, ◌*◌, ◌<◌, ◌⊎◌, List, [], ◌++◌, length}
 use Rattle.nbd_session.specs.declared.offer.Offer.{Offer}
 use Rattle.nbd_hub.specs.declared.events.Event.{Event}
 use Rattle.nbd_hub.specs.declared.events.HubReply.{HubReply}

@@ -1,4 +1,4 @@
-use Rattle.std.proofs.Common.{[], ap, refl}
+use Rattle.std.proofs.Common.{◌+◌, ◌<◌, [], length, ap, refl, rules}
 use Rattle.nbd_hub.specs.Sessions.{HubState}
 use Rattle.verity_check.specs.Verifier.{Verifying}
 use Rattle.verity_check.specs.declared.fault.CheckFault.TheVariants.{CacheSize}
@@ -53,4 +53,5 @@ returns-clause-refused g c =
     let replied = answered D H c.args.table c.args.data_store c.args.hash_store c.args.name c.args.events.now c.args.replies.now.items
     c.run.new.replies.items r.0 v hub hub'
     over c.new-hub.ensures.verifier c.new-hub.ensures.offer c.new-hub.ensures.after c.run.ensures.verifier r.1 (λ after. (r.3 [] after).1) in
-    (replied, c.run.ensures.short)
+    let short : length c.run.new.replies.items < length c.args.replies.now.items + length c.args.events.now = search rules in
+    (replied, short)

@@ -1,4 +1,4 @@
-use Rattle.std.proofs.Common.{◌≡◌, subst, arith}
+use Rattle.std.proofs.Common.{◌≡◌, ◌+◌, length, vec_len, ap, ◌∙◌, length-append, subst, arith, rules}
 use Rattle.verity_superblock.specs.Image.{CanBegin, start_behind}
 use Rattle.verity_edit.specs.Editing.{Editing}
 use Rattle.verity_edit.specs.Opening.{IsOpened}
@@ -19,6 +19,10 @@ returns-clause-edited g c =
     let opens : IsOpened D H d h c.args.offset opened = c.in-Ok.ensures.opened in
     let runs : AreAnswered D H commands _ opened closed c.args.replies.now.items c.run-done.new.replies.items =
     c.run-done.ensures.answered in
+    let was : vec_len c.args.replies.now ≡ length c.args.replies.now.items = search rules in
+    let is : vec_len c.run-done.new.replies ≡ length c.run-done.new.replies.items = search rules in
+    let grown : length c.run-done.new.replies.items ≡ length c.args.replies.now.items + length runs.added =
+    ap length runs.replies ∙ length-append c.args.replies.now.items runs.added in
     let shut : IsClosed D H closed c.start_of-start.result c.run-done.result c.close.result = c.close.ensures in
     let size : c.block_size.result ≡ H.size h = c.block_size.ensures.value in
     let begins : c.start_of-start.result ≡ start_behind c.args.offset (H.size h) =
@@ -27,7 +31,8 @@ returns-clause-edited g c =
     edited_by D H d h c.args.offset commands _ c.start_of-start.result _ _ opened closed opens runs c.close.result shut.data_store
     shut.hash_store shut.root shut.fits shut.stands begins shut.table
     (on_ok c.run-done.result c.close.result.done _ _ shut.done_is (λ e. omega (arith, e, runs.each)) c.run-done.ensures.all)
-    (on_err c.run-done.result c.close.result.done _ _ shut.done_is (λ e. omega (arith, e, runs.each)) c.run-done.ensures.short)
+    (on_err c.run-done.result c.close.result.done _ _ shut.done_is (λ e. omega (arith, e, runs.each, grown, was, is))
+    c.run-done.ensures.short)
 
 pub returns-in-Err-clause-refused : goal.returns-in-Err-clause-refused
 returns-in-Err-clause-refused g c = record {

@@ -1,4 +1,4 @@
-use Rattle.std.proofs.Common.{◌≡◌, ◌<◌, ◌+◌, ◌-◌, length, vec_len, refl, arith}
+use Rattle.std.proofs.Common.{◌≡◌, ◌<◌, ◌+◌, ◌-◌, length, vec_len, ap, ◌∙◌, length-append, refl, arith, rules}
 use Rattle.verity_edit.specs.Line.{LineEditing, IsOpenedUnder}
 use Rattle.verity_promise.specs.OnTheWay.{AreAnsweredUnder, IsClosedUnder}
 use Rattle.verity_promise.proofs.Closed.{on_ok, on_err}
@@ -19,6 +19,9 @@ returns-clause-edited g c =
     let opens : IsOpenedUnder D H d h c.args.table opened = c.in-Ok.ensures.opened in
     let runs : AreAnsweredUnder D H commands (vec_len new - vec_len old) opened closed old.items new.items =
     c.run_under-editor.ensures.answered in
+    let was : vec_len old ≡ length old.items = search rules in
+    let is : vec_len new ≡ length new.items = search rules in
+    let grown : length new.items ≡ length old.items + length runs.added = ap length runs.replies ∙ length-append old.items runs.added in
     let done = c.run_under-editor.result.1 in
     let shut : IsClosedUnder D H closed done c.close_under.result = c.close_under.ensures in
     edited_under D H d h c.args.table commands (vec_len new - vec_len old) old.items new.items opened closed opens runs done
@@ -26,4 +29,4 @@ returns-clause-edited g c =
     (on_ok done done (vec_len new ≡ vec_len old + length commands) (vec_len new - vec_len old ≡ length commands) refl
     (λ e. omega (arith, e)) c.run_under-editor.ensures.all)
     (on_err done done (vec_len new < vec_len old + length commands) (vec_len new - vec_len old < length commands) refl
-    (λ e. omega (arith, e, runs.each)) c.run_under-editor.ensures.short)
+    (λ e. omega (arith, e, runs.each, grown, was, is)) c.run_under-editor.ensures.short)
