@@ -52,6 +52,7 @@ returns-clause-refused g c =
     let r = c.run.ensures.ran in
     let replied = answered D H c.args.table c.args.data_store c.args.hash_store c.args.name c.args.events.now c.args.replies.now.items
     c.run.new.replies.items r.0 v hub hub'
-    over c.new-hub.ensures.verifier c.new-hub.ensures.offer c.new-hub.ensures.after c.run.ensures.verifier r.1 (λ after. (r.3 [] after).1) in
+    over c.new-hub.ensures.verifier c.new-hub.ensures.offer c.new-hub.ensures.after c.run.ensures.verifier r.1
+    (λ after. (r.3 [] after).1) in
     let short : length c.run.new.replies.items < length c.args.replies.now.items + length c.args.events.now = search rules in
     (replied, short)
