@@ -182,7 +182,9 @@ fn open_hash<R: Files<File = File> + AllocGlobal>(
     path: &str,
     shape: &Shape,
     data: Identity,
-) -> Result<(VolumeStore, bool), Failure> {
+) -> Result<(VolumeStore, bool), Failure>
+    ensures { IfOk result (λ opened. ⟦<VolumeStore as BlockStore>⟧.size opened.0 ≡ shape.now.hash_block_size) }
+{
     check_block_size(shape.hash_block_size)?;
     if shape.hash_offset == 0 {
         let (hash, is_new) = open_or_make(rt, path)?;
