@@ -10,3 +10,5 @@ pub mod Closings
 pub mod Ahead
 pub mod Comings
 pub mod Trees
+pub mod Refusals
+pub mod Offsets

@@ -5,6 +5,7 @@ pub mod Waits
 pub mod Kept
 pub mod Coming
 pub mod Opens
+pub mod Begins
 pub mod Progress
 pub mod Device
 pub mod Parameters

@@ -17,9 +17,9 @@ ghost use Rattle.verity_build.specs.Progress.{Growing, Grown, Settling, IsRight}
 ghost use Rattle.verity_build.specs.Device.{AreStored, StaysRight, StaysStored, WritesFrom};
 ghost use Rattle.verity_build.specs.Opens.{opens};
 
-use crate::leaves::{Leaves, bytes_at_a_time};
+use crate::leaves::Leaves;
 use crate::open_tree::OpenTree;
-use crate::prepare::{prepare, superblock_of};
+use crate::prepare::prepare_build;
 use crate::{BuildFault, BuildParameters};
 use std::alloc::Allocator;
 use verity_digest::Digest;
@@ -285,22 +285,16 @@ pub fn build_at<A: Allocator + Copy, P: Allocator, D: BlockStore, H: BlockStore>
     ensures refused_unfailed { IfErr result (λ fault. fault ≢ BuildFault.Store Which.Data → fault ≢ BuildFault.Store Which.Hash
         → (D.failures data_store.new ≡ D.failures data_store.old) × (H.failures hash_store.new ≡ H.failures hash_store.old)) }
 {
-    let (start, mut tree) = prepare(alloc, data_store, hash_store, params, offset)?;
-    let superblock = superblock_of(alloc, &tree.geometry, params)?;
-    let size = bytes_at_a_time(&tree.geometry).max(tree.geometry.hash_size());
-    let mut buffer = Vec::from_elem(alloc, 0u8, size)?;
-    let Ok(()) = hash_store.reserve(start + tree.geometry.total()) else {
-        return Err(BuildFault::NoMemory);
-    };
+    let mut made = prepare_build(alloc, data_store, hash_store, params, offset)?;
     match write_device(
-        &mut tree,
+        &mut made.tree,
         data_store,
         hash_store,
-        start,
-        &superblock,
-        &mut buffer,
+        made.start,
+        &made.superblock,
+        &mut made.buffer,
     ) {
         Ok(root) => Ok(root),
-        Err(which) => Err(BuildFault::from(which)),
+        Err(which) => Err(BuildFault::Store(which)),
     }
 }

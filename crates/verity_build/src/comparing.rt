@@ -15,9 +15,9 @@ ghost use Rattle.verity_build.specs.Device.{StaysRight};
 ghost use Rattle.verity_build.specs.Differences as spec;
 ghost use Rattle.verity_build.specs.Opens.{opens};
 
-use crate::leaves::{Leaves, bytes_at_a_time};
+use crate::leaves::Leaves;
 use crate::open_tree::OpenTree;
-use crate::prepare::prepare;
+use crate::prepare::prepare_compare;
 use crate::{BuildFault, BuildParameters, Compared};
 use std::alloc::Allocator;
 use verity_geometry::GeometryFault;
@@ -166,6 +166,49 @@ fn compare_tree<A: Allocator, D: BlockStore, H: BlockStore>(
     Ok(found)
 }
 
+/// Compares the tree of a data store with a hash store from `start` on: its root hash, or the first block that differs.
+fn compare_device<A: Allocator, D: BlockStore, H: BlockStore>(
+    tree: &mut OpenTree<A>,
+    data_store: &mut D,
+    hash_store: &mut H,
+    start: u64,
+    buffer: &mut [u8],
+    hash_block: &mut [u8],
+) -> Result<Compared, Which>
+    requires empty { AreEmpty (opens tree.old) }
+    requires rootless { tree.old.root ≡ None }
+    requires blocks { length (D.content data_store.old) ≡ tree.old.geometry.blocks }
+    requires data_size { D.size data_store.old ≡ tree.old.geometry.data_size }
+    requires data_buffer { tree.old.geometry.data_size ≤ length buffer.old }
+    requires hash_size { H.size hash_store.old ≡ tree.old.geometry.hash_size }
+    requires room { length hash_block.old ≡ tree.old.geometry.hash_size }
+    requires near { start ≤ 2 ^ 40 }
+    ensures compared { IfOk result (λ found. D.tells data_store.old ≡ true → H.tells hash_store.old ≡ true
+        → spec.IsCompared tree.old.geometry (hashing tree.old.hasher.salted tree.old.geometry.hash_size) (D.content data_store.old) start
+        (H.content hash_store.old) found) }
+    ensures data_store { IsOnlyRead D.BlockStore data_store.old data_store.new }
+    ensures data_reads { OnOk result (D.reads data_store.new ≡ D.reads data_store.old + tree.old.geometry.blocks) }
+    ensures data_reads_most { D.reads data_store.new ≤ D.reads data_store.old + tree.old.geometry.blocks }
+    ensures hash_store { IsOnlyRead H.BlockStore hash_store.old hash_store.new }
+    ensures data_failed { result ≡ Err Which.Data → D.failures data_store.old < D.failures data_store.new }
+    ensures hash_failed { result ≡ Err Which.Hash → H.failures hash_store.old < H.failures hash_store.new }
+    ensures data_unfailed { OnOk result (D.failures data_store.new ≡ D.failures data_store.old) }
+    ensures hash_unfailed { OnOk result (H.failures hash_store.new ≡ H.failures hash_store.old) }
+    ensures hash_reads { H.reads hash_store.new ≤ H.reads hash_store.old + total_of tree.old.geometry }
+{
+    let found = compare_tree(tree, data_store, hash_store, start, buffer, hash_block)?;
+    match found {
+        Some(place) => Ok(Compared::Differs {
+            level: place.level,
+            index: place.index,
+        }),
+        None => match tree.root {
+            Some(root) => Ok(Compared::Same(root)),
+            None => unreachable!(),
+        },
+    }
+}
+
 /// Compares the tree of a data store with a hash store from hash block 1 on: as `compare_at` with the
 /// offset 0, which U4 never refuses.
 pub fn compare<A: Allocator + Copy, P: Allocator, D: BlockStore, H: BlockStore>(
@@ -239,25 +282,16 @@ pub fn compare_at<A: Allocator + Copy, P: Allocator, D: BlockStore, H: BlockStor
     ensures refused_unfailed { IfErr result (λ fault. fault ≢ BuildFault.Store Which.Data → fault ≢ BuildFault.Store Which.Hash
         → (D.failures data_store.new ≡ D.failures data_store.old) × (H.failures hash_store.new ≡ H.failures hash_store.old)) }
 {
-    let (start, mut tree) = prepare(alloc, data_store, hash_store, params, offset)?;
-    let mut buffer = Vec::from_elem(alloc, 0u8, bytes_at_a_time(&tree.geometry))?;
-    let mut hash_block = Vec::from_elem(alloc, 0u8, tree.geometry.hash_size())?;
-    let found = compare_tree(
-        &mut tree,
+    let mut made = prepare_compare(alloc, data_store, hash_store, params, offset)?;
+    match compare_device(
+        &mut made.tree,
         data_store,
         hash_store,
-        start,
-        &mut buffer,
-        &mut hash_block,
-    )?;
-    match found {
-        Some(place) => Ok(Compared::Differs {
-            level: place.level,
-            index: place.index,
-        }),
-        None => match tree.root {
-            Some(root) => Ok(Compared::Same(root)),
-            None => unreachable!(),
-        },
+        made.start,
+        &mut made.buffer,
+        &mut made.hash_block,
+    ) {
+        Ok(found) => Ok(found),
+        Err(which) => Err(BuildFault::Store(which)),
     }
 }

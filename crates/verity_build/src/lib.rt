@@ -17,9 +17,9 @@
 //! All memory is taken before the first change of a store.
 //!
 //! The definitions stand in `specs/`: `Parameters` (what is built, and from what), `Differences` (what a
-//! comparison finds), `Faults` (when which error comes), `Texts`; of the walk `Open` and `Climb` (the hash
-//! blocks that are being filled), `Waits`, `Coming` and `Opens` (those that wait for their digests), `Ahead` (digests
-//! that are made ahead of their turn), `Progress` (how far the digests have come), `Device` (what is written).
+//! comparison finds), `Faults` (when which error comes), `Texts`; of the walk `Begins` (what it begins with), `Open`
+//! and `Climb` (the hash blocks that are being filled), `Waits`, `Coming` and `Opens` (those that wait for their digests),
+//! `Ahead` (digests that are made ahead of their turn), `Progress` (how far the digests have come), `Device` (what is written).
 #![tactic(auto)]
 
 mod build_parameters;

@@ -1,13 +1,12 @@
 //! What a build and a comparison begin with.
-ghost use Rattle.std.specs.Prelude.{◌≡◌, ◌≤◌, ◌^◌, ◌<◌, length, replicate, take, OnOk, IfOk, IfErr, None};
-ghost use Rattle.verity_geometry.specs.Geometry.{levels_of};
-ghost use Rattle.verity_superblock.specs.Image.{start_behind};
+ghost use Rattle.std.specs.Prelude.{◌≡◌, length, OnOk, IfOk, IfErr};
+ghost use Rattle.verity_store.specs.Stores.{IsKept};
 ghost use Rattle.verity_superblock.specs.Superblock.{superblock};
-ghost use Rattle.verity_build.specs.Climb.{AreEmpty};
-ghost use Rattle.verity_build.specs.Parameters.{salted_by, shape_over, volume};
+ghost use Rattle.verity_build.specs.Begins.{Begins, CanRead, CanWrite};
+ghost use Rattle.verity_build.specs.Parameters.{volume};
 ghost use Rattle.verity_build.specs.Faults.{CanBuild, Explains};
-ghost use Rattle.verity_build.specs.Opens.{opens};
 
+use crate::leaves::bytes_at_a_time;
 use crate::open_tree::OpenTree;
 use crate::{BuildFault, BuildParameters};
 use std::alloc::Allocator;
@@ -16,22 +15,35 @@ use verity_geometry::Geometry;
 use verity_store::BlockStore;
 use verity_superblock::{Superblock, tree_start};
 
+/// What a build writes with: where the tree begins, its open blocks, the superblock, and a buffer for data blocks or a hash block.
+#[derive(Drop)]
+pub(crate) struct Building<A: Allocator> {
+    pub(crate) start: u64,
+    pub(crate) tree: OpenTree<A>,
+    pub(crate) superblock: [u8; 512],
+    pub(crate) buffer: Vec<u8, A>,
+}
+
+/// What a comparison reads with: where the tree begins, its open blocks, and buffers for data blocks and for a hash block.
+#[derive(Drop)]
+pub(crate) struct Comparing<A: Allocator> {
+    pub(crate) start: u64,
+    pub(crate) tree: OpenTree<A>,
+    pub(crate) buffer: Vec<u8, A>,
+    pub(crate) hash_block: Vec<u8, A>,
+}
+
 /// Where the tree of a volume over these stores begins, and its open blocks. The first that applies:
 /// U1, U4, U3.
-pub(crate) fn prepare<A: Allocator + Copy, P: Allocator, D: BlockStore, H: BlockStore>(
+fn prepare<A: Allocator + Copy, P: Allocator, D: BlockStore, H: BlockStore>(
     alloc: A,
     data_store: &D,
     hash_store: &H,
     params: &BuildParameters<P>,
     offset: u64,
 ) -> Result<(u64, OpenTree<A>), BuildFault>
-    ensures start { IfOk result (λ made. made.0 ≡ start_behind offset (H.size hash_store.now)) }
-    ensures near { IfOk result (λ made. made.0 ≤ 2 ^ 40) }
-    ensures geometry { IfOk result (λ made. made.1.geometry ≡ shape_over params.now (D.size data_store.now) (H.size hash_store.now)
-        (length (D.content data_store.now))) }
-    ensures salted { IfOk result (λ made. made.1.hasher.salted ≡ salted_by params.now) }
-    ensures empty { IfOk result (λ made. AreEmpty (opens made.1)) }
-    ensures rootless { IfOk result (λ made. made.1.root ≡ None) }
+    ensures begun { IfOk result (λ made. Begins params.now (D.size data_store.now) (H.size hash_store.now)
+        (length (D.content data_store.now)) offset made.0 made.1) }
     ensures ok { OnOk result (CanBuild (length (D.content data_store.now)) offset (H.size hash_store.now)) }
     ensures fault { IfErr result (Explains (length (D.content data_store.now)) offset (H.size hash_store.now) ⊥ ⊥) }
 {
@@ -56,7 +68,7 @@ pub(crate) fn prepare<A: Allocator + Copy, P: Allocator, D: BlockStore, H: Block
 }
 
 /// The superblock of a volume of this geometry. U3 where memory was refused.
-pub(crate) fn superblock_of<A: Allocator + Copy, P: Allocator>(
+fn superblock_of<A: Allocator + Copy, P: Allocator>(
     alloc: A,
     geometry: &Geometry,
     params: &BuildParameters<P>,
@@ -77,4 +89,58 @@ pub(crate) fn superblock_of<A: Allocator + Copy, P: Allocator>(
         Ok(superblock) => Ok(superblock.encode()),
         Err(_) => unreachable!(),
     }
+}
+
+/// What a build of this volume writes with, and room for it in the hash store. The first that applies: U1, U4, U3.
+pub(crate) fn prepare_build<A: Allocator + Copy, P: Allocator, D: BlockStore, H: BlockStore>(
+    alloc: A,
+    data_store: &D,
+    hash_store: &mut H,
+    params: &BuildParameters<P>,
+    offset: u64,
+) -> Result<Building<A>, BuildFault>
+    ensures ready { IfOk result (λ made. CanWrite params.now (D.size data_store.now) (H.size hash_store.old)
+        (length (D.content data_store.now)) offset (H.room hash_store.new) made) }
+    ensures ok { OnOk result (CanBuild (length (D.content data_store.now)) offset (H.size hash_store.old)) }
+    ensures fault { IfErr result (Explains (length (D.content data_store.now)) offset (H.size hash_store.old) ⊥ ⊥) }
+    ensures kept { IsKept H.BlockStore hash_store.old hash_store.new }
+    ensures unfailed { H.failures hash_store.new ≡ H.failures hash_store.old }
+{
+    let (start, tree) = prepare(alloc, data_store, hash_store, params, offset)?;
+    let superblock = superblock_of(alloc, &tree.geometry, params)?;
+    let size = bytes_at_a_time(&tree.geometry).max(tree.geometry.hash_size());
+    let buffer = Vec::from_elem(alloc, 0u8, size)?;
+    let Ok(()) = hash_store.reserve(start + tree.geometry.total()) else {
+        return Err(BuildFault::NoMemory);
+    };
+    Ok(Building {
+        start,
+        tree,
+        superblock,
+        buffer,
+    })
+}
+
+/// What a comparison with this volume's tree reads with. The first that applies: U1, U4, U3.
+pub(crate) fn prepare_compare<A: Allocator + Copy, P: Allocator, D: BlockStore, H: BlockStore>(
+    alloc: A,
+    data_store: &D,
+    hash_store: &H,
+    params: &BuildParameters<P>,
+    offset: u64,
+) -> Result<Comparing<A>, BuildFault>
+    ensures ready { IfOk result (λ made. CanRead params.now (D.size data_store.now) (H.size hash_store.now)
+        (length (D.content data_store.now)) offset made) }
+    ensures ok { OnOk result (CanBuild (length (D.content data_store.now)) offset (H.size hash_store.now)) }
+    ensures fault { IfErr result (Explains (length (D.content data_store.now)) offset (H.size hash_store.now) ⊥ ⊥) }
+{
+    let (start, tree) = prepare(alloc, data_store, hash_store, params, offset)?;
+    let buffer = Vec::from_elem(alloc, 0u8, bytes_at_a_time(&tree.geometry))?;
+    let hash_block = Vec::from_elem(alloc, 0u8, tree.geometry.hash_size())?;
+    Ok(Comparing {
+        start,
+        tree,
+        buffer,
+        hash_block,
+    })
 }

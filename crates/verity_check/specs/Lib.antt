@@ -4,6 +4,7 @@ pub mod Texts
 pub mod Cache
 pub mod Stores
 pub mod Refusal
+pub mod Run
 pub mod Verifier
 pub mod Holds
 pub mod Report

@@ -9,6 +9,7 @@ ghost use Rattle.verity_chain.specs.Stores.{hash_given, IsHashStoreOf};
 ghost use Rattle.verity_check.specs.Stores.{given_in, IsDataStoreOf};
 ghost use Rattle.verity_check.specs.Cache.{IsChained};
 ghost use Rattle.verity_check.specs.Refusal.{Explains, RefusesOneOf};
+ghost use Rattle.verity_check.specs.Run.{IsCompared};
 
 use crate::ahead::{agreeing, read_ahead};
 use crate::cache::Cache;
@@ -68,6 +69,66 @@ fn name_run<H: BlockStore, A: Allocator + Copy + Drop>(
     (names.len(), None)
 }
 
+/// How far a run of data blocks came: for how many a digest is named, how many of these were read, how many of those are the ones
+/// that are named, up to the first that isn't, and the fault that ended the names, if one did.
+struct Compared {
+    named: usize,
+    read: usize,
+    good: usize,
+    unnamed: Option<CheckFault>,
+}
+
+/// Reads the data blocks from `n` on into `run`, which has the bytes of `count`, up to the first that has no name or whose read
+/// fails, hashes them side by side, and compares each with the digest that its path names.
+fn compare_run<D: BlockStore, H: BlockStore, A: Allocator + Copy + Drop>(
+    tree: &mut Tree<A>,
+    data_store: &mut D,
+    hash_store: &mut H,
+    hash_block: &mut [u8],
+    run: &mut [u8],
+    cache: &mut Cache<A>,
+    alloc: A,
+    since: &Since,
+    n: u64,
+    count: usize,
+) -> Compared
+    requires allowed { IsTable tree.old }
+    requires data_store { IsDataStoreOf D.BlockStore tree.old data_store.old }
+    requires hash_store { IsHashStoreOf H.BlockStore tree.old hash_store.old }
+    requires few { count ≤ 8 }
+    requires run_whole { length run.old ≡ count * tree.old.data_block_size }
+    requires hash_whole { length hash_block.old ≡ tree.old.hash_block_size }
+    requires data_since { since.now.of_data ≤ length (D.given data_store.old) }
+    requires hash_since { since.now.of_hash ≤ length (H.given hash_store.old) }
+    requires chained { IsChained tree.old (hash_given H.BlockStore tree.old since.now.of_hash hash_store.old) cache.old }
+    requires below { n + count ≤ tree.old.data_blocks }
+    ensures compared { IsCompared tree.old (given_in D.BlockStore H.BlockStore tree.old since.now data_store.new hash_store.new)
+        (D.failures data_store.old < D.failures data_store.new) (H.failures hash_store.old < H.failures hash_store.new) n count run.new
+        result.named result.read result.good result.unnamed }
+    ensures chained { IsChained tree.old (hash_given H.BlockStore tree.old since.now.of_hash hash_store.new) cache.new }
+    ensures data_keeps { IsOnlyRead D.BlockStore data_store.old data_store.new }
+    ensures hash_keeps { IsOnlyRead H.BlockStore hash_store.old hash_store.new }
+    ensures data_reads { D.reads data_store.new ≤ D.reads data_store.old + count }
+    ensures hash_reads { H.reads hash_store.new ≤ H.reads hash_store.old + count * height tree.old }
+    ensures same { tree.new ≡ tree.old }
+{
+    let mut room_for_names = [tree.root(); 8];
+    let names = &mut room_for_names[..count];
+    let (named, unnamed) = name_run(tree, hash_store, hash_block, cache, alloc, since, n, names);
+    let size = tree.table().data_block_size();
+    let read = read_ahead(data_store, n, named, &mut run[..named * size]);
+    let mut room_for_digests = [tree.root(); 8];
+    let digests = &mut room_for_digests[..read];
+    tree.digest_run(&run[..read * size], size, digests);
+    let good = agreeing(digests, names);
+    Compared {
+        named,
+        read,
+        good,
+        unnamed,
+    }
+}
+
 /// Reads the data blocks from `n` on into `run`, which has the bytes of `count`, and checks each along its path from the
 /// lowest cached block, or the root. They are hashed side by side, and the first block that isn't right, or whose read or
 /// path failed, is the one that is refused.
@@ -105,15 +166,14 @@ pub(crate) fn read_run<D: BlockStore, H: BlockStore, A: Allocator + Copy + Drop>
     ensures hash_reads { H.reads hash_store.new ≤ H.reads hash_store.old + count * height tree.old }
     ensures same { tree.new ≡ tree.old }
 {
-    let mut room_for_names = [tree.root(); 8];
-    let names = &mut room_for_names[..count];
-    let (named, unnamed) = name_run(tree, hash_store, hash_block, cache, alloc, since, n, names);
-    let size = tree.table().data_block_size();
-    let read = read_ahead(data_store, n, named, &mut run[..named * size]);
-    let mut room_for_digests = [tree.root(); 8];
-    let digests = &mut room_for_digests[..read];
-    tree.digest_run(&run[..read * size], size, digests);
-    let good = agreeing(digests, names);
+    let Compared {
+        named,
+        read,
+        good,
+        unnamed,
+    } = compare_run(
+        tree, data_store, hash_store, hash_block, run, cache, alloc, since, n, count,
+    );
     if good < read {
         return Err(CheckFault::Mismatch(Place::Data(n + good as u64)));
     }

@@ -8,19 +8,18 @@ use Rattle.verity_edit.specs.declared.command.Command.{Command}
 use Rattle.verity_edit.specs.declared.command.Command.TheVariants.{Write, Grow, Shrink, Discard, Commit}
 use Rattle.verity_edit.specs.declared.command.Committed.{Committed}
 use Rattle.verity_edit.specs.declared.command.Reply.TheVariants.{Done, Refused, Committed as CommittedReply}
-use Rattle.verity_edit.specs.declared.fault.EditFault.{EditFault}
-use Rattle.verity_edit.specs.declared.fault.EditFault.TheVariants.{OutOfRange, WrongLength, TooSmall, TooLarge, NoMemory, Store}
-use Rattle.verity_edit.specs.declared.fault.EditFault.TheVariants.{Broken, Mismatch, Superblock, DataLength, StoreSize, Offset}
-use Rattle.verity_edit.specs.declared.fault.EditFault.TheVariants.{Line, Untrusted}
-use Rattle.verity_edit.specs.After.{TakesMemory}
-use Rattle.verity_edit.specs.Edits.{step, rule}
-use Rattle.verity_edit.specs.Draft.{Draft, edits_of}
+use Rattle.verity_plan.specs.declared.fault.EditFault.{EditFault}
+use Rattle.verity_plan.specs.declared.fault.EditFault.TheVariants.{OutOfRange, WrongLength, TooSmall, TooLarge, NoMemory, Store}
+use Rattle.verity_plan.specs.declared.fault.EditFault.TheVariants.{Broken, Mismatch, Superblock, DataLength, StoreSize, Offset}
+use Rattle.verity_plan.specs.declared.fault.EditFault.TheVariants.{Line, Untrusted}
+use Rattle.verity_edit.specs.After.{step, rule, TakesMemory}
+use Rattle.verity_plan.specs.Draft.{Draft, edits_of}
 use Rattle.verity_edit.specs.Committing.{RefusesEdit}
 use Rattle.verity_edit.specs.Editing.{Editing, IsUnchanged, Stays, fresh}
 use Rattle.verity_edit.specs.Running.{IsEdit, reply_to}
 use Rattle.verity_edit.specs.Line.{LineEditing, CommitsUnder, ExplainsRefusalUnder, IsAnsweredUnder, IsRefusalUnder, editing_of}
-use Rattle.verity_edit.proofs.Drafts.{edits_fresh}
-use Rattle.verity_edit.proofs.Frames.{stays_same}
+use Rattle.verity_plan.proofs.Drafts.{edits_fresh}
+use Rattle.verity_plan.proofs.Frames.{stays_same}
 use Rattle.verity_edit.proofs.AnswerLemmas.{at_true, from_true}
 
 -- the faults of the rules of edits

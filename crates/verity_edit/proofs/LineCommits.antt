@@ -13,20 +13,20 @@ use Rattle.verity_superblock.specs.Superblock.{Volume}
 use Rattle.verity_chain.specs.Table.{Table, hashing_of}
 use Rattle.verity_chain.specs.Right.{Fits}
 use Rattle.verity_edit.specs.declared.command.Committed.{Committed}
-use Rattle.verity_edit.specs.declared.planning.CommitPlan.{CommitPlan}
-use Rattle.verity_edit.specs.Draft.{Draft, IsDraft, written_at, edits_of}
-use Rattle.verity_edit.specs.Standing.{BeginsWith}
-use Rattle.verity_edit.specs.Planning.{volume_hashing, IsPlan, IsRight, ReadsPaths, moves_of}
+use Rattle.verity_plan.specs.declared.planning.CommitPlan.{CommitPlan}
+use Rattle.verity_plan.specs.Draft.{Draft, IsDraft, written_at, edits_of}
+use Rattle.verity_plan.specs.Standing.{BeginsWith}
+use Rattle.verity_plan.specs.Planning.{volume_hashing, IsPlan, IsRight, ReadsPaths, moves_of}
 use Rattle.verity_edit.specs.Committing.{IsCarriedOut}
 use Rattle.verity_edit.specs.Editing.{FitsStores, fresh}
-use Rattle.verity_edit.specs.declared.fault.EditFault.TheVariants as fault
+use Rattle.verity_plan.specs.declared.fault.EditFault.TheVariants as fault
 use Rattle.verity_edit.specs.declared.under.PlanRefused.{PlanRefused}
 use Rattle.verity_edit.specs.declared.under.PlanRefused.TheVariants.{Untrusted, Fault}
 use Rattle.verity_edit.specs.Under.{ExplainsUncommitted, IsRightUnder, LeavesWhole, fault_under}
 use Rattle.verity_edit.specs.Line.{LineEditing, CommitsUnder, HoldsImage, IsLineOf, IsRefusalUnder, editing_of}
-use Rattle.verity_edit.proofs.Drafts.{at_working, length-working}
-use Rattle.verity_edit.specs.Touched.{changed_blocks}
-use Rattle.verity_edit.proofs.LeafLemmas.{leaf_hashes_most}
+use Rattle.verity_plan.proofs.Drafts.{at_working, length-working}
+use Rattle.verity_plan.specs.Touched.{changed_blocks}
+use Rattle.verity_plan.proofs.LeafLemmas.{leaf_hashes_most}
 use Rattle.verity_edit.proofs.DeviceLemmas.{device_begins, device_bytes}
 
 -- what is true where something is answered

@@ -2,7 +2,7 @@
 use Rattle.std.proofs.Common.{ℕ, List, [], ◌∷◌, ⊎_elim, inl, inr}
 use Rattle.verity_chain.specs.Table.{Table}
 use Rattle.verity_chain.specs.Right.{Fits}
-use Rattle.verity_edit.specs.Draft.{edits_of}
+use Rattle.verity_plan.specs.Draft.{edits_of}
 use Rattle.verity_edit.specs.Lines.{LineStep, AreRightLines, KeepsLines}
 
 pub lines_kept : (steps : List LineStep) (t : Table) (image : List (List ℕ)) → AreRightLines steps t → Fits t image

@@ -2,10 +2,10 @@
 use Rattle.std.proofs.Common.{◌≤◌, ℕ, List}
 use Rattle.verity_superblock.specs.Superblock.{Volume}
 use Rattle.verity_chain.specs.Table.{Table}
-use Rattle.verity_edit.specs.declared.fault.EditFault.{EditFault}
-use Rattle.verity_edit.specs.declared.fault.EditFault.TheVariants.{OutOfRange, WrongLength, TooSmall, TooLarge, NoMemory, Store}
-use Rattle.verity_edit.specs.declared.fault.EditFault.TheVariants.{Broken, Mismatch, Superblock, DataLength, StoreSize, Offset}
-use Rattle.verity_edit.specs.declared.fault.EditFault.TheVariants.{Line, Untrusted}
+use Rattle.verity_plan.specs.declared.fault.EditFault.{EditFault}
+use Rattle.verity_plan.specs.declared.fault.EditFault.TheVariants.{OutOfRange, WrongLength, TooSmall, TooLarge, NoMemory, Store}
+use Rattle.verity_plan.specs.declared.fault.EditFault.TheVariants.{Broken, Mismatch, Superblock, DataLength, StoreSize, Offset}
+use Rattle.verity_plan.specs.declared.fault.EditFault.TheVariants.{Line, Untrusted}
 use Rattle.verity_edit.specs.Opening.{IsVolume, RefusesStores}
 use Rattle.verity_edit.specs.Line.{IsLineOf, ExplainsUnder, front_block}
 

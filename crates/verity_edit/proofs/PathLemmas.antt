@@ -17,16 +17,16 @@ use Rattle.verity_chain.specs.Origin.{facts_of, rows_of}
 use Rattle.verity_chain.specs.Checked.{Checking, IsChecking, AsksOnly, Covers, bound_to}
 use Rattle.verity_chain.proofs.NoteLaws.{same_level, same_index}
 use Rattle.verity_chain.proofs.CheckedLemmas.{few_reads}
-use Rattle.verity_edit.specs.Edits.{Edits}
-use Rattle.verity_edit.specs.Draft.{Draft, edits_of}
-use Rattle.verity_edit.specs.Touched.{is_touched}
-use Rattle.verity_edit.specs.Making.{IsTouchedPlace}
-use Rattle.verity_edit.specs.Planning.{volume_shape, change_of, GivesTouched, ReadsPaths}
+use Rattle.verity_plan.specs.Edits.{Edits}
+use Rattle.verity_plan.specs.Draft.{Draft, edits_of}
+use Rattle.verity_plan.specs.Touched.{is_touched}
+use Rattle.verity_plan.specs.Making.{IsTouchedPlace}
+use Rattle.verity_plan.specs.Planning.{volume_shape, change_of, GivesTouched, ReadsPaths}
 use Rattle.verity_edit.specs.Under.{IsLineFor}
-use Rattle.verity_edit.proofs.Sums.{sum_more}
-use Rattle.verity_edit.proofs.ParentLemmas.{filter_has}
-use Rattle.verity_edit.proofs.TouchedLemmas.{has_contains, touched_upward}
-use Rattle.verity_edit.proofs.Drafts.{length-working}
+use Rattle.verity_plan.proofs.Sums.{sum_more}
+use Rattle.verity_plan.proofs.ParentLemmas.{filter_has}
+use Rattle.verity_plan.proofs.TouchedLemmas.{has_contains, touched_upward}
+use Rattle.verity_plan.proofs.Drafts.{length-working}
 use Rattle.verity_edit.proofs.UnderLemmas.{same_table, was_then}
 
 contains_map : (f : ℕ → ℕ) (xs : List ℕ) (i : ℕ) → Contains xs i → Contains (map f xs) (f i)

@@ -30,17 +30,17 @@ use Rattle.verity_chain.proofs.NoteLemmas.{noted_given}
 use Rattle.verity_chain.proofs.NoteLaws.{own_or_clashes}
 use Rattle.verity_chain.proofs.OriginLaws.{rows_same, bound_same}
 use Rattle.verity_chain.proofs.TableLaws.{two_branches}
-use Rattle.verity_edit.specs.declared.fault.EditFault.{EditFault}
-use Rattle.verity_edit.specs.declared.fault.EditFault.TheVariants as fault
-use Rattle.verity_edit.specs.declared.planning.CommitPlan.{CommitPlan}
+use Rattle.verity_plan.specs.declared.fault.EditFault.{EditFault}
+use Rattle.verity_plan.specs.declared.fault.EditFault.TheVariants as fault
+use Rattle.verity_plan.specs.declared.planning.CommitPlan.{CommitPlan}
 use Rattle.verity_edit.specs.declared.under.PlanRefused.TheVariants.{Fault}
 use Rattle.verity_store.specs.declared.fault.Which.TheVariants as which
-use Rattle.verity_edit.specs.Draft.{Draft}
-use Rattle.verity_edit.specs.Faults.{PlansOrFails}
-use Rattle.verity_edit.specs.Planning.{volume_hashing, IsRight}
-use Rattle.verity_edit.specs.Standing.{BeginsWith}
+use Rattle.verity_plan.specs.Draft.{Draft}
+use Rattle.verity_plan.specs.Faults.{PlansOrFails}
+use Rattle.verity_plan.specs.Planning.{volume_hashing, IsRight}
+use Rattle.verity_plan.specs.Standing.{BeginsWith}
 use Rattle.verity_edit.specs.Under.{IsLineFor, IsRightUnder, IsWrongBlock, ExplainsUnplanned, refusal_of, line_given}
-use Rattle.verity_edit.proofs.Trees.{stands_at}
+use Rattle.verity_plan.proofs.Trees.{stands_at}
 
 -- blocks behind so many zero blocks
 abbrev behind : (size first : ℕ) → List (List ℕ) → List (List ℕ)

@@ -1,17 +1,10 @@
--- Why the parts of an opening and of a commit fail: a store's failure is answered by its name, and none is passed over.
+-- Why an opening, a commit and their parts fail: a store's failure is answered by its name, and none is passed over.
 use Rattle.std.specs.Prelude.{◌≡◌, ℕ, ◌<◌, Result, Ok, Err}
 use Rattle.verity_store.specs.declared.fault.Which.{Which}
 use Rattle.verity_store.specs.declared.fault.Which.TheVariants as which
 use Rattle.verity_build.specs.Faults.{HasFailed}
-use Rattle.verity_edit.specs.declared.fault.EditFault.{EditFault}
-use Rattle.verity_edit.specs.declared.fault.EditFault.TheVariants.{NoMemory, Store}
-
--- of a part that reads the hash store alone, whose failures are counted before and after it
-abbrev pub PlansOrFails : {T : Type 0} → Result T EditFault → ℕ → ℕ → Type 0
-PlansOrFails (Ok made) old new = new ≡ old
-PlansOrFails (Err NoMemory) old new = new ≡ old
-PlansOrFails (Err (Store which.Hash)) old new = old < new
-PlansOrFails (Err _) old new = ⊥
+use Rattle.verity_plan.specs.declared.fault.EditFault.{EditFault}
+use Rattle.verity_plan.specs.declared.fault.EditFault.TheVariants.{NoMemory, Store}
 
 -- of a part that changes both stores
 abbrev pub NamesFailed : {T : Type 0} → Result T Which → ℕ → ℕ → ℕ → ℕ → Type 0

@@ -15,16 +15,16 @@ use Rattle.verity_edit.specs.declared.command.Command.TheVariants.{Commit}
 use Rattle.verity_edit.specs.declared.command.Committed.{Committed}
 use Rattle.verity_edit.specs.declared.command.Reply.{Reply}
 use Rattle.verity_edit.specs.declared.command.Reply.TheVariants.{Done, Refused, Committed as CommittedReply}
-use Rattle.verity_edit.specs.declared.fault.EditFault.{EditFault}
-use Rattle.verity_edit.specs.declared.fault.EditFault.TheVariants.{NoMemory, Store, Broken, Superblock, DataLength, StoreSize}
-use Rattle.verity_edit.specs.declared.fault.EditFault.TheVariants.{Line, Untrusted}
-use Rattle.verity_edit.specs.Edits.{unedited}
-use Rattle.verity_edit.specs.Draft.{Draft, edits_of}
-use Rattle.verity_edit.specs.Touched.{bound, old_touched_count}
-use Rattle.verity_edit.specs.Leaves.{hashes}
+use Rattle.verity_plan.specs.declared.fault.EditFault.{EditFault}
+use Rattle.verity_plan.specs.declared.fault.EditFault.TheVariants.{NoMemory, Store, Broken, Superblock, DataLength, StoreSize}
+use Rattle.verity_plan.specs.declared.fault.EditFault.TheVariants.{Line, Untrusted}
+use Rattle.verity_plan.specs.Edits.{unedited}
+use Rattle.verity_plan.specs.Draft.{Draft, edits_of}
+use Rattle.verity_plan.specs.Touched.{bound, old_touched_count}
+use Rattle.verity_plan.specs.Leaves.{hashes}
 use Rattle.verity_edit.specs.Editing.{Editing, Commits, FitsStores, IsUnchanged, Stands, Stays, edits_in, fresh, width_in}
 use Rattle.verity_edit.specs.Opening.{IsVolume, RefusesStores}
-use Rattle.verity_edit.specs.Planning.{moves_of}
+use Rattle.verity_plan.specs.Planning.{moves_of}
 use Rattle.verity_edit.specs.Running.{IsEdit, IsFailed, IsMade, IsRuled, IsStarved}
 use Rattle.verity_edit.specs.Under.{IsLineFor, IsWrongBlock, line_given}
 

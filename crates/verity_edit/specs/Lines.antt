@@ -4,7 +4,7 @@ use Rattle.verity_store.specs.Given.{GaveSince}
 use Rattle.verity_chain.specs.Table.{Table}
 use Rattle.verity_chain.specs.Chain.{Given, given_by}
 use Rattle.verity_chain.specs.Right.{Fits, Clash}
-use Rattle.verity_edit.specs.Draft.{Draft, edits_of}
+use Rattle.verity_plan.specs.Draft.{Draft, edits_of}
 
 -- a commit under a line: its edits, the line that it answered, the log of what its hash store ever gave, and how much of the log is
 -- from before the commit

@@ -11,17 +11,17 @@ use Rattle.verity_chain.specs.Chain.{Given, given_by, WrongAt}
 use Rattle.verity_chain.specs.Right.{Fits, Clash, GaveOther}
 use Rattle.verity_chain.specs.declared.notes.ReadRefused.{ReadRefused}
 use Rattle.verity_chain.specs.declared.notes.ReadRefused.TheVariants as refused
-use Rattle.verity_edit.specs.declared.fault.EditFault.{EditFault}
-use Rattle.verity_edit.specs.declared.fault.EditFault.TheVariants as fault
-use Rattle.verity_edit.specs.declared.planning.CommitPlan.{CommitPlan}
+use Rattle.verity_plan.specs.declared.fault.EditFault.{EditFault}
+use Rattle.verity_plan.specs.declared.fault.EditFault.TheVariants as fault
+use Rattle.verity_plan.specs.declared.planning.CommitPlan.{CommitPlan}
 use Rattle.verity_edit.specs.declared.under.PlanRefused.{PlanRefused}
 use Rattle.verity_edit.specs.declared.under.PlanUnder.{PlanUnder}
 use Rattle.verity_edit.specs.declared.under.PlanRefused.TheVariants.{Untrusted, Fault}
 use Rattle.verity_build.specs.Faults.{HasFailed}
-use Rattle.verity_edit.specs.Draft.{Draft, edits_of}
-use Rattle.verity_edit.specs.Making.{touched_blocks}
-use Rattle.verity_edit.specs.Planning.{volume_shape, volume_hashing, IsPlan, IsRight, ReadsPaths, moves_of}
-use Rattle.verity_edit.specs.Standing.{BeginsWith}
+use Rattle.verity_plan.specs.Draft.{Draft, edits_of}
+use Rattle.verity_plan.specs.Making.{touched_blocks}
+use Rattle.verity_plan.specs.Planning.{volume_shape, volume_hashing, IsPlan, IsRight, ReadsPaths, moves_of}
+use Rattle.verity_plan.specs.Standing.{BeginsWith}
 
 -- the table line has the volume's parameters and count, and the start and the root of its tree
 pub record IsLineFor (t : Table) (v : Volume) (first : ℕ) (old_root : List ℕ) : Type 0 where

@@ -1,12 +1,9 @@
 //! Edits and commits of a volume: a data store, and the hash store with its superblock and hash tree.
 //!
-//! An [`Editor`] is opened over two stores whose hash store holds the data store's tree. Edits are pending: blocks that were
-//! written stand in an ordered map beside three counts (`Pending`). A commit plans first (`planning`): it hashes each block
-//! that was written, up to eight side by side (`leaves`), and one block of zeros for all others that were added, which are kept as a
-//! run with that digest (`children`), and makes each hash block above one of them again from what stood in its place, level by
-//! level, without changing anything and without reading a data block. Then it makes room in both stores, and only then
-//! changes them (`committing`): the data blocks, the levels that stand elsewhere in the new tree, the blocks of the plan, the
-//! superblock. It syncs both last.
+//! An [`Editor`] is opened over two stores whose hash store holds the data store's tree. Edits are pending (`Pending` of
+//! `verity_plan`). A commit plans first (`plan_commit`): it makes the new tree's touched hash blocks and its root, without changing
+//! anything and without reading a data block. Then it makes room in both stores, and only then changes them (`committing`): the
+//! data blocks, the levels that stand elsewhere in the new tree, the blocks of the plan, the superblock. It syncs both last.
 //!
 //! The one contract that the layers above rely on: over stores that tell, after a commit the hash store is `hash_blocks` of
 //! `verity_superblock` for the working image, all of it, and after any list of commands editor and replies are those of
@@ -23,42 +20,25 @@
 //! The errors are those of [`EditFault`], E1 to E14. A refused call changes nothing, but for a commit of which a store failed
 //! after its first change: the editor is then broken, and all but the getters and `close` answers E7.
 //!
-//! The definitions stand in `specs/`: `Edits` (images, edits and what refuses them), `After` (commands and replies), `Touched`
-//! (the touched hash blocks and their bound), `Editing` (what a contract sees of an editor, and what a commit leaves),
-//! `Opening` (when a volume is opened), `Line` and `Lines` (the same under a table line, and chains of lines), `Faults` (what a
-//! failure of a store is answered by), `Running` (commands and lists of them); the others are of the way to them: `Draft` (pending
-//! edits), `Plan`, `Planning`, `Level`, `Making` (hash blocks made again), `Seen` (what a store shows of what it holds), `Under` (a
-//! commit under a table line), `Levels`, `Written`, `Carried`, `Committing` (what is changed). What calls leave of a store is said
-//! once, by the records of `verity_store` `Stores`.
+//! The definitions stand in `specs/`: `After` (commands and replies), `Editing` (what a contract sees of an editor, and what a
+//! commit leaves), `Opening` (when a volume is opened), `Line` and `Lines` (the same under a table line, and chains of lines),
+//! `Faults` (what a failure of a store is answered by), `Running` (commands and lists of them), `Exchange` (stores that are put in the
+//! place of an editor's); the others are of the way to them: `Under` (a commit under a table line), `Committing` (what is changed).
+//! Images, edits and their plan are defined in `verity_plan`: `Edits`, `Touched`, `Draft`, `Planning`. What calls leave of a store is
+//! said once, by the records of `verity_store` `Stores`.
 #![tactic(auto)]
 
-mod change;
-mod child;
-mod children;
 mod command;
 mod committing;
 mod editor;
-mod fault;
-mod last;
 pub mod laws;
-mod leaves;
-mod level;
-mod levels;
 mod line;
 mod line_opening;
-mod made;
 mod opening;
-mod pending;
-mod plan;
-mod planning;
-mod rooms;
 mod running;
-mod tree;
 mod under;
-mod writes;
 
 pub use command::{Command, Committed, Reply};
 pub use editor::{Editor, OpenRefused};
-pub use fault::EditFault;
 pub use line::LineEditor;
-pub use planning::geometry_over;
+pub use verity_plan::{EditFault, geometry_over};

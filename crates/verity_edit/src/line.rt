@@ -10,11 +10,9 @@ ghost use Rattle.verity_edit.specs.Line.{editing_of, paths_in, moved_in};
 
 mod edits;
 
-use crate::EditFault;
 use crate::command::{Command, Committed, Reply};
 use crate::editor::OpenRefused;
 use crate::line_opening::find_line;
-use crate::pending::Pending;
 use crate::running::reply_of;
 use crate::under::{PlanUnder, commit_under, fault_of_commit};
 use std::alloc::{Allocator, Global};
@@ -23,6 +21,7 @@ use std::mem;
 use verity_chain::Tree;
 use verity_count::Count;
 use verity_digest::{Digest, Hasher};
+use verity_plan::{EditFault, Pending};
 use verity_store::BlockStore;
 use verity_superblock::{Superblock, Table};
 

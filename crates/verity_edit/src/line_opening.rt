@@ -8,11 +8,11 @@ ghost use Rattle.verity_edit.specs.Faults.{ReadsOrFails};
 ghost use Rattle.verity_edit.specs.Opening.{IsVolume, FitsVolume};
 ghost use Rattle.verity_edit.specs.Line.{IsLineOf, ExplainsEnd, ExplainsUnder, front_block};
 
-use crate::EditFault;
 use crate::opening::{check_stores, hasher_of, read_superblock};
 use std::alloc::Allocator;
 use verity_chain::{Tree, geometry_of};
 use verity_digest::Hasher;
+use verity_plan::EditFault;
 use verity_store::BlockStore;
 use verity_superblock::{Superblock, Table};
 

@@ -7,21 +7,19 @@ ghost use Rattle.verity_superblock.specs.Superblock.{salted};
 ghost use Rattle.verity_chain.specs.Table.{IsTable, height};
 ghost use Rattle.verity_chain.specs.Stores.{IsHashStoreOf};
 ghost use Rattle.verity_chain.specs.Checked.{unread};
-ghost use Rattle.verity_edit.specs.Levels.{KeepsFront};
+ghost use Rattle.verity_plan.specs.Levels.{KeepsFront};
 ghost use Rattle.verity_edit.specs.Committing.{CanCommit, IsCarriedOut};
-ghost use Rattle.verity_edit.specs.Planning.{IsPlan, IsRight, ReadsPaths, moves_of};
+ghost use Rattle.verity_plan.specs.Planning.{IsPlan, IsRight, ReadsPaths, moves_of};
 
-use crate::EditFault;
 use crate::committing::{carry_out, reserve_both};
 use crate::line_opening::tree_of;
-use crate::pending::Pending;
-use crate::planning::{CommitPlan, plan_commit};
 use std::alloc::Allocator;
 use verity_chain::{Checked, ReadRefused, Tree};
 use verity_count::Count;
 use verity_digest::{Digest, Hasher};
+use verity_plan::{CommitPlan, EditFault, Pending, plan_commit};
 use verity_store::{BlockStore, Which};
-use verity_superblock::{Superblock, Table};
+use verity_superblock::Superblock;
 
 /// Why there is no plan.
 #[derive(Clone, Copy, Debug)]
@@ -174,19 +172,7 @@ fn next_tree<A: Allocator + Copy>(
     ensures value { IfOk result (λ next. next ≡ record tree.now { data_blocks = data_blocks; root = root }) }
     ensures fault { IfErr result (λ fault. fault ≡ EditFault.NoMemory) }
 {
-    let old = tree.table();
-    let salt = old.salt().copy(alloc)?;
-    let Ok(table) = Table::new(
-        alloc,
-        old.dev(),
-        old.hash_dev(),
-        old.data_block_size(),
-        old.hash_block_size(),
-        data_blocks,
-        old.hash_start_block(),
-        root,
-        salt,
-    ) else {
+    let Ok(table) = tree.table().with_root(alloc, data_blocks, root) else {
         return Err(EditFault::NoMemory);
     };
     tree_of(alloc, table)

@@ -12,7 +12,8 @@ use Rattle.verity_edit.specs.declared.command.Command.{Command}
 use Rattle.verity_edit.specs.declared.command.Reply.{Reply}
 use Rattle.verity_edit.specs.declared.command.Reply.TheVariants.{Refused}
 use Rattle.verity_edit.specs.declared.editor.OpenRefused.{OpenRefused}
-use Rattle.verity_edit.specs.Edits.{Edits, unedited, step}
+use Rattle.verity_edit.specs.After.{step}
+use Rattle.verity_edit.specs.Edits.{Edits, unedited}
 use Rattle.verity_edit.specs.Editing.{Stays}
 use Rattle.verity_edit.specs.Faults.{IsNotPassedOver}
 use Rattle.verity_edit.specs.Line.{LineEditing, IsOpenedUnder, IsAnsweredUnder, ExplainsUnder, editing_of}

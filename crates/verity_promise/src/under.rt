@@ -131,21 +131,7 @@ fn copy_of<A: Allocator + Copy>(alloc: A, table: &Table<A>) -> Option<Table<A>>
     ensures { IfSome result (λ line. line ≡ table.now) }
 {
     table.facts();
-    let Ok(salt) = table.salt().copy(alloc) else {
-        return None;
-    };
-    match Table::new(
-        alloc,
-        table.dev(),
-        table.hash_dev(),
-        table.data_block_size(),
-        table.hash_block_size(),
-        table.data_blocks(),
-        table.hash_start_block(),
-        table.root(),
-        salt,
-    ) {
-        Ok(line) => Some(line),
-        Err(_) => None,
-    }
+    table
+        .with_root(alloc, table.data_blocks(), table.root())
+        .ok()
 }

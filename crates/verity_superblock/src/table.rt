@@ -3,6 +3,7 @@ ghost use Rattle.std.specs.Prelude.{◌≡◌, ◌^◌, ◌≤◌, ◌∷◌, []
 ghost use Rattle.verity_profile.specs.Profile.{IsBlockSize, IsBlockCount};
 ghost use Rattle.verity_superblock.specs.Line.{IsTableLine, Line, canonical, line_refusal, values_refusal, salt_text, algorithm_of};
 ghost use Rattle.hex.specs.Hex.{IsBytes};
+ghost use Rattle.verity_digest.specs.Hash.{size_of};
 ghost use Rattle.std.specs.Result.{result_err};
 ghost use Rattle.std.specs.List.{join_with_byte};
 ghost use Rattle.std.specs.Fmt.{decimal};
@@ -141,6 +142,35 @@ impl<A: Allocator + Copy> Table<A> {
             root,
             salt,
         })
+    }
+
+    /// The table line of the same devices, sizes, start block and salt, with this count of data blocks and this
+    /// root hash, which is of the same algorithm. L5 where the count is outside the profile; else L9 where memory
+    /// was refused. It takes three requests for memory: the salt and the two paths.
+    pub fn with_root(&self, alloc: A, data_blocks: u64, root: Digest) -> Result<Self, TableFault>
+        requires { length root ≡ size_of self.now.algorithm }
+        ensures value { IfOk result (λ t. t ≡ record self.now { data_blocks = data_blocks; root = root }) }
+        ensures taken { IsBlockCount data_blocks → IsOkUnless result TableFault.NoMemory }
+        ensures refused { ¬ IsBlockCount data_blocks → result ≡ Err TableFault.Count }
+    {
+        self.facts();
+        if !is_block_count(data_blocks) {
+            return Err(TableFault::Count);
+        }
+        let Ok(salt) = self.salt.copy(alloc) else {
+            return Err(TableFault::NoMemory);
+        };
+        Self::new(
+            alloc,
+            self.dev(),
+            self.hash_dev(),
+            self.data_block_size,
+            self.hash_block_size,
+            data_blocks,
+            self.hash_start_block,
+            root,
+            salt,
+        )
     }
 
     /// The canonical spelling: numbers without leading zeros, digits in lower case, `-` for the empty

@@ -1,6 +1,6 @@
 -- What the commands print.
-use Rattle.std.specs.Prelude.{◌≡◌, ℕ, Bool, true, false, List, [], ◌∷◌, ◌++◌, codes, Option, None, Some, Ok}
-use Rattle.std.specs.List.{flat_map, list_any}
+use Rattle.std.specs.Prelude.{◌≡◌, ℕ, List, [], ◌∷◌, ◌++◌, codes, Option, Some, Ok}
+use Rattle.std.specs.List.{flat_map}
 use Rattle.std.specs.Fmt.{decimal}
 use Rattle.std.specs.Io.KnownBytes.{Appends}
 use Rattle.verity_chain.specs.Texts.{place_text}
@@ -10,10 +10,9 @@ use Rattle.verity_check.specs.declared.finding.Verdict.TheVariants as verdict
 use Rattle.verity_superblock.specs.Image.{CanBegin, start_behind}
 use Rattle.verity_superblock.specs.Line.{TableLine, IsTableLine, canonical}
 use Rattle.verity_superblock.specs.Superblock.{Volume, IsProfile}
-use Rattle.verity_files.specs.Faults.{line, fault_text}
+use Rattle.verity_files.specs.Faults.{line}
 use Rattle.verity_files.specs.Words.{number_in, salt_of}
 use Rattle.verity_files.specs.declared.failure.Word.TheVariants as word
-use Rattle.verity_files.specs.declared.fault.Fault.{Fault}
 use Rattle.verity_volume.specs.Lines.{superblock_lines}
 use Rattle.verity_words.specs.declared.words.format.FormatWords.{FormatWords}
 
@@ -54,42 +53,3 @@ pub record IsFormatted (words : FormatWords) (old new : Option (List ℕ)) : Typ
   pub asked : number_in word.HashOffset words.hash_offset.now ≡ Ok offset
   pub start : table.hash_start_block ≡ start_behind offset table.hash_block_size
   pub printed : Appends old new (line (canonical table))
-
--- what is answered to a line of a script
-pub data Answered : Type 0 where
-  Done : Answered
-  Committed : TableLine → Answered
-  BadLine : Answered
-  Refused : Fault → Answered
-
-abbrev pub answer_line : Answered → List ℕ
-answer_line Done = line (codes "ok")
-answer_line (Committed table) = codes "committed " ++ line (canonical table)
-answer_line BadLine = line (codes "bad line")
-answer_line (Refused fault) = codes "refused " ++ line (fault_text fault)
-
-abbrev pub is_refusal : Answered → Bool
-is_refusal Done = false
-is_refusal (Committed table) = false
-is_refusal BadLine = true
-is_refusal (Refused fault) = true
-
--- the status of a script: 0, or 1 where a line was refused
-abbrev pub status_for : Bool → ℕ
-status_for false = 0
-status_for true = 1
-
--- what a script prints: answers alone, a line each; and its status is 0 exactly where none of them is a refusal
-pub record AreAnswers (old new : Option (List ℕ)) (answered : ℕ) : Type 0 where
-  pub answers : List Answered
-  pub printed : Appends old new (flat_map answer_line answers)
-  pub status : answered ≡ status_for (list_any is_refusal answers)
-
--- where it tells of a refusal there was one, and else none
-abbrev pub told_status : {R : Type 0} → Option R → ℕ
-told_status None = 0
-told_status (Some refusal) = 1
-
--- what `update` prints: how many blocks were written or added, and the table line of the commit
-abbrev pub update_lines : ℕ → TableLine → List ℕ
-update_lines changed table = (codes "changed " ++ line (decimal changed)) ++ (codes "committed " ++ line (canonical table))

@@ -1,24 +1,20 @@
 //! The program, as a library: [`run`] takes the words, the input and the output, and answers the status.
 //!
 //! The work is done by the layers below, whose contracts say what it is worth; here a command reads its words, opens a volume
-//! (`verity_volume`), makes one call or a few, and prints lines. What `verify` and `recover` print, and what was printed where
-//! [`serve_on`] answers 0, their clauses say, over an output whose bytes are known; all else that is printed and refused is shown by tests.
+//! (`verity_volume`), makes one call or a few, and prints lines. The commands that change a volume are those of `verity_changes`. What
+//! `format`, `dump`, `verify` and `recover` print, where `talk` is done, and what was printed where [`serve_on`] answers 0, clauses say,
+//! over an output whose bytes are known; all else that is printed and refused is shown by tests.
 #![tactic(auto)]
 
 mod dump;
-mod edit;
 mod failing;
 mod format;
 mod opened;
-mod over;
 mod program;
 mod recover;
-mod scratch;
-mod script;
 mod serve;
 mod talk;
 mod told;
-mod update;
 mod verify;
 
 pub use program::run;

@@ -1,14 +1,11 @@
 //! The whole program.
 
 use crate::dump::dump;
-use crate::edit::edit;
 use crate::failing::fail;
 use crate::format::format;
 use crate::recover::recover;
-use crate::scratch::scratch;
 use crate::serve::serve;
 use crate::talk::talk;
-use crate::update::update;
 use crate::verify::verify;
 use clap::Error;
 use clap::error::ErrorKind;
@@ -17,6 +14,7 @@ use std::io::{Eprint, IsTerminal, Read, Write};
 use std::net::{Net, TcpListener, TcpStream};
 use std::rt::Files;
 use std::time::Clock;
+use verity_changes::{edit, scratch, update};
 use verity_files::{DONE, Failure, NOT_UNDERSTOOD, REFUSED};
 use verity_words::{Request, explain, explain_corrupt, explain_usage, explain_words, read_words};
 

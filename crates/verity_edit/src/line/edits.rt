@@ -1,13 +1,13 @@
 //! The edits of an editor under a table line, which are pending until they are committed.
 ghost use Rattle.std.specs.Prelude.{◌≡◌, ℕ, ◌⊎◌, ◌↔◌, false, List, None, IfErr, IsOk, OnErr, OnOk};
-ghost use Rattle.verity_edit.specs.Edits.{with_write, with_growth, with_shrink, write_rule, grow_rule, shrink_rule};
-ghost use Rattle.verity_edit.specs.Draft.{edits_of};
+ghost use Rattle.verity_plan.specs.Edits.{with_write, with_growth, with_shrink, write_rule, grow_rule, shrink_rule};
+ghost use Rattle.verity_plan.specs.Draft.{edits_of};
 ghost use Rattle.verity_edit.specs.Committing.{RefusesEdit};
 ghost use Rattle.verity_edit.specs.Editing.{fresh};
 
-use crate::EditFault;
 use crate::line::LineEditor;
 use std::alloc::Allocator;
+use verity_plan::EditFault;
 use verity_store::BlockStore;
 
 impl<D: BlockStore, H: BlockStore, A: Allocator + Copy + Drop> LineEditor<D, H, A> {

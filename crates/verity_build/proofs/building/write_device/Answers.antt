@@ -1,4 +1,13 @@
-use Rattle.std.proofs.Common.{◌≡◌, ◌≢◌, ℕ, suc, ◌+◌, ◌-◌, ◌<◌, ◌≤◌, List, [], true, length, get_or, set, sym, ap, ◌∙◌, subst, arith}
+use Rattle.std.proofs.Common.{◌≡◌, ◌≢◌, ℕ, suc, ◌+◌, ◌-◌, ◌<◌, ◌≤◌, List, [], Err, true, length, get_or, set, refl}
+use Rattle.std.proofs.Common.{sym, ap, ◌∙◌, subst, arith}
+use Rattle.std.proofs.lemmas.Result.{err_from_is_err_and}
+use Rattle.verity_store.specs.Given.{GoesOn}
+use Rattle.verity_store.specs.Stores.{IsLater}
+use Rattle.verity_store.specs.declared.store.BlockStore as store
+use Rattle.verity_store.specs.declared.fault.StoreFault.{StoreFault}
+use Rattle.verity_store.specs.declared.fault.StoreFault.TheVariants.{Device, Ragged, NoMemory, BlockSize}
+use Rattle.verity_store.proofs.StoreLemmas.{later_then, only_read_same}
+use Rattle.verity_build.proofs.Refusals.{no_fewer, same_fault}
 use Rattle.std.proofs.lemmas.List.{length-set}
 use Rattle.verity_digest.specs.Hash.{Salted, hashing}
 use Rattle.verity_digest.specs.Tree.{tree}
@@ -19,6 +28,110 @@ unreachable-requires g c =
     let wrote = c.in_ok-write_tree.ensures in
     root_known first.geometry (opens new) new.root first.shaped (levels_of_opens new ∙ ap levels_of wrote.geometry) wrote.grown c.in-None.is
 
+-- what setting the length leaves
+later_cut : {S : Type 0} (facts : store.Ghosts S) (old new : S) → facts.tells new ≡ facts.tells old → facts.size new ≡ facts.size old
+    → facts.fixed new ≡ facts.fixed old → GoesOn (facts.given old) (facts.given new) → facts.failures old ≤ facts.failures new
+    → facts.reads new ≡ facts.reads old → facts.room old ≤ facts.room new → IsLater facts old new
+later_cut facts old new tells size fixed gave failures reads room = record {
+  tells = tells;
+  size = size;
+  fixed = fixed;
+  gave = gave;
+  failures = failures;
+  reads = omega (arith, reads);
+  room = room;
+}
+
+-- where there is room, it fails by a failure of the device
+cut_failed : {room blocks : ℕ} (fault : StoreFault) (failed : Type 0)
+    → (fault ≢ Device → (fault ≡ NoMemory) × (room < blocks)) → (fault ≡ Device → failed) → blocks ≤ room → failed
+cut_failed Device failed why by_device there = by_device refl
+cut_failed NoMemory failed why by_device there = absurd (omega (arith, (why (λ is. cc)).1))
+cut_failed Ragged failed why by_device there = absurd (omega (arith, (why (λ is. cc)).1))
+cut_failed BlockSize failed why by_device there = absurd (omega (arith, (why (λ is. cc)).1))
+
+pub returns-in_default : goal.returns-in_default
+returns-in_default g c =
+    let D = g.D.BlockStore in
+    let H = g.H.BlockStore in
+    let image = c.args.data_store.now in
+    let device = c.args.hash_store.now in
+    let cut = c.set_len.ensures in
+    record {
+      written = tt;
+      root = tt;
+      front = λ q below inside. ap (λ (blocks : List (List ℕ)). get_or blocks q []) cut.partly.3
+          ∙ get_or-resized_old (H.size device) cut.partly.0 (H.content device) q (omega (arith, cut.partly.1)) inside;
+      data_store = only_read_same D image;
+      data_reads = tt;
+      data_reads_most = no_fewer (D.reads image) c.args.tree.now.geometry.blocks;
+      hash_store = later_cut H device c.set_len.new.self cut.tells cut.size cut.fixed cut.gave cut.failures cut.reads cut.room;
+      hash_reads = cut.reads;
+      data_failed = λ is. cc;
+      hash_failed = λ _. cut_failed c.in_default.field-0 (H.failures device < H.failures c.set_len.new.self) c.in_default.ensures.error
+          (λ is. c.in_default.ensures.failed (ap (λ fault. Err fault) is))
+          (subst (λ n. c.args.start + n ≤ H.room device) (sym c.total.ensures.value) c.requires.reserved);
+      data_unfailed = tt;
+      hash_synced = tt;
+      hash_unfailed = tt;
+    }
+
+pub returns-in_err-write_tree : goal.returns-in_err-write_tree
+returns-in_err-write_tree g c =
+    let H = g.H.BlockStore in
+    let device = c.args.hash_store.now in
+    let p = err_from_is_err_and c.from_residual.result c.from_residual.ensures.1 in
+    let cut = c.in-Ok.ensures in
+    let wrote = c.in_err-write_tree.ensures in
+    rw (p.1, p.2) record {
+      written = tt;
+      root = tt;
+      front = λ q below inside. wrote.hash_store.front q (omega arith)
+          ∙ ap (λ (blocks : List (List ℕ)). get_or blocks q []) cut.done
+          ∙ get_or-resized_old (H.size device) (c.args.start + c.total.result) (H.content device) q (omega arith) inside;
+      data_store = wrote.data_store;
+      data_reads = tt;
+      data_reads_most = wrote.data_reads_most;
+      hash_store = later_then H device c.set_len.new.self c.write_tree.new.hash_store
+          (later_cut H device c.set_len.new.self cut.tells cut.size cut.fixed cut.gave cut.failures cut.reads cut.room)
+          wrote.hash_store.later;
+      hash_reads = wrote.hash_store.reads ∙ cut.reads;
+      data_failed = λ is. wrote.data_failed (ap (λ which. Err which) (same_fault _ _ is));
+      hash_failed = λ is. subst (λ n. n < H.failures c.write_tree.new.hash_store) cut.unfailed
+          (wrote.hash_failed (ap (λ which. Err which) (same_fault _ _ is)));
+      data_unfailed = tt;
+      hash_synced = tt;
+      hash_unfailed = tt;
+    }
+
+pub returns-in_default-write_superblock : goal.returns-in_default-write_superblock
+returns-in_default-write_superblock g c =
+    let H = g.H.BlockStore in
+    let device = c.args.hash_store.now in
+    let cut = c.in-Ok.ensures in
+    let wrote = c.in_ok-write_tree.ensures in
+    let last = c.in_default-write_superblock.ensures in
+    record {
+      written = tt;
+      root = tt;
+      front = λ q below inside. last.others.1 q (λ is. absurd (omega arith)) ∙ wrote.hash_store.front q (omega arith)
+          ∙ ap (λ (blocks : List (List ℕ)). get_or blocks q []) cut.done
+          ∙ get_or-resized_old (H.size device) (c.args.start + c.total.result) (H.content device) q (omega arith) inside;
+      data_store = wrote.data_store;
+      data_reads = tt;
+      data_reads_most = wrote.data_reads_most;
+      hash_store = later_then H device c.write_tree.new.hash_store c.write_superblock.new.hash_store
+          (later_then H device c.set_len.new.self c.write_tree.new.hash_store
+          (later_cut H device c.set_len.new.self cut.tells cut.size cut.fixed cut.gave cut.failures cut.reads cut.room)
+          wrote.hash_store.later) last.later;
+      hash_reads = last.reads ∙ wrote.hash_store.reads ∙ cut.reads;
+      data_failed = λ is. cc;
+      hash_failed = λ _. subst (λ n. n < H.failures c.write_superblock.new.hash_store) (wrote.hash_unfailed ∙ cut.unfailed) last.failed;
+      data_unfailed = tt;
+      hash_synced = tt;
+      hash_unfailed = tt;
+    }
+
 pub returns-clause-root : goal.returns-clause-root
 returns-clause-root g c = λ tells.
     let first = c.args.tree.now in
@@ -31,13 +144,50 @@ returns-clause-root g c = λ tells.
 pub returns-clause-front : goal.returns-clause-front
 returns-clause-front g c = λ q below inside.
     let H = g.H.BlockStore in
-    let wrote = c.in_ok-write_tree.ensures in
-    let apart : q ≢ c.args.start - 1 = λ e. absurd (omega arith) in
-    c.in-Ok-write_superblock.ensures.others.1 q apart
-    ∙ wrote.hash_store.front q (omega arith)
+    c.in-Ok-write_superblock.ensures.others.1 q (λ is. absurd (omega arith))
+    ∙ c.in_ok-write_tree.ensures.hash_store.front q (omega arith)
     ∙ ap (λ blocks. get_or blocks q []) c.in-Ok.ensures.done
     ∙ get_or-resized_old (H.size c.args.hash_store.now) (c.args.start + c.total.result) (H.content c.args.hash_store.now) q
     (omega arith) inside
+
+pub returns-clause-data_store : goal.returns-clause-data_store
+returns-clause-data_store g c = c.in_ok-write_tree.ensures.data_store
+
+pub returns-clause-data_reads : goal.returns-clause-data_reads
+returns-clause-data_reads g c = c.in_ok-write_tree.ensures.data_reads
+
+pub returns-clause-data_reads_most : goal.returns-clause-data_reads_most
+returns-clause-data_reads_most g c = c.in_ok-write_tree.ensures.data_reads_most
+
+pub returns-clause-hash_store : goal.returns-clause-hash_store
+returns-clause-hash_store g c =
+    let H = g.H.BlockStore in
+    let device = c.args.hash_store.now in
+    let cut = c.in-Ok.ensures in
+    later_then H device c.write_tree.new.hash_store c.write_superblock.new.hash_store
+    (later_then H device c.set_len.new.self c.write_tree.new.hash_store
+    (later_cut H device c.set_len.new.self cut.tells cut.size cut.fixed cut.gave cut.failures cut.reads cut.room)
+    c.in_ok-write_tree.ensures.hash_store.later) c.in-Ok-write_superblock.ensures.later
+
+pub returns-clause-hash_reads : goal.returns-clause-hash_reads
+returns-clause-hash_reads g c =
+    c.in-Ok-write_superblock.ensures.reads ∙ c.in_ok-write_tree.ensures.hash_store.reads ∙ c.in-Ok.ensures.reads
+
+pub returns-clause-data_failed : goal.returns-clause-data_failed
+returns-clause-data_failed g c = λ is. cc
+
+pub returns-clause-hash_failed : goal.returns-clause-hash_failed
+returns-clause-hash_failed g c = λ is. cc
+
+pub returns-clause-data_unfailed : goal.returns-clause-data_unfailed
+returns-clause-data_unfailed g c = c.in_ok-write_tree.ensures.data_unfailed
+
+pub returns-clause-hash_synced : goal.returns-clause-hash_synced
+returns-clause-hash_synced g c = c.in-Ok-write_superblock.ensures.synced
+
+pub returns-clause-hash_unfailed : goal.returns-clause-hash_unfailed
+returns-clause-hash_unfailed g c =
+    c.in-Ok-write_superblock.ensures.unfailed ∙ c.in_ok-write_tree.ensures.hash_unfailed ∙ c.in-Ok.ensures.unfailed
 
 pub returns-clause-written : goal.returns-clause-written
 returns-clause-written g c = λ td th.

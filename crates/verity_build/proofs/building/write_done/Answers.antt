@@ -1,6 +1,7 @@
 use Rattle.std.proofs.Common.{◌≡◌, ◌≢◌, ℕ, suc, ◌+◌, ◌*◌, ◌/◌, ◌<◌, ◌≤◌, List, [], true, length, get_or, set, sym, ap, ◌∙◌, subst, arith}
 use Rattle.std.proofs.Math.Numerals.{add-one}
 use Rattle.std.proofs.lemmas.Bool.{eqb-true}
+use Rattle.std.proofs.lemmas.Result.{err_from_is_err_and}
 use Rattle.verity_digest.specs.Hash.{Salted, hashing}
 use Rattle.verity_digest.specs.Tree.{Hashing, hash_block, tree}
 use Rattle.verity_geometry.specs.Geometry.{Shape, digests_per_block, levels_of, len_of, place_of, total_of}
@@ -146,3 +147,70 @@ returns-clause-grown g c = λ all.
     let end : length (opens now) ≤ c.loop-level.level =
     omega (arith, levels_of_opens now, ap levels_of kept.geometry, c.levels-level-end.ensures.value, c.loop-level-test.false) in
     grown_end (digests_per_block s) c.args.blocks s.blocks c.loop-level.level (opens now) now.root kept.settling end
+
+pub returns-then-not-is_full-clause-right : goal.returns-then-not-is_full-clause-right
+returns-then-not-is_full-clause-right g c = c.loop-level.invariant.right
+
+pub returns-then-not-is_full-clause-stored : goal.returns-then-not-is_full-clause-stored
+returns-then-not-is_full-clause-stored g c = c.loop-level.invariant.stored
+
+pub returns-then-not-is_full-clause-salted : goal.returns-then-not-is_full-clause-salted
+returns-then-not-is_full-clause-salted g c = c.loop-level.invariant.salted
+
+pub returns-then-not-is_full-clause-geometry : goal.returns-then-not-is_full-clause-geometry
+returns-then-not-is_full-clause-geometry g c = c.loop-level.invariant.geometry
+
+pub returns-then-not-is_full-clause-from : goal.returns-then-not-is_full-clause-from
+returns-then-not-is_full-clause-from g c = c.loop-level.invariant.from
+
+pub returns-then-not-is_full-clause-unfailed : goal.returns-then-not-is_full-clause-unfailed
+returns-then-not-is_full-clause-unfailed g c = c.loop-level.invariant.unfailed
+
+pub returns-clause-right : goal.returns-clause-right
+returns-clause-right g c = c.loop-level.invariant.right
+
+pub returns-clause-stored : goal.returns-clause-stored
+returns-clause-stored g c = c.loop-level.invariant.stored
+
+pub returns-clause-salted : goal.returns-clause-salted
+returns-clause-salted g c = c.loop-level.invariant.salted
+
+pub returns-clause-geometry : goal.returns-clause-geometry
+returns-clause-geometry g c = c.loop-level.invariant.geometry
+
+pub returns-clause-from : goal.returns-clause-from
+returns-clause-from g c = c.loop-level.invariant.from
+
+pub returns-clause-unfailed : goal.returns-clause-unfailed
+returns-clause-unfailed g c = c.loop-level.invariant.unfailed
+
+pub returns-in_err-write : goal.returns-in_err-write
+returns-in_err-write g c =
+    let H = g.H.BlockStore in
+    let kept = c.loop-level.invariant in
+    let settled = c.settle.ensures in
+    let wrote = c.write.ensures in
+    let p = err_from_is_err_and c.from_residual.result c.from_residual.ensures.1 in
+    let later : IsLater H c.loop-level.hash_store c.write.new.self =
+    record {
+      tells = wrote.tells;
+      size = wrote.size;
+      fixed = wrote.fixed;
+      gave = wrote.gave;
+      failures = wrote.failures;
+      reads = omega (arith, wrote.reads);
+      room = omega (arith, wrote.room);
+    } in
+    rw (p.1) record {
+      growing = tt;
+      grown = tt;
+      right = tt;
+      stored = tt;
+      salted = settled.salted ∙ kept.salted;
+      geometry = settled.geometry ∙ kept.geometry;
+      from = writes_then H c.args.start c.args.hash_store.now c.loop-level.hash_store c.write.new.self kept.from
+          (writes_one H c.args.start (c.args.start + c.place-place.result) c.loop-level.hash_store c.write.new.self (omega arith)
+          wrote.others wrote.reads wrote.room later);
+      failed = subst (λ n. n < H.failures c.write.new.self) kept.unfailed c.in_err-write.ensures.failed;
+      unfailed = tt;
+    }

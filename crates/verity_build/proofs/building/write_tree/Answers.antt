@@ -1,5 +1,6 @@
 use Rattle.std.proofs.Common.{◌≡◌, ℕ, ◌+◌, ◌<◌, ◌≤◌, List, [], true, length, get_or, refl, sym, ap, ◌∙◌, subst, arith}
 use Rattle.std.specs.Prelude.{Option, None}
+use Rattle.std.proofs.lemmas.Result.{err_from_is_err_and}
 use Rattle.verity_digest.specs.Hash.{Salted, hashing, salted_digest}
 use Rattle.verity_digest.specs.Tree.{Hashing, tree}
 use Rattle.verity_geometry.specs.Geometry.{Shape, digests_per_block, levels_of}
@@ -13,6 +14,7 @@ use Rattle.verity_build.specs.Ahead.{AreAhead}
 use Rattle.verity_build.specs.Climb.{Comes}
 use Rattle.verity_build.specs.Progress.{Growing, Grown, Settling, IsRight}
 use Rattle.verity_build.specs.Device.{AreStored, StaysRight, StaysStored}
+use Rattle.verity_build.proofs.Refusals.{same_fault}
 use Rattle.verity_build.proofs.Ahead.{ahead_none, comes_now}
 use Rattle.verity_build.proofs.Settles.{growing_empty, settling_from}
 use Rattle.verity_build.proofs.Rightly.{right_empty}
@@ -130,4 +132,80 @@ loop-n-preserved g c =
           wrote.from;
       data_unfailed = next.unfailed ∙ kept.data_unfailed;
       hash_unfailed = wrote.unfailed ∙ kept.hash_unfailed;
+    }
+
+pub returns-in_err-digest : goal.returns-in_err-digest
+returns-in_err-digest g c =
+    let D = g.D.BlockStore in
+    let image = c.args.data_store.now in
+    let kept = c.loop-n.invariant in
+    let p = err_from_is_err_and c.from_residual.result c.from_residual.ensures.1 in
+    let next = c.in_err-digest.ensures in
+    rw (p.1, p.2) record {
+      grown = tt;
+      right = tt;
+      stored = tt;
+      geometry = next.geometry ∙ kept.geometry;
+      data_store = only_read_then D image c.loop-n.data_store c.next.new.data_store kept.data_store next.read;
+      data_reads = tt;
+      data_reads_most = omega (arith, next.reads_most, kept.data_reads, ap (λ (t : Shape). t.blocks) kept.geometry);
+      hash_store = kept.hash_store;
+      data_failed = λ _. subst (λ n. n < D.failures c.next.new.data_store) kept.data_unfailed next.failed;
+      hash_failed = λ is. let named = same_fault _ _ is in let by_data = next.which in cc;
+      data_unfailed = tt;
+      hash_unfailed = tt;
+    }
+
+pub returns-in_default : goal.returns-in_default
+returns-in_default g c =
+    let D = g.D.BlockStore in
+    let H = g.H.BlockStore in
+    let image = c.args.data_store.now in
+    let device = c.args.hash_store.now in
+    let kept = c.loop-n.invariant in
+    let next = c.in_ok-digest.ensures in
+    let wrote = c.write_done.ensures in
+    let geometry = c.take.ensures.geometry ∙ next.geometry ∙ kept.geometry in
+    record {
+      grown = tt;
+      right = tt;
+      stored = tt;
+      geometry = wrote.geometry ∙ geometry;
+      data_store = only_read_then D image c.loop-n.data_store c.next.new.data_store kept.data_store next.read;
+      data_reads = tt;
+      data_reads_most = omega (arith, c.next.ensures.reads_most, kept.data_reads, ap (λ (t : Shape). t.blocks) kept.geometry);
+      hash_store = writes_then H c.args.start device c.loop-n.hash_store c.write_done.new.hash_store kept.hash_store wrote.from;
+      data_failed = λ is. cc;
+      hash_failed = λ _. subst (λ n. n < H.failures c.write_done.new.hash_store) kept.hash_unfailed c.in_default.ensures.failed;
+      data_unfailed = tt;
+      hash_unfailed = tt;
+    }
+
+pub returns : goal.returns
+returns g c =
+    let D = g.D.BlockStore in
+    let image = c.args.data_store.now in
+    let s : Shape = c.args.tree.now.geometry in
+    let now = c.loop-n.tree in
+    let kept = c.loop-n.invariant in
+    let all : c.loop-n.n ≡ s.blocks = omega (arith, c.loop-n-test.false, c.blocks-n-end.ensures.value) in
+    let data_reads : D.reads c.loop-n.data_store ≡ D.reads image + s.blocks = omega (
+      arith,
+      kept.data_reads,
+      kept.ahead.within,
+      ap length kept.data_store.content,
+    ) in
+    record {
+      grown = subst (λ n. Grown (digests_per_block s) n (opens now) now.root) all (kept.grown all);
+      right = kept.right;
+      stored = kept.stored;
+      geometry = kept.geometry;
+      data_store = kept.data_store;
+      data_reads = data_reads;
+      data_reads_most = omega (arith, data_reads);
+      hash_store = kept.hash_store;
+      data_failed = λ is. cc;
+      hash_failed = λ is. cc;
+      data_unfailed = kept.data_unfailed;
+      hash_unfailed = kept.hash_unfailed;
     }

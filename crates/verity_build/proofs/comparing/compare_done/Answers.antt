@@ -1,6 +1,7 @@
 use Rattle.std.proofs.Common.{◌≡◌, ◌≢◌, ℕ, suc, ◌+◌, ◌*◌, ◌/◌, ◌<◌, ◌≤◌, List, [], true, length, get_or, set, sym, ap, ◌∙◌, subst, arith}
 use Rattle.std.proofs.Math.Numerals.{add-one}
 use Rattle.std.proofs.lemmas.Bool.{eqb-true}
+use Rattle.std.proofs.lemmas.Result.{err_from_is_err_and}
 use Rattle.verity_digest.specs.Hash.{Salted, hashing}
 use Rattle.verity_digest.specs.Tree.{Hashing, hash_block, tree}
 use Rattle.verity_geometry.specs.Geometry.{Shape, digests_per_block, levels_of, len_of, place_of, total_of}
@@ -162,20 +163,35 @@ returns-then-not-is_full-clause-reads_most g c =
           ∙ ap levels_of kept.geometry) c.requires.few c.loop-level.level kept.settling,
     )
 
-pub returns-in_err-holds-clause-reads_most : goal.returns-in_err-holds-clause-reads_most
-returns-in_err-holds-clause-reads_most g c =
+pub returns-in_err-holds : goal.returns-in_err-holds
+returns-in_err-holds g c =
+    let H = g.H.BlockStore in
     let s : Shape = c.args.tree.now.geometry in
     let now = c.loop-level.tree in
     let kept = c.loop-level.invariant in
     let levels : length (opens now) ≡ levels_of s = levels_of_opens now ∙ ap levels_of kept.geometry in
     let there : c.loop-level.level < length (opens now) = omega (arith, c.levels-level-end.ensures.value, c.loop-level-test.true) in
-    omega (
-      arith,
-      kept.reads,
-      c.holds.ensures.reads,
-      settling_before s c.args.blocks (opens now) now.root
-          c.args.tree.now.shaped levels c.requires.few c.loop-level.level kept.settling there,
-    )
+    let settled = c.settle.ensures in
+    let p = err_from_is_err_and c.from_residual.result c.from_residual.ensures.1 in
+    rw (p.1) record {
+      growing = tt;
+      grown = tt;
+      right = tt;
+      compared = tt;
+      salted = settled.salted ∙ kept.salted;
+      geometry = settled.geometry ∙ kept.geometry;
+      read = only_read_then H c.args.hash_store.now c.loop-level.hash_store c.holds.new.hash_store kept.read c.holds.ensures.read;
+      failed = subst (λ n. n < H.failures c.holds.new.hash_store) kept.unfailed c.in_err-holds.ensures.failed;
+      unfailed = tt;
+      reads = tt;
+      reads_most = omega (
+        arith,
+        kept.reads,
+        c.holds.ensures.reads,
+        settling_before s c.args.blocks (opens now) now.root
+            c.args.tree.now.shaped levels c.requires.few c.loop-level.level kept.settling there,
+      );
+    }
 
 pub returns-clause-reads_most : goal.returns-clause-reads_most
 returns-clause-reads_most g c =
@@ -206,3 +222,45 @@ returns-clause-grown g c = λ all.
     let end : length (opens now) ≤ c.loop-level.level =
     omega (arith, levels_of_opens now, ap levels_of kept.geometry, c.levels-level-end.ensures.value, c.loop-level-test.false) in
     grown_end (digests_per_block s) c.args.blocks s.blocks c.loop-level.level (opens now) now.root kept.settling end
+
+pub returns-then-not-is_full-clause-right : goal.returns-then-not-is_full-clause-right
+returns-then-not-is_full-clause-right g c = c.loop-level.invariant.right
+
+pub returns-then-not-is_full-clause-compared : goal.returns-then-not-is_full-clause-compared
+returns-then-not-is_full-clause-compared g c = c.loop-level.invariant.compared
+
+pub returns-then-not-is_full-clause-salted : goal.returns-then-not-is_full-clause-salted
+returns-then-not-is_full-clause-salted g c = c.loop-level.invariant.salted
+
+pub returns-then-not-is_full-clause-geometry : goal.returns-then-not-is_full-clause-geometry
+returns-then-not-is_full-clause-geometry g c = c.loop-level.invariant.geometry
+
+pub returns-then-not-is_full-clause-read : goal.returns-then-not-is_full-clause-read
+returns-then-not-is_full-clause-read g c = c.loop-level.invariant.read
+
+pub returns-then-not-is_full-clause-unfailed : goal.returns-then-not-is_full-clause-unfailed
+returns-then-not-is_full-clause-unfailed g c = c.loop-level.invariant.unfailed
+
+pub returns-then-not-is_full-clause-reads : goal.returns-then-not-is_full-clause-reads
+returns-then-not-is_full-clause-reads g c = c.loop-level.invariant.reads
+
+pub returns-clause-right : goal.returns-clause-right
+returns-clause-right g c = c.loop-level.invariant.right
+
+pub returns-clause-compared : goal.returns-clause-compared
+returns-clause-compared g c = c.loop-level.invariant.compared
+
+pub returns-clause-salted : goal.returns-clause-salted
+returns-clause-salted g c = c.loop-level.invariant.salted
+
+pub returns-clause-geometry : goal.returns-clause-geometry
+returns-clause-geometry g c = c.loop-level.invariant.geometry
+
+pub returns-clause-read : goal.returns-clause-read
+returns-clause-read g c = c.loop-level.invariant.read
+
+pub returns-clause-unfailed : goal.returns-clause-unfailed
+returns-clause-unfailed g c = c.loop-level.invariant.unfailed
+
+pub returns-clause-reads : goal.returns-clause-reads
+returns-clause-reads g c = c.loop-level.invariant.reads

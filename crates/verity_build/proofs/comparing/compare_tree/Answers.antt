@@ -1,5 +1,6 @@
 use Rattle.std.proofs.Common.{◌≡◌, ℕ, ◌+◌, ◌<◌, ◌≤◌, List, [], true, length, get_or, refl, sym, ap, ◌∙◌, subst, arith}
 use Rattle.std.specs.Prelude.{Option, None}
+use Rattle.std.proofs.lemmas.Result.{err_from_is_err_and}
 use Rattle.verity_digest.specs.Hash.{Salted, hashing, salted_digest}
 use Rattle.verity_digest.specs.Tree.{Hashing, tree}
 use Rattle.verity_geometry.specs.Geometry.{Shape, digests_per_block, levels_of, total_of}
@@ -14,6 +15,7 @@ use Rattle.verity_build.specs.Climb.{Comes}
 use Rattle.verity_build.specs.Progress.{Growing, Grown, Settling, IsRight}
 use Rattle.verity_build.specs.Device.{StaysRight}
 use Rattle.verity_build.specs.Differences.{AreCompared, StaysCompared}
+use Rattle.verity_build.proofs.Refusals.{same_fault}
 use Rattle.verity_build.proofs.Ahead.{ahead_none, comes_now}
 use Rattle.verity_build.proofs.Settles.{growing_empty, settling_from, same_index}
 use Rattle.verity_build.proofs.Rightly.{right_empty}
@@ -146,21 +148,45 @@ loop-n-preserved g c =
       hash_unfailed = done.unfailed ∙ kept.hash_unfailed;
     }
 
-pub returns-in_err-digest-clause-hash_reads : goal.returns-in_err-digest-clause-hash_reads
-returns-in_err-digest-clause-hash_reads g c =
+pub returns-in_err-digest : goal.returns-in_err-digest
+returns-in_err-digest g c =
+    let D = g.D.BlockStore in
+    let H = g.H.BlockStore in
+    let image = c.args.data_store.now in
+    let device = c.args.hash_store.now in
     let s : Shape = c.args.tree.now.geometry in
     let now = c.loop-n.tree in
     let kept = c.loop-n.invariant in
     let below : c.loop-n.n < s.blocks = omega (arith, c.loop-n-test.true, c.blocks-n-end.ensures.value) in
-    omega (
-      arith,
-      kept.hash_reads,
-      growing_total s c.loop-n.n (opens now) now.root c.args.tree.now.shaped (levels_of_opens now
-          ∙ ap levels_of kept.geometry) (omega arith) (kept.growing below),
-    )
+    let p = err_from_is_err_and c.from_residual.result c.from_residual.ensures.1 in
+    let next = c.in_err-digest.ensures in
+    rw (p.1, p.2) record {
+      grown = tt;
+      right = tt;
+      compared = tt;
+      geometry = next.geometry ∙ kept.geometry;
+      data_store = only_read_then D image c.loop-n.data_store c.next.new.data_store kept.data_store next.read;
+      data_reads = tt;
+      data_reads_most = omega (arith, next.reads_most, kept.data_reads, ap (λ (t : Shape). t.blocks) kept.geometry);
+      hash_store = kept.hash_store;
+      data_failed = λ _. subst (λ n. n < D.failures c.next.new.data_store) kept.data_unfailed next.failed;
+      hash_failed = λ is. let named = same_fault _ _ is in let by_data = next.which in cc;
+      data_unfailed = tt;
+      hash_unfailed = tt;
+      hash_reads = omega (
+        arith,
+        kept.hash_reads,
+        growing_total s c.loop-n.n (opens now) now.root c.args.tree.now.shaped (levels_of_opens now
+            ∙ ap levels_of kept.geometry) (omega arith) (kept.growing below),
+      );
+    }
 
-pub returns-in_default-clause-hash_reads : goal.returns-in_default-clause-hash_reads
-returns-in_default-clause-hash_reads g c =
+pub returns-in_default : goal.returns-in_default
+returns-in_default g c =
+    let D = g.D.BlockStore in
+    let H = g.H.BlockStore in
+    let image = c.args.data_store.now in
+    let device = c.args.hash_store.now in
     let s : Shape = c.args.tree.now.geometry in
     let now = c.loop-n.tree in
     let mid = c.take.new.self in
@@ -171,17 +197,57 @@ returns-in_default-clause-hash_reads g c =
     c.next.new.tree.root mid.root c.in_ok-digest.ensures.opens c.in_ok-digest.ensures.root c.take.ensures.comes in
     let none = comes_none (digests_per_block s) c.loop-n.n c.in_ok-digest.digest (opens now) (opens mid) now.root mid.root
     (kept.growing below) comes in
-    omega (arith, c.compare_done.ensures.reads_most, ap total_of geometry, kept.hash_reads, none)
+    let next = c.in_ok-digest.ensures in
+    let done = c.compare_done.ensures in
+    record {
+      grown = tt;
+      right = tt;
+      compared = tt;
+      geometry = done.geometry ∙ geometry;
+      data_store = only_read_then D image c.loop-n.data_store c.next.new.data_store kept.data_store next.read;
+      data_reads = tt;
+      data_reads_most = omega (arith, c.next.ensures.reads_most, kept.data_reads, ap (λ (t : Shape). t.blocks) kept.geometry);
+      hash_store = only_read_then H device c.loop-n.hash_store c.compare_done.new.hash_store kept.hash_store done.read;
+      data_failed = λ is. cc;
+      hash_failed = λ _. subst (λ n. n < H.failures c.compare_done.new.hash_store) kept.hash_unfailed c.in_default.ensures.failed;
+      data_unfailed = tt;
+      hash_unfailed = tt;
+      hash_reads = omega (arith, c.compare_done.ensures.reads_most, ap total_of geometry, kept.hash_reads, none);
+    }
 
-pub returns-clause-hash_reads : goal.returns-clause-hash_reads
-returns-clause-hash_reads g c =
+pub returns : goal.returns
+returns g c =
+    let D = g.D.BlockStore in
+    let H = g.H.BlockStore in
+    let image = c.args.data_store.now in
+    let device = c.args.hash_store.now in
     let s : Shape = c.args.tree.now.geometry in
     let now = c.loop-n.tree in
     let kept = c.loop-n.invariant in
     let all : c.loop-n.n ≡ s.blocks = omega (arith, c.loop-n-test.false, c.blocks-n-end.ensures.value) in
-    omega (
+    let data_reads : D.reads c.loop-n.data_store ≡ D.reads image + s.blocks = omega (
       arith,
-      kept.hash_reads,
-      grown_total s c.loop-n.n (opens now) now.root c.args.tree.now.shaped (levels_of_opens now
-          ∙ ap levels_of kept.geometry) (omega arith) (kept.grown all),
-    )
+      kept.data_reads,
+      kept.ahead.within,
+      ap length kept.data_store.content,
+    ) in
+    record {
+      grown = subst (λ n. Grown (digests_per_block s) n (opens now) now.root) all (kept.grown all);
+      right = kept.right;
+      compared = kept.compared;
+      geometry = kept.geometry;
+      data_store = kept.data_store;
+      data_reads = data_reads;
+      data_reads_most = omega (arith, data_reads);
+      hash_store = kept.hash_store;
+      data_failed = λ is. cc;
+      hash_failed = λ is. cc;
+      data_unfailed = kept.data_unfailed;
+      hash_unfailed = kept.hash_unfailed;
+      hash_reads = omega (
+        arith,
+        kept.hash_reads,
+        grown_total s c.loop-n.n (opens now) now.root c.args.tree.now.shaped (levels_of_opens now
+            ∙ ap levels_of kept.geometry) (omega arith) (kept.grown all),
+      );
+    }

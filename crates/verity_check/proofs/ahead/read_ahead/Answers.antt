@@ -1,4 +1,4 @@
-use Rattle.std.proofs.Common.{◌≡◌, ℕ, ◌+◌, ◌-◌, ◌*◌, ◌<◌, ◌≤◌, List, [], inl, inr, length, drop, slice_index_or, sym, ap, ◌∙◌}
+use Rattle.std.proofs.Common.{rules, ◌≡◌, ℕ, ◌+◌, ◌-◌, ◌*◌, ◌<◌, ◌≤◌, List, [], inl, inr, length, drop, slice_index_or, sym, ap, ◌∙◌}
 use Rattle.std.proofs.Common.{subst, arith}
 use Rattle.std.proofs.lemmas.Bool.{cases_lt}
 use Rattle.std.proofs.lemmas.List.{length-take-le, length-drop}
@@ -111,3 +111,6 @@ returns-then-is_err-clause-right g c = λ tells k upto.
     subst (λ m. slice_chunk new m k ≡ slice_chunk old m k) same
     (chunk_below old ys size k j (j * size + size - j * size) upto (omega arith)) in
     c.each.invariant.right tells k upto ∙ sym below
+
+pub returns-then-is_err-clause-counted : goal.returns-then-is_err-clause-counted
+returns-then-is_err-clause-counted g c = search rules depth 0

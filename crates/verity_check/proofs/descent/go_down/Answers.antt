@@ -64,3 +64,14 @@ pub returns-clause-path : goal.returns-clause-path
 returns-clause-path g c =
     let none : c.loop-level.level ≡ 0 = omega (arith, c.loop-level-test.false) in
     subst (λ m. IsDownTo c.args.tree.now c.args.n m c.loop-level.rows) none c.loop-level.invariant.down
+
+pub step_down-requires-clause-down : goal.step_down-requires-clause-down
+step_down-requires-clause-down g c =
+    let inv = c.loop-level.invariant in
+    let turn : suc (c.loop-level.level - 1) ≡ c.loop-level.level = omega (arith, c.loop-level-test.true) in
+    subst (λ (x : Table). IsDownTo x c.args.n (suc (c.loop-level.level - 1)) c.loop-level.rows) (sym inv.same)
+    (subst (λ m. IsDownTo c.args.tree.now c.args.n m c.loop-level.rows) (sym turn) inv.down)
+
+pub returns-in_err-step_down-clause-keeps : goal.returns-in_err-step_down-clause-keeps
+returns-in_err-step_down-clause-keeps g c =
+    only_read_then g.H.BlockStore _ _ _ c.loop-level.invariant.keeps c.in_err-step_down.ensures.keeps

@@ -1,5 +1,6 @@
-use Rattle.std.proofs.Common.{arith}
+use Rattle.std.proofs.Common.{rules, arith}
 use Rattle.verity_check.proofs.RangeLemmas.{refused_here}
+use Rattle.verity_store.proofs.StoreLemmas.{only_read_same}
 use Rattle.verity_check.proofs.range.append_block.Goals as goal
 
 pub returns-then-is_err-clause-memory : goal.returns-then-is_err-clause-memory
@@ -8,3 +9,15 @@ returns-then-is_err-clause-memory g c = λ _.
 
 pub returns-clause-data_reads : goal.returns-clause-data_reads
 returns-clause-data_reads g c = c.read_checked.ensures.data_reads
+
+pub unreachable-requires : goal.unreachable-requires
+unreachable-requires g c = search rules depth 0
+
+pub returns-clause-ok : goal.returns-clause-ok
+returns-clause-ok g c = search rules depth 0
+
+pub returns-then-is_err-clause-data_keeps : goal.returns-then-is_err-clause-data_keeps
+returns-then-is_err-clause-data_keeps g c = only_read_same g.D.BlockStore c.args.data_store.now
+
+pub returns-then-is_err-clause-hash_keeps : goal.returns-then-is_err-clause-hash_keeps
+returns-then-is_err-clause-hash_keeps g c = only_read_same g.H.BlockStore c.args.hash_store.now

@@ -15,6 +15,7 @@ use Rattle.verity_check.specs.Refusal.{RefusesOneOf}
 use Rattle.verity_check.proofs.WalkLemmas.{given_in-grows}
 use Rattle.verity_check.proofs.RangeLemmas.{IsDone, done_none, done_all}
 use Rattle.verity_check.proofs.RangeRuns.{done_run, piece_front, run_below, run_few, refuses_run}
+use Rattle.verity_store.proofs.GivenLemmas.{goes_on_len}
 use Rattle.verity_check.proofs.range.append_range.Goals as goal
 
 pub loop-left-init : goal.loop-left-init
@@ -264,3 +265,15 @@ shape_of-run-in-Err g c =
       c.loop-left.invariant.room.0,
       c.run_len-count.ensures.fits,
     )
+
+pub read_run-requires-clause-data_since : goal.read_run-requires-clause-data_since
+read_run-requires-clause-data_since g c = omega (arith, c.requires.data_since, goes_on_len _ _ c.loop-left.invariant.data_keeps.later.gave)
+
+pub read_run-requires-clause-hash_since : goal.read_run-requires-clause-hash_since
+read_run-requires-clause-hash_since g c = omega (arith, c.requires.hash_since, goes_on_len _ _ c.loop-left.invariant.hash_keeps.later.gave)
+
+pub returns-in-Err-clause-data_keeps : goal.returns-in-Err-clause-data_keeps
+returns-in-Err-clause-data_keeps g c = only_read_then g.D.BlockStore _ _ _ c.loop-left.invariant.data_keeps c.in-Err.ensures.data_keeps
+
+pub returns-in-Err-clause-hash_keeps : goal.returns-in-Err-clause-hash_keeps
+returns-in-Err-clause-hash_keeps g c = only_read_then g.H.BlockStore _ _ _ c.loop-left.invariant.hash_keeps c.in-Err.ensures.hash_keeps

@@ -151,3 +151,15 @@ returns-clause-counted g c =
       places_all t c.loop-n.rows (subst (λ m. AreSeenTo t m c.loop-n.rows) end inv.seen),
       row_len-zero (branching t) t.data_blocks,
     )
+
+pub returns-in_err-go_down-clause-hash_keeps : goal.returns-in_err-go_down-clause-hash_keeps
+returns-in_err-go_down-clause-hash_keeps g c =
+    only_read_then g.H.BlockStore _ _ _ c.loop-n.invariant.hash_keeps c.in_err-go_down.ensures.keeps
+
+pub returns-in_err-next-clause-data_keeps : goal.returns-in_err-next-clause-data_keeps
+returns-in_err-next-clause-data_keeps g c =
+    only_read_then g.D.BlockStore _ _ _ c.loop-n.invariant.data_keeps c.in_err-next.ensures.keeps
+
+pub returns-in_err-next-clause-hash_keeps : goal.returns-in_err-next-clause-hash_keeps
+returns-in_err-next-clause-hash_keeps g c =
+    only_read_then g.H.BlockStore _ _ _ c.loop-n.invariant.hash_keeps c.in_ok-go_down.ensures.keeps

@@ -1,8 +1,8 @@
-use Rattle.std.proofs.Common.{◌≡◌, ℕ, ◌+◌, ◌<◌, [], inl, inr, get_or, slice_set, sym, ap, ◌∙◌, subst, arith}
+use Rattle.std.proofs.Common.{refl, ◌≡◌, ℕ, ◌+◌, ◌<◌, [], inl, inr, get_or, slice_set, sym, ap, ◌∙◌, subst, arith}
 use Rattle.std.proofs.lemmas.Bool.{cases_lt}
 use Rattle.std.proofs.lemmas.List.{get_or-set_same, get_or-set_other}
 use Rattle.std.proofs.Math.Nat.{add-mul}
-use Rattle.verity_store.proofs.StoreLemmas.{only_read_then}
+use Rattle.verity_store.proofs.StoreLemmas.{only_read_same, only_read_then}
 use Rattle.verity_chain.specs.Table.{height}
 use Rattle.verity_chain.specs.Chain.{Names}
 use Rattle.verity_chain.specs.Stores.{hash_given}
@@ -10,6 +10,7 @@ use Rattle.verity_check.specs.Cache.{IsChained}
 use Rattle.verity_check.specs.Refusal.{Explains}
 use Rattle.verity_chain.proofs.ChainLemmas.{Names-grows, hash_given-grows}
 use Rattle.verity_check.proofs.RangeLemmas.{Explains-more}
+use Rattle.verity_store.proofs.GivenLemmas.{goes_on_len}
 use Rattle.verity_check.proofs.run.name_run.Goals as goal
 
 pub name-requires-clause-chained : goal.name-requires-clause-chained
@@ -78,3 +79,20 @@ each-preserved g c =
       same = e.same ∙ inv.same;
       whole = c.name.auto.hash_block ∙ inv.whole;
     }
+
+pub each-init : goal.each-init
+each-init g c =
+    record {
+      named = λ k lt. absurd (omega (arith, lt));
+      chained = c.requires.chained;
+      keeps = only_read_same g.H.BlockStore c.args.hash_store.now;
+      reads = omega arith;
+      same = refl;
+      whole = c.requires.whole;
+    }
+
+pub name-requires-clause-since : goal.name-requires-clause-since
+name-requires-clause-since g c = omega (arith, c.requires.since, goes_on_len _ _ c.each.invariant.keeps.later.gave)
+
+pub returns-in-Err-clause-keeps : goal.returns-in-Err-clause-keeps
+returns-in-Err-clause-keeps g c = only_read_then g.H.BlockStore _ _ _ c.each.invariant.keeps c.in-Err.ensures.keeps

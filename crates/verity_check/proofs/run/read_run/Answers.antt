@@ -1,273 +1,74 @@
-use Rattle.std.proofs.Common.{◌≡◌, ℕ, ◌+◌, ◌*◌, ◌<◌, ◌≤◌, ◌++◌, List, [], ◌∷◌, IfSome, length, take, drop, sym, ap, ◌∙◌}
-use Rattle.std.proofs.Common.{subst, arith}
-use Rattle.std.proofs.lemmas.List.{length-take-le, length-append}
-use Rattle.std.proofs.Math.Nat.{mul-le-mul_right}
-use Rattle.std.specs.Fork.{slice_chunk}
-use Rattle.verity_digest.proofs.Groups.{block_in_group}
+use Rattle.std.proofs.Common.{rules, ◌≡◌, ℕ, ◌+◌, ◌<◌, List, IfSome, length, sym, ap, ◌∙◌, subst, arith}
 use Rattle.verity_store.specs.Blocks.{cut}
-use Rattle.verity_store.specs.Given.{GaveSince}
 use Rattle.verity_store.proofs.BlockLemmas.{length-cut}
-use Rattle.verity_chain.specs.Table.{Table, hashing_of}
 use Rattle.verity_chain.specs.Chain.{WrongAt}
-use Rattle.verity_check.specs.Refusal.{Explains}
 use Rattle.verity_check.specs.Range.{Served}
-use Rattle.verity_chain.specs.Stores.{hash_given}
+use Rattle.verity_check.specs.Refusal.{Explains}
 use Rattle.verity_check.specs.Stores.{given_in}
-use Rattle.verity_check.proofs.WalkLemmas.{given_in-more}
-use Rattle.verity_check.proofs.RangeLemmas.{Explains-more}
-use Rattle.verity_check.proofs.RunLemmas.{chunk_front, IsHashed, run_served, run_wrong}
 use Rattle.verity_check.proofs.run.read_run.Goals as goal
 
 pub returns-then-good-read-clause-err : goal.returns-then-good-read-clause-err
 returns-then-good-read-clause-err g c =
-    let D = g.D.BlockStore in
-    let H = g.H.BlockStore in
-    let t = c.args.tree.now in
     let n : ℕ = c.args.n in
-    let marks = c.args.since.now in
-    let named : ℕ = c.name_run-named.result.0 in
-    let read : ℕ = c.read_ahead-read.result in
-    let good : ℕ = c.agreeing-good.result in
-    let part : List ℕ = c.read_ahead-read.new.out in
-    let out : List ℕ = part ++ drop (c.name_run-named.result.0 * c.data_block_size-size.result) c.args.run.now in
-    let z : ℕ = t.data_block_size in
-    let s : ℕ = c.data_block_size-size.result in
-    let ahead = c.read_ahead-read.ensures in
-    let d = c.read_ahead-read.new.store in
-    let h = c.name_run-named.new.hash_store in
-    let given = given_in D H t marks d h in
-    let digests = c.digest_run.new.out in
-    let names = c.name_run-named.new.names in
-    let size : c.data_block_size-size.result ≡ t.data_block_size = c.data_block_size-size.ensures.value
-    ∙ ap (λ (x : Table). x.data_block_size) (c.table.ensures.value ∙ c.name_run-named.ensures.same) in
-    let root : List ℕ = c.root-room_for_names.result in
-    let eight : List (List ℕ) = root ∷ root ∷ root ∷ root ∷ root ∷ root ∷ root ∷ root ∷ [] in
-    let all : length (take c.args.count eight) ≡ c.args.count = length-take-le c.args.count eight c.requires.few in
-    let few : named ≤ c.args.count = subst (λ m. named ≤ m) all c.name_run-named.ensures.most in
-    let fits : named * s ≤ length c.args.run.now =
-    omega (arith, c.requires.run_whole, size, mul-le-mul_right z few, ap (λ m. named * m) size) in
-    let long : length part ≡ named * z = c.read_ahead-read.auto.out ∙ length-take-le (named * s) c.args.run.now fits
-    ∙ ap (λ m. named * m) size in
-    let front : (j : ℕ) → j < read → slice_chunk part z j ≡ slice_chunk out z j =
-    λ j lt. chunk_front part (drop (named * s) c.args.run.now) z j named (omega (arith, lt, ahead.most)) long in
-    let low : c.read_ahead-read.result ≤ 8 = omega (arith, ahead.most, few, c.requires.few) in
-    let made : length digests ≡ read = c.digest_run.auto.out ∙ length-take-le c.read_ahead-read.result _ low in
-    let is : IsHashed D H t marks c.args.data_store.now d h n read out digests names = record {
-      keeps = ahead.read;
-      size = c.requires.data_store.size;
-      room = omega (arith, long, mul-le-mul_right z ahead.most, length-append part (drop (named * s) c.args.run.now));
-      below = omega (arith, ahead.most, few, c.requires.below);
-      gave = λ j lt. subst (λ b. GaveSince (D.given d) marks.of_data (n + j) b) (front j lt)
-          (subst (λ m. GaveSince (D.given d) marks.of_data (n + j) (slice_chunk part m j)) c.requires.data_store.size
-          (ahead.given marks.of_data c.requires.data_since j lt));
-      right = λ told j lt. ahead.right told j lt ∙ ap (λ m. slice_chunk part m j) c.requires.data_store.size ∙ front j lt;
-      digest = λ j lt.
-          let none : 0 + j ≡ j = omega arith in
-          c.digest_run.ensures.digests j (omega (arith, lt, made, c.digest_run.auto.out))
-          ∙ ap (λ tr. (hashing_of tr).digest (slice_chunk (take (read * s) out) s j)) c.name_run-named.ensures.same
-          ∙ ap (hashing_of t).digest (block_in_group out s 0 j read 0 lt (omega arith) ∙ ap (slice_chunk out s) none
-          ∙ ap (λ m. slice_chunk out m j) size);
-      named = λ j lt. c.name_run-named.ensures.named j (omega (arith, lt, ahead.most));
-    } in
-    let served = λ (m : ℕ) (most : m ≤ read) (same : m ≤ good).
-    run_served D H t marks c.args.data_store.now d h n read out digests names is m most
-    (λ j lt. c.agreeing-good.ensures.same j (omega (arith, lt, same))) in
-    let len : length (cut z good out) ≡ good = length-cut z good out in
-    let lt : good < read = c.if-good-read.true in (
-      cut z good out,
-      served good (omega (arith, lt)) (omega arith),
-      omega (arith, len, lt, ahead.most, few),
-      (
-        ap (λ m. n + m) (sym len),
-        subst (λ m. WrongAt t given 0 (n + m)) (sym len)
-            (run_wrong D H t marks c.args.data_store.now d h n read out digests names is good lt
-            (c.agreeing-good.ensures.differs (omega (arith, lt, made)))),
-      ),
+    let good : ℕ = c.compare_run-named.result.good in
+    let is = c.compare_run-named.ensures.compared in
+    let x : List (List ℕ) = cut c.args.tree.now.data_block_size good c.compare_run-named.new.run in
+    let len : length x ≡ good = length-cut c.args.tree.now.data_block_size good c.compare_run-named.new.run in
+    let given = given_in g.D.BlockStore g.H.BlockStore c.args.tree.now c.args.since.now c.compare_run-named.new.data_store
+    c.compare_run-named.new.hash_store in
+    let lt : c.compare_run-named.result.good < c.compare_run-named.result.read = c.if-good-read.true in (
+      x,
+      is.served,
+      omega (arith, len, lt, is.read_of_named, is.named_of_all),
+      (ap (λ m. n + m) (sym len), subst (λ m. WrongAt c.args.tree.now given 0 (n + m)) (sym len) (is.wrong lt)),
     )
 
 pub returns-then-read-named-clause-err : goal.returns-then-read-named-clause-err
 returns-then-read-named-clause-err g c =
-    let D = g.D.BlockStore in
-    let H = g.H.BlockStore in
-    let t = c.args.tree.now in
-    let n : ℕ = c.args.n in
-    let marks = c.args.since.now in
-    let named : ℕ = c.name_run-named.result.0 in
-    let read : ℕ = c.read_ahead-read.result in
-    let good : ℕ = c.agreeing-good.result in
-    let part : List ℕ = c.read_ahead-read.new.out in
-    let out : List ℕ = part ++ drop (c.name_run-named.result.0 * c.data_block_size-size.result) c.args.run.now in
-    let z : ℕ = t.data_block_size in
-    let s : ℕ = c.data_block_size-size.result in
-    let ahead = c.read_ahead-read.ensures in
-    let d = c.read_ahead-read.new.store in
-    let h = c.name_run-named.new.hash_store in
-    let given = given_in D H t marks d h in
-    let digests = c.digest_run.new.out in
-    let names = c.name_run-named.new.names in
-    let size : c.data_block_size-size.result ≡ t.data_block_size = c.data_block_size-size.ensures.value
-    ∙ ap (λ (x : Table). x.data_block_size) (c.table.ensures.value ∙ c.name_run-named.ensures.same) in
-    let root : List ℕ = c.root-room_for_names.result in
-    let eight : List (List ℕ) = root ∷ root ∷ root ∷ root ∷ root ∷ root ∷ root ∷ root ∷ [] in
-    let all : length (take c.args.count eight) ≡ c.args.count = length-take-le c.args.count eight c.requires.few in
-    let few : named ≤ c.args.count = subst (λ m. named ≤ m) all c.name_run-named.ensures.most in
-    let fits : named * s ≤ length c.args.run.now =
-    omega (arith, c.requires.run_whole, size, mul-le-mul_right z few, ap (λ m. named * m) size) in
-    let long : length part ≡ named * z = c.read_ahead-read.auto.out ∙ length-take-le (named * s) c.args.run.now fits
-    ∙ ap (λ m. named * m) size in
-    let front : (j : ℕ) → j < read → slice_chunk part z j ≡ slice_chunk out z j =
-    λ j lt. chunk_front part (drop (named * s) c.args.run.now) z j named (omega (arith, lt, ahead.most)) long in
-    let low : c.read_ahead-read.result ≤ 8 = omega (arith, ahead.most, few, c.requires.few) in
-    let made : length digests ≡ read = c.digest_run.auto.out ∙ length-take-le c.read_ahead-read.result _ low in
-    let is : IsHashed D H t marks c.args.data_store.now d h n read out digests names = record {
-      keeps = ahead.read;
-      size = c.requires.data_store.size;
-      room = omega (arith, long, mul-le-mul_right z ahead.most, length-append part (drop (named * s) c.args.run.now));
-      below = omega (arith, ahead.most, few, c.requires.below);
-      gave = λ j lt. subst (λ b. GaveSince (D.given d) marks.of_data (n + j) b) (front j lt)
-          (subst (λ m. GaveSince (D.given d) marks.of_data (n + j) (slice_chunk part m j)) c.requires.data_store.size
-          (ahead.given marks.of_data c.requires.data_since j lt));
-      right = λ told j lt. ahead.right told j lt ∙ ap (λ m. slice_chunk part m j) c.requires.data_store.size ∙ front j lt;
-      digest = λ j lt.
-          let none : 0 + j ≡ j = omega arith in
-          c.digest_run.ensures.digests j (omega (arith, lt, made, c.digest_run.auto.out))
-          ∙ ap (λ tr. (hashing_of tr).digest (slice_chunk (take (read * s) out) s j)) c.name_run-named.ensures.same
-          ∙ ap (hashing_of t).digest (block_in_group out s 0 j read 0 lt (omega arith) ∙ ap (slice_chunk out s) none
-          ∙ ap (λ m. slice_chunk out m j) size);
-      named = λ j lt. c.name_run-named.ensures.named j (omega (arith, lt, ahead.most));
-    } in
-    let served = λ (m : ℕ) (most : m ≤ read) (same : m ≤ good).
-    run_served D H t marks c.args.data_store.now d h n read out digests names is m most
-    (λ j lt. c.agreeing-good.ensures.same j (omega (arith, lt, same))) in
-    let len : length (cut z read out) ≡ read = length-cut z read out in
-    let lt : read < named = c.if-read-named.true in
-    (cut z read out, served read (omega arith) (omega (arith, c.if-good-read.false)), omega (arith, len, lt, few), ahead.failed lt)
+    let good : ℕ = c.compare_run-named.result.good in
+    let is = c.compare_run-named.ensures.compared in
+    let x : List (List ℕ) = cut c.args.tree.now.data_block_size good c.compare_run-named.new.run in
+    let len : length x ≡ good = length-cut c.args.tree.now.data_block_size good c.compare_run-named.new.run in
+    let lt : c.compare_run-named.result.read < c.compare_run-named.result.named = c.if-read-named.true in
+    (x, is.served, omega (arith, len, lt, is.good_of_read, is.named_of_all), is.failed lt)
 
 pub returns-in-None-clause-ok : goal.returns-in-None-clause-ok
 returns-in-None-clause-ok g c =
-    let D = g.D.BlockStore in
-    let H = g.H.BlockStore in
     let t = c.args.tree.now in
-    let n : ℕ = c.args.n in
-    let marks = c.args.since.now in
-    let named : ℕ = c.name_run-named.result.0 in
-    let read : ℕ = c.read_ahead-read.result in
-    let good : ℕ = c.agreeing-good.result in
-    let part : List ℕ = c.read_ahead-read.new.out in
-    let out : List ℕ = part ++ drop (c.name_run-named.result.0 * c.data_block_size-size.result) c.args.run.now in
-    let z : ℕ = t.data_block_size in
-    let s : ℕ = c.data_block_size-size.result in
-    let ahead = c.read_ahead-read.ensures in
-    let d = c.read_ahead-read.new.store in
-    let h = c.name_run-named.new.hash_store in
-    let given = given_in D H t marks d h in
-    let digests = c.digest_run.new.out in
-    let names = c.name_run-named.new.names in
-    let size : c.data_block_size-size.result ≡ t.data_block_size = c.data_block_size-size.ensures.value
-    ∙ ap (λ (x : Table). x.data_block_size) (c.table.ensures.value ∙ c.name_run-named.ensures.same) in
-    let root : List ℕ = c.root-room_for_names.result in
-    let eight : List (List ℕ) = root ∷ root ∷ root ∷ root ∷ root ∷ root ∷ root ∷ root ∷ [] in
-    let all : length (take c.args.count eight) ≡ c.args.count = length-take-le c.args.count eight c.requires.few in
-    let few : named ≤ c.args.count = subst (λ m. named ≤ m) all c.name_run-named.ensures.most in
-    let fits : named * s ≤ length c.args.run.now =
-    omega (arith, c.requires.run_whole, size, mul-le-mul_right z few, ap (λ m. named * m) size) in
-    let long : length part ≡ named * z = c.read_ahead-read.auto.out ∙ length-take-le (named * s) c.args.run.now fits
-    ∙ ap (λ m. named * m) size in
-    let front : (j : ℕ) → j < read → slice_chunk part z j ≡ slice_chunk out z j =
-    λ j lt. chunk_front part (drop (named * s) c.args.run.now) z j named (omega (arith, lt, ahead.most)) long in
-    let low : c.read_ahead-read.result ≤ 8 = omega (arith, ahead.most, few, c.requires.few) in
-    let made : length digests ≡ read = c.digest_run.auto.out ∙ length-take-le c.read_ahead-read.result _ low in
-    let is : IsHashed D H t marks c.args.data_store.now d h n read out digests names = record {
-      keeps = ahead.read;
-      size = c.requires.data_store.size;
-      room = omega (arith, long, mul-le-mul_right z ahead.most, length-append part (drop (named * s) c.args.run.now));
-      below = omega (arith, ahead.most, few, c.requires.below);
-      gave = λ j lt. subst (λ b. GaveSince (D.given d) marks.of_data (n + j) b) (front j lt)
-          (subst (λ m. GaveSince (D.given d) marks.of_data (n + j) (slice_chunk part m j)) c.requires.data_store.size
-          (ahead.given marks.of_data c.requires.data_since j lt));
-      right = λ told j lt. ahead.right told j lt ∙ ap (λ m. slice_chunk part m j) c.requires.data_store.size ∙ front j lt;
-      digest = λ j lt.
-          let none : 0 + j ≡ j = omega arith in
-          c.digest_run.ensures.digests j (omega (arith, lt, made, c.digest_run.auto.out))
-          ∙ ap (λ tr. (hashing_of tr).digest (slice_chunk (take (read * s) out) s j)) c.name_run-named.ensures.same
-          ∙ ap (hashing_of t).digest (block_in_group out s 0 j read 0 lt (omega arith) ∙ ap (slice_chunk out s) none
-          ∙ ap (λ m. slice_chunk out m j) size);
-      named = λ j lt. c.name_run-named.ensures.named j (omega (arith, lt, ahead.most));
-    } in
-    let served = λ (m : ℕ) (most : m ≤ read) (same : m ≤ good).
-    run_served D H t marks c.args.data_store.now d h n read out digests names is m most
-    (λ j lt. c.agreeing-good.ensures.same j (omega (arith, lt, same))) in
-    let full : named ≡ c.args.count = c.name_run-named.ensures.all c.in-None.is ∙ all in
-    let ends : read ≡ c.args.count = omega (arith, full, ahead.most, c.if-read-named.false) in
-    subst (λ m. Served t given n (cut z m out)) ends (served read (omega arith) (omega (arith, c.if-good-read.false)))
+    let is = c.compare_run-named.ensures.compared in
+    let given = given_in g.D.BlockStore g.H.BlockStore t c.args.since.now c.compare_run-named.new.data_store
+    c.compare_run-named.new.hash_store in
+    let all : c.compare_run-named.result.named ≡ c.args.count = is.all c.in-None.is in
+    let ends : c.compare_run-named.result.good ≡ c.args.count =
+    omega (arith, all, is.good_of_read, is.read_of_named, c.if-good-read.false, c.if-read-named.false) in
+    subst (λ m. Served t given c.args.n (cut t.data_block_size m c.compare_run-named.new.run)) ends is.served
 
 pub returns-in-Some-clause-err : goal.returns-in-Some-clause-err
 returns-in-Some-clause-err g c =
-    let D = g.D.BlockStore in
-    let H = g.H.BlockStore in
-    let t = c.args.tree.now in
     let n : ℕ = c.args.n in
-    let marks = c.args.since.now in
-    let named : ℕ = c.name_run-named.result.0 in
-    let read : ℕ = c.read_ahead-read.result in
-    let good : ℕ = c.agreeing-good.result in
-    let part : List ℕ = c.read_ahead-read.new.out in
-    let out : List ℕ = part ++ drop (c.name_run-named.result.0 * c.data_block_size-size.result) c.args.run.now in
-    let z : ℕ = t.data_block_size in
-    let s : ℕ = c.data_block_size-size.result in
-    let ahead = c.read_ahead-read.ensures in
-    let d = c.read_ahead-read.new.store in
-    let h = c.name_run-named.new.hash_store in
-    let given = given_in D H t marks d h in
-    let digests = c.digest_run.new.out in
-    let names = c.name_run-named.new.names in
-    let size : c.data_block_size-size.result ≡ t.data_block_size = c.data_block_size-size.ensures.value
-    ∙ ap (λ (x : Table). x.data_block_size) (c.table.ensures.value ∙ c.name_run-named.ensures.same) in
-    let root : List ℕ = c.root-room_for_names.result in
-    let eight : List (List ℕ) = root ∷ root ∷ root ∷ root ∷ root ∷ root ∷ root ∷ root ∷ [] in
-    let all : length (take c.args.count eight) ≡ c.args.count = length-take-le c.args.count eight c.requires.few in
-    let few : named ≤ c.args.count = subst (λ m. named ≤ m) all c.name_run-named.ensures.most in
-    let fits : named * s ≤ length c.args.run.now =
-    omega (arith, c.requires.run_whole, size, mul-le-mul_right z few, ap (λ m. named * m) size) in
-    let long : length part ≡ named * z = c.read_ahead-read.auto.out ∙ length-take-le (named * s) c.args.run.now fits
-    ∙ ap (λ m. named * m) size in
-    let front : (j : ℕ) → j < read → slice_chunk part z j ≡ slice_chunk out z j =
-    λ j lt. chunk_front part (drop (named * s) c.args.run.now) z j named (omega (arith, lt, ahead.most)) long in
-    let low : c.read_ahead-read.result ≤ 8 = omega (arith, ahead.most, few, c.requires.few) in
-    let made : length digests ≡ read = c.digest_run.auto.out ∙ length-take-le c.read_ahead-read.result _ low in
-    let is : IsHashed D H t marks c.args.data_store.now d h n read out digests names = record {
-      keeps = ahead.read;
-      size = c.requires.data_store.size;
-      room = omega (arith, long, mul-le-mul_right z ahead.most, length-append part (drop (named * s) c.args.run.now));
-      below = omega (arith, ahead.most, few, c.requires.below);
-      gave = λ j lt. subst (λ b. GaveSince (D.given d) marks.of_data (n + j) b) (front j lt)
-          (subst (λ m. GaveSince (D.given d) marks.of_data (n + j) (slice_chunk part m j)) c.requires.data_store.size
-          (ahead.given marks.of_data c.requires.data_since j lt));
-      right = λ told j lt. ahead.right told j lt ∙ ap (λ m. slice_chunk part m j) c.requires.data_store.size ∙ front j lt;
-      digest = λ j lt.
-          let none : 0 + j ≡ j = omega arith in
-          c.digest_run.ensures.digests j (omega (arith, lt, made, c.digest_run.auto.out))
-          ∙ ap (λ tr. (hashing_of tr).digest (slice_chunk (take (read * s) out) s j)) c.name_run-named.ensures.same
-          ∙ ap (hashing_of t).digest (block_in_group out s 0 j read 0 lt (omega arith) ∙ ap (slice_chunk out s) none
-          ∙ ap (λ m. slice_chunk out m j) size);
-      named = λ j lt. c.name_run-named.ensures.named j (omega (arith, lt, ahead.most));
-    } in
-    let served = λ (m : ℕ) (most : m ≤ read) (same : m ≤ good).
-    run_served D H t marks c.args.data_store.now d h n read out digests names is m most
-    (λ j lt. c.agreeing-good.ensures.same j (omega (arith, lt, same))) in
-    let len : length (cut z read out) ≡ read = length-cut z read out in
-    let ends : read ≡ named = omega (arith, c.if-read-named.false, ahead.most) in
-    let why : Explains t (hash_given H t marks.of_hash h) ⊥ (H.failures c.args.hash_store.now < H.failures h) (n + named) c.in-Some.fault =
-    subst (λ r. IfSome r (Explains t (hash_given H t marks.of_hash h) ⊥ (H.failures c.args.hash_store.now < H.failures h) (n + named)))
-    c.in-Some.is c.name_run-named.ensures.err in
-    let short : named < length (take c.args.count eight) =
-    subst (λ r. IfSome r (λ fault. named < length (take c.args.count eight))) c.in-Some.is c.name_run-named.ensures.short in (
-      cut z read out,
-      served read (omega arith) (omega (arith, c.if-good-read.false)),
-      omega (arith, len, ends, short, all),
-      subst (λ m. Explains t given (D.failures c.args.data_store.now < D.failures d) (H.failures c.args.hash_store.now < H.failures h)
-          (n + m) c.in-Some.fault) (sym (len ∙ ends))
-          (Explains-more t (hash_given H t marks.of_hash h) given (given_in-more D H t marks d h) ⊥
-          (D.failures c.args.data_store.now < D.failures d) (H.failures c.args.hash_store.now < H.failures h)
-          (H.failures c.args.hash_store.now < H.failures h) (λ x. absurd x) (λ x. x) (n + named) c.in-Some.fault why),
+    let good : ℕ = c.compare_run-named.result.good in
+    let is = c.compare_run-named.ensures.compared in
+    let x : List (List ℕ) = cut c.args.tree.now.data_block_size good c.compare_run-named.new.run in
+    let len : length x ≡ good = length-cut c.args.tree.now.data_block_size good c.compare_run-named.new.run in
+    let given = given_in g.D.BlockStore g.H.BlockStore c.args.tree.now c.args.since.now c.compare_run-named.new.data_store
+    c.compare_run-named.new.hash_store in
+    let named : ℕ = c.compare_run-named.result.named in
+    let data_failed = g.D.BlockStore.failures c.args.data_store.now < g.D.BlockStore.failures c.compare_run-named.new.data_store in
+    let hash_failed = g.H.BlockStore.failures c.args.hash_store.now < g.H.BlockStore.failures c.compare_run-named.new.hash_store in
+    let ends : c.compare_run-named.result.good ≡ c.compare_run-named.result.named =
+    omega (arith, is.good_of_read, is.read_of_named, c.if-good-read.false, c.if-read-named.false) in
+    let short : c.compare_run-named.result.named < c.args.count =
+    subst (λ r. IfSome r (λ fault. c.compare_run-named.result.named < c.args.count)) c.in-Some.is is.short in
+    let why : Explains c.args.tree.now given data_failed hash_failed (n + named) c.in-Some.fault =
+    subst (λ r. IfSome r (Explains c.args.tree.now given data_failed hash_failed (n + named))) c.in-Some.is is.err in (
+      x,
+      is.served,
+      omega (arith, len, ends, short),
+      subst (λ m. Explains c.args.tree.now given data_failed hash_failed (n + m) c.in-Some.fault) (sym (len ∙ ends)) why,
     )
+
+pub returns-then-good-read-clause-data_reads : goal.returns-then-good-read-clause-data_reads
+returns-then-good-read-clause-data_reads g c = search rules depth 0
+
+pub returns-then-read-named-clause-memory : goal.returns-then-read-named-clause-memory
+returns-then-read-named-clause-memory g c = search rules depth 0

@@ -1,4 +1,5 @@
 use Rattle.std.proofs.Common.{◌+◌, arith}
+use Rattle.verity_store.proofs.StoreLemmas.{only_read_same}
 use Rattle.verity_check.proofs.DescentLemmas.{down_under, run_seen, run_rows, run_places}
 use Rattle.verity_check.proofs.siblings.look_at_run.Goals as goal
 
@@ -53,3 +54,12 @@ returns-clause-counted g c =
       c.in_ok-looked.ensures.unchecked,
       run_places c.args.tree.now c.in_ok-looked.looked c.args.rows.now c.look_ahead.new.rows c.in_ok-looked.ensures.run,
     )
+
+pub returns-in_err-pass_over-clause-keeps : goal.returns-in_err-pass_over-clause-keeps
+returns-in_err-pass_over-clause-keeps g c = only_read_same g.D.BlockStore c.args.data_store.now
+
+pub returns-then-is_lost-clause-keeps : goal.returns-then-is_lost-clause-keeps
+returns-then-is_lost-clause-keeps g c = only_read_same g.D.BlockStore c.args.data_store.now
+
+pub returns-clause-told : goal.returns-clause-told
+returns-clause-told g c = c.in_ok-looked.ensures.told

@@ -1,8 +1,8 @@
 use Rattle.std.proofs.Common.{ℕ, List, arith, subst, sym, ap, ◌∙◌}
 use Rattle.verity_superblock.specs.Superblock.{Volume}
-use Rattle.verity_edit.specs.declared.tree.Change.{Change}
-use Rattle.verity_edit.specs.Draft.{Draft}
-use Rattle.verity_edit.specs.Planning.{IsPlan, IsRight}
+use Rattle.verity_plan.specs.declared.tree.Change.{Change}
+use Rattle.verity_plan.specs.Draft.{Draft}
+use Rattle.verity_plan.specs.Planning.{IsPlan, IsRight}
 use Rattle.verity_edit.specs.Committing.{CanCommit, IsCarriedOut}
 use Rattle.verity_edit.proofs.CommitLemmas.{can_after, carried_before}
 use Rattle.verity_edit.proofs.committing.commit_edits.Goals as goal

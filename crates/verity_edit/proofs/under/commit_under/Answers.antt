@@ -3,10 +3,10 @@ use Rattle.verity_geometry.specs.Geometry.{total_of}
 use Rattle.verity_store.proofs.GivenLemmas.{goes_on_then}
 use Rattle.verity_chain.proofs.ChainLemmas.{ok_here}
 use Rattle.verity_superblock.specs.Superblock.{Volume}
-use Rattle.verity_edit.specs.declared.tree.Change.{Change}
-use Rattle.verity_edit.specs.Draft.{Draft}
-use Rattle.verity_edit.specs.Planning.{IsPlan, IsRight}
-use Rattle.verity_edit.specs.Levels.{moved_blocks}
+use Rattle.verity_plan.specs.declared.tree.Change.{Change}
+use Rattle.verity_plan.specs.Draft.{Draft}
+use Rattle.verity_plan.specs.Planning.{IsPlan, IsRight}
+use Rattle.verity_plan.specs.Levels.{moved_blocks}
 use Rattle.verity_edit.specs.Committing.{IsCarriedOut}
 use Rattle.verity_edit.specs.Under.{IsRightUnder, ReadsEach}
 use Rattle.verity_edit.proofs.CommitLemmas.{carried_before}

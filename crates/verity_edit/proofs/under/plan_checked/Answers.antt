@@ -1,9 +1,9 @@
 use Rattle.std.proofs.Common.{ℕ, length, inr, Err, sym, ap, ◌∙◌, subst}
 use Rattle.verity_chain.specs.Checked.{bound_to}
 use Rattle.verity_edit.specs.declared.under.PlanRefused.{PlanRefused}
-use Rattle.verity_edit.specs.declared.planning.CommitPlan.{CommitPlan}
-use Rattle.verity_edit.specs.Faults.{PlansOrFails}
-use Rattle.verity_edit.specs.Planning.{GivesTouched}
+use Rattle.verity_plan.specs.declared.planning.CommitPlan.{CommitPlan}
+use Rattle.verity_plan.specs.Faults.{PlansOrFails}
+use Rattle.verity_plan.specs.Planning.{GivesTouched}
 use Rattle.verity_edit.specs.Under.{ExplainsUnplanned, refusal_of}
 use Rattle.verity_edit.proofs.UnderLemmas.{read_then, checks_then, checks_each_then, explains_then, right_under, told_under}
 use Rattle.verity_edit.proofs.PathLemmas.{reads_paths, reads_most}

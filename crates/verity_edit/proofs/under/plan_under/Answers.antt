@@ -1,7 +1,7 @@
 use Rattle.std.proofs.Common.{◌≡◌, ℕ, true, length, IfOk, IfErr, OnOk, sym, subst}
 use Rattle.verity_chain.specs.Checked.{Checking}
 use Rattle.verity_chain.specs.Table.{height}
-use Rattle.verity_edit.specs.Planning.{IsRight}
+use Rattle.verity_plan.specs.Planning.{IsRight}
 use Rattle.verity_edit.specs.Under.{ReadsEach, ReadsMost, ExplainsUnplanned}
 use Rattle.verity_edit.proofs.under.plan_under.Goals as goal
 

@@ -2,14 +2,14 @@ use Rattle.std.proofs.Common.{◌≡◌, ℕ, ◌+◌, ◌≤◌, false, length,
 use Rattle.verity_superblock.specs.Superblock.{Volume}
 use Rattle.verity_chain.specs.Table.{Table, height}
 use Rattle.verity_edit.specs.declared.command.Committed.{Committed}
-use Rattle.verity_edit.specs.declared.fault.EditFault.{EditFault}
+use Rattle.verity_plan.specs.declared.fault.EditFault.{EditFault}
 use Rattle.verity_edit.specs.declared.under.PlanUnder.{PlanUnder}
-use Rattle.verity_edit.specs.Draft.{Draft}
+use Rattle.verity_plan.specs.Draft.{Draft}
 use Rattle.verity_edit.specs.Committing.{IsCarriedOut}
 use Rattle.verity_edit.specs.Editing.{Stays}
 use Rattle.verity_edit.specs.Under.{ExplainsUncommitted, IsMadeUnder, LeavesWhole, ReadsAll}
 use Rattle.verity_edit.specs.Line.{LineEditing, CommitsUnder, IsRefusalUnder, editing_of, paths_in, moved_in}
-use Rattle.verity_edit.proofs.Frames.{stays_of}
+use Rattle.verity_plan.proofs.Frames.{stays_of}
 use Rattle.verity_edit.proofs.UnderLemmas.{from_ok}
 use Rattle.verity_edit.proofs.LineCommits.{commits_under, refused_under, at_ok, at_err}
 use Rattle.verity_edit.proofs.line.LineEditor.commit.Goals as goal

@@ -3,11 +3,11 @@ use Rattle.verity_digest.specs.Hash.{size_of}
 use Rattle.verity_geometry.specs.Geometry.{total_of}
 use Rattle.verity_superblock.specs.Superblock.{Volume}
 use Rattle.verity_chain.specs.Table.{Table, tree_len}
-use Rattle.verity_edit.specs.Draft.{edits_of}
-use Rattle.verity_edit.specs.Planning.{volume_shape}
+use Rattle.verity_plan.specs.Draft.{edits_of}
+use Rattle.verity_plan.specs.Planning.{volume_shape}
 use Rattle.verity_edit.specs.Editing.{fresh}
 use Rattle.verity_edit.specs.Line.{IsLineOf}
-use Rattle.verity_edit.proofs.Drafts.{edits_fresh}
+use Rattle.verity_plan.proofs.Drafts.{edits_fresh}
 use Rattle.verity_edit.proofs.line.LineEditor.open_under.Goals as goal
 
 pub returns-in-Ok-clause-opened : goal.returns-in-Ok-clause-opened

@@ -1,0 +1,15 @@
+use Rattle.verity_volume.specs.Lines.{volume_line}
+use Rattle.verity_changes.specs.Printed.{Done, Committed, Refused}
+use Rattle.verity_changes.proofs.Answering.{one_answer}
+use Rattle.verity_changes.proofs.script.print_answer.Goals as goal
+
+pub returns-in_ok-writeln-in-Done : goal.returns-in_ok-writeln-in-Done
+returns-in_ok-writeln-in-Done g c = one_answer _ _ Done c.in_ok-writeln-in-Done.ensures.bytes
+
+pub returns-in_ok-writeln-in-Committed : goal.returns-in_ok-writeln-in-Committed
+returns-in_ok-writeln-in-Committed g c =
+    let table = volume_line c.args.devices c.superblock.result.now c.in-Committed.committed.root in
+    one_answer _ _ (Committed table) (rw c.in_ok-line-in-Committed.ensures at c.in_ok-writeln-in-Committed.ensures.bytes)
+
+pub returns-in_ok-writeln-in-Refused : goal.returns-in_ok-writeln-in-Refused
+returns-in_ok-writeln-in-Refused g c = one_answer _ _ (Refused c.in-Refused.fault) c.in_ok-writeln-in-Refused.ensures.bytes

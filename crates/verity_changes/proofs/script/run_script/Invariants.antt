@@ -1,0 +1,9 @@
+use Rattle.std.proofs.Common.{ℕ, ◌+◌, length, Option, None, Some}
+use Rattle.verity_changes.specs.Printed.{AreAnswers}
+use Rattle.verity_changes.proofs.script.run_script.Given as goal
+
+abbrev pub invariant-lines : goal.invariant-lines
+invariant-lines g l = AreAnswers (g.W.Write.contents l.fn.output) (g.W.Write.contents l.output) l.status
+
+abbrev pub decreases-lines : goal.decreases-lines
+decreases-lines g l = elim l.rest [ None ↦ 0 | Some bytes ↦ length bytes.now + 1 ]

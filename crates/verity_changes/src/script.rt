@@ -1,0 +1,289 @@
+//! A script over a volume: read whole, then done line by line.
+
+ghost use Rattle.std.specs.Prelude.{◌≡◌, ◌==◌, ◌<◌, ◌+◌, ℕ, length, take, drop, IfOk, IfSome, IsSome, Some, None};
+ghost use Rattle.std.specs.List.{position};
+ghost use Rattle.verity_changes.specs.Printed.{AreAnswers, told_status};
+
+use std::alloc::{AllocError, Global};
+use std::io::{ErrorKind, Read, Write};
+use std::{io, str};
+use verity_edit::{Command, Committed, EditFault, Reply, geometry_over};
+use verity_files::{DONE, Failure, Fault, REFUSED};
+use verity_profile::is_block_count;
+use verity_script::{Line, read_line};
+use verity_store::{Block, StoreFault, Which};
+use verity_volume::{Commits, Devices, Edits, committed_line};
+use verity_words::{Refusal, Where, explain_line};
+
+/// The most bytes of a script.
+const MOST_BYTES: u64 = 1 << 30;
+
+/// A script: its bytes, and the path that it is named by.
+#[derive(Clone, Copy)]
+pub struct Script<'a> {
+    pub path: &'a str,
+    pub bytes: &'a [u8],
+}
+
+/// The bytes of a script. S1 where it can't be read, or is longer than 2^30 bytes.
+pub fn read_script<I: Read>(alloc: Global, input: &mut I) -> Result<Vec<u8>, Failure> {
+    let mut script = Vec::new(alloc);
+    match input.take(MOST_BYTES + 1).read_to_end(&mut script) {
+        Ok(_) => {}
+        Err(error) => return Err(unread(error)),
+    }
+    if script.len() as u64 > MOST_BYTES {
+        return Err(StoreFault::Device.into());
+    }
+    Ok(script)
+}
+
+/// S1; or want of memory, where that is what it was.
+fn unread(error: io::Error) -> Failure {
+    if error.kind() == ErrorKind::OutOfMemory {
+        Failure::NoMemory
+    } else {
+        StoreFault::Device.into()
+    }
+}
+
+/// Does the lines of a script in order and prints one answer line each, but for empty lines: `ok`, `committed ` and the
+/// new table line, `refused ` and the fault's text, or `bad line`. It goes on after a refusal, and answers status 1 if
+/// there was one. Edits that are pending at the end are dropped with the editor. Why a line wasn't done goes to `errors`.
+pub fn run_script<V: Edits, C: Commits<V>, W: Write, E: Write>(
+    alloc: Global,
+    editor: V,
+    commits: &mut C,
+    devices: Devices<'_>,
+    script: Script<'_>,
+    output: &mut W,
+    errors: &mut E,
+) -> Result<u8, Failure>
+    ensures { IfOk result (λ status. AreAnswers (W.contents output.old) (W.contents output.new) status) }
+{
+    let mut status = DONE;
+    let mut line: usize = 0;
+    let mut editor = editor;
+    let mut rest = Some(script.bytes);
+    'lines: while let Some(bytes) = rest {
+        let (text, behind) = first_line(bytes);
+        rest = behind;
+        line = line.saturating_add(1);
+        let (after, done) = run_line(alloc, editor, commits, devices, text, output);
+        editor = after;
+        if let Some(refusal) = done? {
+            status = REFUSED;
+            explain_line(place_of(&editor, script, line), refusal, errors);
+        }
+    }
+    Ok(status)
+}
+
+/// The bytes of the first line, and what follows its line feed, where it has one.
+fn first_line(bytes: &[u8]) -> (&[u8], Option<&[u8]>)
+    ensures last { position (λ b. b == 10) bytes.now ≡ None → (result.0.now ≡ bytes.now) × (result.1 ≡ None) }
+    ensures cut { (at : ℕ) → position (λ b. b == 10) bytes.now ≡ Some at → (result.0.now ≡ take at bytes.now)
+        × IsSome result.1 × IfSome result.1 (λ behind. behind.now ≡ drop (at + 1) bytes.now) }
+    ensures shorter { IfSome result.1 (λ behind. length behind.now < length bytes.now) }
+{
+    match end_of_line(bytes) {
+        Some(at) => (&bytes[..at], Some(&bytes[at + 1..])),
+        None => (bytes, None),
+    }
+}
+
+/// Where the first line feed stands.
+fn end_of_line(bytes: &[u8]) -> Option<usize>
+    ensures place { result ≡ position (λ b. b == 10) bytes.now }
+    ensures within { IfSome result (λ at. at < length bytes.now) }
+{
+    bytes.iter().position(|byte| *byte == b'\n')
+}
+
+/// Where a line of a script is done.
+fn place_of<'a, V: Edits>(editor: &V, script: Script<'a>, line: usize) -> Where<'a> {
+    Where {
+        script: script.path,
+        line,
+        blocks: editor.blocks(),
+        size: editor.superblock().data_block_size(),
+    }
+}
+
+/// Does a line that isn't empty, prints its answer, and tells what of it was refused.
+fn run_line<'a, V: Edits, C: Commits<V>, W: Write>(
+    alloc: Global,
+    editor: V,
+    commits: &mut C,
+    devices: Devices<'_>,
+    text: &'a [u8],
+    output: &mut W,
+) -> (V, Result<Option<Refusal<'a>>, Failure>)
+    ensures { IfOk result.1 (λ told. AreAnswers (W.contents output.old) (W.contents output.new) (told_status told)) }
+{
+    if text.is_empty() {
+        return (editor, Ok(None));
+    }
+    let Some(line) = line_of(text) else {
+        return (editor, print_bad(output));
+    };
+    match reply_to(alloc, editor, commits, devices, line) {
+        (editor, Ok(answer)) => {
+            let told = print_answer(alloc, &editor, devices, line, answer, output);
+            (editor, told)
+        }
+        (editor, Err(failure)) => (editor, Err(failure)),
+    }
+}
+
+/// Prints that a line is none.
+fn print_bad<'a, W: Write>(output: &mut W) -> Result<Option<Refusal<'a>>, Failure>
+    ensures { IfOk result (λ told. AreAnswers (W.contents output.old) (W.contents output.new) (told_status told)) }
+{
+    writeln!(output, "bad line")?;
+    Ok(Some(Refusal::BadLine))
+}
+
+/// Prints the answer to a line, and tells what of it was refused.
+fn print_answer<'a, V: Edits, W: Write>(
+    alloc: Global,
+    editor: &V,
+    devices: Devices<'_>,
+    line: Line<'a>,
+    answer: Answer,
+    output: &mut W,
+) -> Result<Option<Refusal<'a>>, Failure>
+    ensures { IfOk result (λ told. AreAnswers (W.contents output.old) (W.contents output.new) (told_status told)) }
+{
+    match answer {
+        Answer::Done => {
+            writeln!(output, "ok")?;
+            Ok(None)
+        }
+        Answer::Committed(committed) => {
+            let line = committed_line(alloc, devices, editor.superblock(), committed.root)?;
+            writeln!(output, "committed {line}")?;
+            Ok(None)
+        }
+        Answer::Refused(fault) => {
+            writeln!(output, "refused {fault}")?;
+            Ok(Some(Refusal::Refused(line, fault)))
+        }
+    }
+}
+
+/// What a line asks for. A line that is no text asks for nothing.
+fn line_of(text: &[u8]) -> Option<Line<'_>> {
+    match str::from_utf8(text) {
+        Ok(text) => read_line(text),
+        Err(_) => None,
+    }
+}
+
+/// What is answered to a line.
+#[derive(Clone, Copy)]
+enum Answer {
+    Done,
+    Committed(Committed),
+    Refused(Fault),
+}
+
+/// The answer to a line. Want of memory is a failure of the whole program.
+fn reply_to<V: Edits, C: Commits<V>>(
+    alloc: Global,
+    editor: V,
+    commits: &mut C,
+    devices: Devices<'_>,
+    line: Line<'_>,
+) -> (V, Result<Answer, Failure>) {
+    if editor.broken() || commits.is_broken() {
+        return (editor, Ok(Answer::Refused(Fault::Edit(EditFault::Broken))));
+    }
+    if line == Line::Commit {
+        let (editor, done) = commit(editor, commits, devices);
+        return (editor, answer_of(done));
+    }
+    let command = match command_of(alloc, &editor, line) {
+        Ok(command) => command,
+        Err(error) => return (editor, Err(error.into())),
+    };
+    match editor.answer(&command) {
+        (editor, Reply::Done) => (editor, Ok(Answer::Done)),
+        (editor, Reply::Committed(committed)) => (editor, Ok(Answer::Committed(committed))),
+        (editor, Reply::Refused(fault)) => (editor, answer_of(Err(Fault::Edit(fault)))),
+    }
+}
+
+/// Want of memory is a failure, and any other fault is answered.
+fn answer_of(done: Result<Committed, Fault>) -> Result<Answer, Failure> {
+    match done {
+        Ok(committed) => Ok(Answer::Committed(committed)),
+        Err(fault) => match Failure::from(fault) {
+            Failure::Refused(fault) => Ok(Answer::Refused(fault)),
+            failure => Err(failure),
+        },
+    }
+}
+
+/// Commits, and brings what was committed to the files. E6 with the store that hasn't room for it, and then nothing is changed.
+pub fn commit<V: Edits, C: Commits<V>>(
+    editor: V,
+    commits: &mut C,
+    devices: Devices<'_>,
+) -> (V, Result<Committed, Fault>) {
+    if editor.blocks() > devices.data_room {
+        return (editor, Err(Fault::Edit(EditFault::Store(Which::Data))));
+    }
+    if !has_room(&editor, devices) {
+        return (editor, Err(Fault::Edit(EditFault::Store(Which::Hash))));
+    }
+    commits.commit(editor)
+}
+
+/// Whether HASH can hold the tree of the working image.
+fn has_room<V: Edits>(editor: &V, devices: Devices<'_>) -> bool {
+    let blocks = editor.blocks();
+    if !is_block_count(blocks) {
+        return true;
+    }
+    let tree = geometry_over(editor.superblock(), blocks);
+    tree.total() <= devices.hash_room.saturating_sub(devices.hash_start_block)
+}
+
+/// The command that a line asks for.
+fn command_of<V: Edits>(alloc: Global, editor: &V, line: Line<'_>) -> Result<Command, AllocError> {
+    Ok(match line {
+        Line::Write(n, digits) => Command::Write(n, written(alloc, editor, n, digits)?),
+        Line::Fill(n, byte) => Command::Write(n, filled(alloc, editor, n, byte)?),
+        Line::Grow(blocks) => Command::Grow(blocks),
+        Line::Shrink(blocks) => Command::Shrink(blocks),
+        Line::Discard => Command::Discard,
+        Line::Commit => Command::Commit,
+    })
+}
+
+/// Whether the editor looks at the bytes of a block that is written here. What it refuses by place or length takes no
+/// memory: no bytes are refused like it.
+fn is_welcome<V: Edits>(editor: &V, n: u64, size: usize) -> bool {
+    n < editor.blocks() && size == editor.superblock().data_block_size()
+}
+
+/// The block that these digits spell.
+fn written<V: Edits>(alloc: Global, editor: &V, n: u64, digits: &str) -> Result<Block, AllocError> {
+    if !is_welcome(editor, n, digits.len() / 2) {
+        return Ok(Block::new(Vec::new(alloc)));
+    }
+    match hex::decode(alloc, digits) {
+        Ok(bytes) => Ok(Block::new(bytes)),
+        Err(_) => Err(AllocError),
+    }
+}
+
+/// A block whose every byte is this one.
+fn filled<V: Edits>(alloc: Global, editor: &V, n: u64, byte: u8) -> Result<Block, AllocError> {
+    let size = editor.superblock().data_block_size();
+    if !is_welcome(editor, n, size) {
+        return Ok(Block::new(Vec::new(alloc)));
+    }
+    Ok(Block::new(vec![in alloc; byte; size]?))
+}

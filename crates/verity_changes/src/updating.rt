@@ -1,0 +1,224 @@
+//! The command `update`: makes a volume that of another image.
+
+ghost use Rattle.std.specs.Prelude.{OnOk};
+ghost use Rattle.std.specs.Io.KnownBytes.{Appends};
+ghost use Rattle.verity_volume.specs.Lines.{volume_line};
+ghost use Rattle.verity_changes.specs.Printed.{update_lines};
+
+use crate::over::{Words, Work, do_over};
+use crate::script::commit;
+use std::alloc::Global;
+use std::fs::File;
+use std::io::{Eprint, IsTerminal, Write};
+use std::rt::Files;
+use std::time::Clock;
+use verity_chain::{Tree, geometry_of};
+use verity_digest::Digest;
+use verity_edit::EditFault;
+use verity_files::{
+    Command, DONE, Failure, Fault, Opened, VolumeStore, Word, check_paths, open_there,
+    store_of_most, take_lock, whole_store,
+};
+use verity_store::{BlockStore, StoreFault, Which};
+use verity_superblock::Superblock;
+use verity_update::{Edited, UpdateFault};
+use verity_volume::{
+    Commits, Devices, Edits, LineParts, committed_line, end_progress, is_watched, offset_of,
+    progress_of, table_of,
+};
+use verity_watch::Watched;
+use verity_words::UpdateWords;
+
+/// Makes the volume in DATA and HASH that of the image NEW, with one commit of what differs, and prints how many blocks that was and
+/// the new table line.
+///
+/// The words are read first, then all three files opened and told apart, what stands in the journal is made whole, the superblock
+/// and NEW's length looked at, the volume opened, and then each block of NEW read. The journal is that of `edit`. Where `errors` is a
+/// terminal, the opening shows how much of DATA was read, and then it is shown how much of NEW was.
+pub fn update<
+    R: Files<File = File> + Clock + Eprint + AllocGlobal,
+    W: Write,
+    E: Write + IsTerminal,
+>(rt: &R, words: &UpdateWords<'_>, output: &mut W, errors: &mut E) -> Result<u8, Failure> {
+    check_paths(words.data_path, words.hash_path)?;
+    let is_watched = is_watched(words.is_quiet, errors);
+    let over = Words {
+        command: Command::Update,
+        data_path: words.data_path,
+        hash_path: words.hash_path,
+        offset: offset_of(words.table, words.hash_offset)?,
+        table: words.table,
+        journal: words.journal,
+        is_watched,
+    };
+    let mut taking = Taking {
+        path: words.new_path,
+        is_trusted: words.table.is_some(),
+        is_watched,
+        opened: None,
+        store: None,
+    };
+    do_over(rt, &over, &mut taking, output, errors)
+}
+
+/// The image at a path, as far as it is opened.
+#[derive(Drop)]
+struct Taking<'a> {
+    path: &'a str,
+    /// Whether the volume is opened under a table line.
+    is_trusted: bool,
+    /// Whether someone looks on.
+    is_watched: bool,
+    opened: Option<Opened>,
+    store: Option<VolumeStore>,
+}
+
+impl<'a> Work for Taking<'a> {
+    fn begin<R: Files<File = File> + AllocGlobal>(
+        &mut self,
+        rt: &R,
+        data: Option<&Opened>,
+        hash: &Opened,
+    ) -> Result<(), Failure> {
+        let opened = open_new(rt, self.path)?;
+        if opened.identity == hash.identity {
+            return Err(Failure::Word(Word::New));
+        }
+        if let Some(data) = data {
+            if opened.identity == data.identity {
+                return Err(Failure::Word(Word::New));
+            }
+        }
+        lock_new(&opened)?;
+        self.opened = Some(opened);
+        Ok(())
+    }
+
+    fn see(&mut self, data_block_size: usize) -> Result<(), Failure> {
+        let Some(opened) = self.opened.take() else {
+            return Err(StoreFault::Device.into());
+        };
+        self.store = Some(whole_store(opened, data_block_size)?);
+        Ok(())
+    }
+
+    fn run<
+        R: Files<File = File> + Clock + Eprint + AllocGlobal,
+        V: Edits + Edited,
+        C: Commits<V>,
+        W: Write,
+        E: Write,
+    >(
+        &mut self,
+        rt: &R,
+        editor: V,
+        commits: &mut C,
+        hash: Opened,
+        devices: Devices<'_>,
+        output: &mut W,
+        _errors: &mut E,
+    ) -> Result<u8, Failure> {
+        let Some(new_store) = self.store.take() else {
+            return Err(StoreFault::Device.into());
+        };
+        let mut editor = editor;
+        let taken = take_watched(rt, self.is_watched, &mut editor, new_store, hash, devices)?;
+        let changed = taken.map_err(|fault| failure_of(fault, self.is_trusted))?;
+        let (editor, done) = commit(editor, commits, devices);
+        let committed = done?;
+        let superblock = editor.superblock();
+        print_update(
+            rt.alloc(),
+            changed,
+            devices,
+            superblock,
+            committed.root,
+            output,
+        )?;
+        Ok(DONE)
+    }
+}
+
+/// Prints how many blocks an update wrote or added, and the table line of its commit.
+fn print_update<W: Write>(
+    alloc: Global,
+    changed: u64,
+    devices: Devices<'_>,
+    superblock: &Superblock,
+    root: Digest,
+    output: &mut W,
+) -> Result<(), Failure>
+    ensures { OnOk result (Appends (W.contents output.old) (W.contents output.new)
+        (update_lines changed (volume_line devices.entry superblock.now root))) }
+{
+    let line = committed_line(alloc, devices, superblock, root)?;
+    writeln!(output, "changed {changed}")?;
+    writeln!(output, "committed {line}")?;
+    Ok(())
+}
+
+/// Opens NEW to be read.
+fn open_new<R: Files<File = File>>(rt: &R, path: &str) -> Result<Opened, StoreFault> {
+    open_there(rt, path, Command::Verify, Which::Data)
+}
+
+/// Takes the lock on NEW that those have that only read.
+fn lock_new(opened: &Opened) -> Result<(), Fault> {
+    match take_lock(&opened.file, Command::Verify.lock(), Which::Data) {
+        Err(Fault::InUse(_)) => Err(Fault::NewInUse),
+        taken => taken,
+    }
+}
+
+/// Writes to an editor that was opened what differs in NEW, and answers how many blocks that was. Where someone looks on, it shows
+/// how much of NEW was read.
+fn take_watched<R: Clock + Eprint + AllocGlobal, V: Edits + Edited>(
+    rt: &R,
+    is_watched: bool,
+    editor: &mut V,
+    new_store: VolumeStore,
+    hash: Opened,
+    devices: Devices<'_>,
+) -> Result<Result<u64, UpdateFault>, Failure> {
+    let progress = progress_of(rt, is_watched, &new_store);
+    let mut watched = Watched::new(new_store, progress.as_ref());
+    let taken = take(rt.alloc(), editor, &mut watched, hash, devices);
+    end_progress(progress.as_ref());
+    taken
+}
+
+/// Writes to an editor that was opened what differs in a store, and answers how many blocks that was.
+fn take<V: Edits + Edited, N: BlockStore>(
+    alloc: Global,
+    editor: &mut V,
+    new_store: &mut N,
+    hash: Opened,
+    devices: Devices<'_>,
+) -> Result<Result<u64, UpdateFault>, Failure> {
+    let superblock = editor.superblock();
+    let mut hash_store = store_of_most(hash, superblock.hash_block_size(), u64::MAX)?;
+    let volume = LineParts {
+        data_path: devices.data_path,
+        hash_path: devices.hash_path,
+        data_block_size: superblock.data_block_size(),
+        hash_block_size: superblock.hash_block_size(),
+        data_blocks: superblock.data_blocks(),
+        hash_start_block: devices.hash_start_block,
+        salt: superblock.salt().bytes(),
+    };
+    let table = table_of(alloc, &volume, editor.root())?;
+    let geometry = geometry_of(&table);
+    let mut tree = Tree::new(alloc, table, geometry)?;
+    Ok(verity_update::update(alloc, &mut tree, &mut hash_store, new_store, editor))
+}
+
+/// S1 where NEW can't be read; E8 where no line was trusted, and the tree isn't any more what it was when the volume was opened.
+fn failure_of(fault: UpdateFault, is_trusted: bool) -> Failure {
+    match fault {
+        UpdateFault::New => StoreFault::Device.into(),
+        UpdateFault::Edit(EditFault::Untrusted { level, index }) if !is_trusted => {
+            EditFault::Mismatch { level, index }.into()
+        }
+        UpdateFault::Edit(fault) => fault.into(),
+    }
+}

@@ -1,0 +1,89 @@
+use Rattle.std.proofs.Common.{ℕ, ◌+◌, ◌<◌, ◌≤◌, min, refl, arith, ◌∙◌, subst}
+use Rattle.verity_geometry.specs.Geometry.{levels_of, len_of, start_of}
+use Rattle.verity_geometry.proofs.OfShape.{starts_rise}
+use Rattle.verity_store.specs.Moves.{IsMoved, ChangesWithin}
+use Rattle.verity_plan.proofs.Frames.{stays_then}
+use Rattle.verity_plan.proofs.LevelMoves.{moved_apart, rest_apart, KeepsFront-then, KeepsFront-within}
+use Rattle.verity_plan.proofs.MovedLemmas.{moved_below-more, moved_below-most, reads_level, moved_apart_all}
+use Rattle.verity_plan.proofs.levels.move_apart.Goals as goal
+
+pub level_start-requires-in-loop-level : goal.level_start-requires-in-loop-level
+level_start-requires-in-loop-level g c =
+    let more = (starts_rise c.args.old.now c.args.new.now c.levels-level-end.ensures.shaped c.requires.grown).levels in omega arith
+
+pub move_level-requires-clause-to : goal.move_level-requires-clause-to
+move_level-requires-clause-to g c =
+    let wide = (starts_rise c.args.old.now c.args.new.now c.levels-level-end.ensures.shaped c.requires.grown).lengths
+    c.loop-level.level in omega arith
+
+pub loop-level-preserved : goal.loop-level-preserved
+loop-level-preserved g c =
+    let inv = c.loop-level.invariant in
+    let one = c.in_ok-move_level.ensures in
+    let n = c.loop-level.level in
+    let shaped = c.levels-level-end.ensures.shaped in
+    let old = g.H.BlockStore.content c.args.hash_store.now in
+    let now = g.H.BlockStore.content c.loop-level.hash_store in
+    let new = g.H.BlockStore.content c.move_level.new.hash_store in
+    let first = c.args.first in
+    let small = c.args.old.now in
+    let large = c.args.new.now in
+    let there : n < levels_of small = omega arith in
+    let from = c.level_start.ensures.value in
+    let to = c.level_start-in-loop-level.ensures.value in
+    let count = c.level_len.ensures.value in
+    let others : ChangesWithin (first + start_of large n) (len_of small n) now new =
+    subst (λ (a : ℕ). ChangesWithin (first + a) (len_of small n) now new) to
+    (subst (λ (b : ℕ). ChangesWithin (first + c.level_start-in-loop-level.result) b now new) count one.others) in
+    record {
+      moved = λ told.
+          let run0 = one.moved (inv.store.tells ∙ told) in
+          let run1 = subst (λ (b : ℕ). IsMoved (first + c.level_start.result) (first + c.level_start-in-loop-level.result) b now
+          new) count run0 in
+          let run2 = subst (λ (a : ℕ). IsMoved (first + c.level_start.result) (first + a) (len_of small n) now new) to run1 in
+          let run3 = subst (λ (a : ℕ). IsMoved (first + a) (first + start_of large n) (len_of small n) now new) from run2 in
+          moved_apart first small large n old now new shaped c.requires.grown there (inv.moved told) inv.rest run3 others;
+      rest = rest_apart first small large n old now new shaped c.requires.grown there inv.rest others;
+      front = KeepsFront-then first old now new inv.front (KeepsFront-within first (first + start_of large n) (len_of small n) now
+          new (let l = inv.front in l.len) (omega arith) others);
+      len = one.others.0 ∙ inv.len;
+      moved_reads =
+          let wide = (starts_rise small large shaped c.requires.grown).lengths n in
+          let few : c.level_len.result ≤ min (len_of small n) (len_of large n) = omega arith in
+          let level = reads_level small large n c.level_len.result (g.H.BlockStore.reads c.loop-level.hash_store)
+          (g.H.BlockStore.reads c.move_level.new.hash_store) few (λ same. one.stays (omega arith)) one.moved_reads in
+          let more = moved_below-more small large n (n + 1) refl in
+          omega (arith, inv.moved_reads);
+      unfailed = omega arith;
+      store = stays_then g.H.BlockStore _ _ _ inv.store one.store;
+    }
+
+pub returns-in_err-move_level-clause-moved_reads : goal.returns-in_err-move_level-clause-moved_reads
+returns-in_err-move_level-clause-moved_reads g c =
+    let inv = c.loop-level.invariant in
+    let one = c.in_err-move_level.ensures in
+    let n = c.loop-level.level in
+    let small = c.args.old.now in
+    let large = c.args.new.now in
+    let shaped = c.levels-level-end.ensures.shaped in
+    let from = c.level_start.ensures.value in
+    let to = c.level_start-in-loop-level.ensures.value in
+    let count = c.level_len.ensures.value in
+    let there : n < levels_of small = omega arith in
+    let wide = (starts_rise small large shaped c.requires.grown).lengths n in
+    let few : c.level_len.result ≤ min (len_of small n) (len_of large n) = omega arith in
+    let level = reads_level small large n c.level_len.result (g.H.BlockStore.reads c.loop-level.hash_store)
+    (g.H.BlockStore.reads c.move_level.new.hash_store) few (λ same. one.stays (omega arith)) one.moved_reads in
+    let more = moved_below-more small large n (n + 1) refl in
+    let most = moved_below-most small large (n + 1) (levels_of small) (omega arith) in
+    let all = moved_apart_all small large shaped c.requires.grown in
+    omega (arith, inv.moved_reads)
+
+pub returns-clause-moved_reads : goal.returns-clause-moved_reads
+returns-clause-moved_reads g c =
+    let inv = c.loop-level.invariant in
+    let small = c.args.old.now in
+    let large = c.args.new.now in
+    let most = moved_below-most small large c.loop-level.level (levels_of small) (omega arith) in
+    let all = moved_apart_all small large c.levels-level-end.ensures.shaped c.requires.grown in
+    omega (arith, inv.moved_reads)
