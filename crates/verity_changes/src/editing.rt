@@ -1,11 +1,11 @@
 //! The command `edit`: does a script's lines over a volume.
 
 use crate::over::{Words, Work, do_over};
-use crate::script::{Script, read_script, run_script};
 use std::fs::File;
 use std::io::{Eprint, IsTerminal, Write};
 use std::rt::Files;
 use std::time::Clock;
+use verity_answers::{Script, read_script, run_script};
 use verity_files::{Command, Failure, Opened, check_paths, fault_of};
 use verity_update::Edited;
 use verity_volume::{Commits, Devices, Edits, is_watched, offset_of};

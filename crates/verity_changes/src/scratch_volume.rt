@@ -1,9 +1,9 @@
 //! The run without words: a volume in memory, and a script over it.
 
-use crate::script::{Script, read_script, run_script};
 use std::alloc::Global;
 use std::io::{Read, Write};
 use uuid::Uuid;
+use verity_answers::{Script, read_script, run_script};
 use verity_build::{BuildParameters, build};
 use verity_digest::Algorithm;
 use verity_edit::Editor;

@@ -1,30 +1,22 @@
 //! The command `update`: makes a volume that of another image.
 
-ghost use Rattle.std.specs.Prelude.{OnOk};
-ghost use Rattle.std.specs.Io.KnownBytes.{Appends};
-ghost use Rattle.verity_volume.specs.Lines.{volume_line};
-ghost use Rattle.verity_changes.specs.Printed.{update_lines};
-
 use crate::over::{Words, Work, do_over};
-use crate::script::commit;
 use std::alloc::Global;
 use std::fs::File;
 use std::io::{Eprint, IsTerminal, Write};
 use std::rt::Files;
 use std::time::Clock;
+use verity_answers::{commit, print_update};
 use verity_chain::{Tree, geometry_of};
-use verity_digest::Digest;
 use verity_edit::EditFault;
 use verity_files::{
     Command, DONE, Failure, Fault, Opened, VolumeStore, Word, check_paths, open_there,
     store_of_most, take_lock, whole_store,
 };
 use verity_store::{BlockStore, StoreFault, Which};
-use verity_superblock::Superblock;
 use verity_update::{Edited, UpdateFault};
 use verity_volume::{
-    Commits, Devices, Edits, LineParts, committed_line, end_progress, is_watched, offset_of,
-    progress_of, table_of,
+    Commits, Devices, Edits, LineParts, end_progress, is_watched, offset_of, progress_of, table_of,
 };
 use verity_watch::Watched;
 use verity_words::UpdateWords;
@@ -137,24 +129,6 @@ impl<'a> Work for Taking<'a> {
         )?;
         Ok(DONE)
     }
-}
-
-/// Prints how many blocks an update wrote or added, and the table line of its commit.
-fn print_update<W: Write>(
-    alloc: Global,
-    changed: u64,
-    devices: Devices<'_>,
-    superblock: &Superblock,
-    root: Digest,
-    output: &mut W,
-) -> Result<(), Failure>
-    ensures { OnOk result (Appends (W.contents output.old) (W.contents output.new)
-        (update_lines changed (volume_line devices.entry superblock.now root))) }
-{
-    let line = committed_line(alloc, devices, superblock, root)?;
-    writeln!(output, "changed {changed}")?;
-    writeln!(output, "committed {line}")?;
-    Ok(())
 }
 
 /// Opens NEW to be read.

@@ -5,7 +5,7 @@ use Rattle.std.proofs.lemmas.Grind.{flat_map-append}
 use Rattle.std.proofs.lemmas.List.Folds.{list_any-append}
 use Rattle.std.specs.List.{flat_map, list_any}
 use Rattle.std.specs.Io.KnownBytes.{Appends}
-use Rattle.verity_changes.specs.Printed.{Answered, answer_line, is_refusal, status_for, AreAnswers}
+use Rattle.verity_answers.specs.Printed.{Answered, answer_line, is_refusal, status_for, AreAnswers}
 
 -- nothing was printed
 pub no_answer : (out : Option (List ℕ)) → AreAnswers out out 0

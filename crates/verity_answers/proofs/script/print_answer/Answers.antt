@@ -1,7 +1,7 @@
 use Rattle.verity_volume.specs.Lines.{volume_line}
-use Rattle.verity_changes.specs.Printed.{Done, Committed, Refused}
-use Rattle.verity_changes.proofs.Answering.{one_answer}
-use Rattle.verity_changes.proofs.script.print_answer.Goals as goal
+use Rattle.verity_answers.specs.Printed.{Done, Committed, Refused}
+use Rattle.verity_answers.proofs.Answering.{one_answer}
+use Rattle.verity_answers.proofs.script.print_answer.Goals as goal
 
 pub returns-in_ok-writeln-in-Done : goal.returns-in_ok-writeln-in-Done
 returns-in_ok-writeln-in-Done g c = one_answer _ _ Done c.in_ok-writeln-in-Done.ensures.bytes

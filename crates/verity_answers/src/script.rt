@@ -2,7 +2,7 @@
 
 ghost use Rattle.std.specs.Prelude.{◌≡◌, ◌==◌, ◌<◌, ◌+◌, ℕ, length, take, drop, IfOk, IfSome, IsSome, Some, None};
 ghost use Rattle.std.specs.List.{position};
-ghost use Rattle.verity_changes.specs.Printed.{AreAnswers, told_status};
+ghost use Rattle.verity_answers.specs.Printed.{AreAnswers, told_status};
 
 use std::alloc::{AllocError, Global};
 use std::io::{ErrorKind, Read, Write};

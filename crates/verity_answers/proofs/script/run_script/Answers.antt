@@ -1,7 +1,7 @@
 use Rattle.std.proofs.Common.{rules}
-use Rattle.verity_changes.specs.Printed.{AreAnswers}
-use Rattle.verity_changes.proofs.Answering.{then_refused, then_done}
-use Rattle.verity_changes.proofs.script.run_script.Goals as goal
+use Rattle.verity_answers.specs.Printed.{AreAnswers}
+use Rattle.verity_answers.proofs.Answering.{then_refused, then_done}
+use Rattle.verity_answers.proofs.script.run_script.Goals as goal
 
 pub lines-preserved-in-Some-2 : goal.lines-preserved-in-Some-2
 lines-preserved-in-Some-2 g c =

@@ -1,6 +1,6 @@
 use Rattle.std.proofs.Common.{ℕ, ◌+◌, length, Option, None, Some}
-use Rattle.verity_changes.specs.Printed.{AreAnswers}
-use Rattle.verity_changes.proofs.script.run_script.Given as goal
+use Rattle.verity_answers.specs.Printed.{AreAnswers}
+use Rattle.verity_answers.proofs.script.run_script.Given as goal
 
 abbrev pub invariant-lines : goal.invariant-lines
 invariant-lines g l = AreAnswers (g.W.Write.contents l.fn.output) (g.W.Write.contents l.output) l.status

@@ -1,5 +1,5 @@
 use Rattle.std.proofs.KnownBytes.{Appends-trans}
-use Rattle.verity_changes.proofs.updating.print_update.Goals as goal
+use Rattle.verity_answers.proofs.updated.print_update.Goals as goal
 
 pub returns : goal.returns
 returns g c =

@@ -1,0 +1,6 @@
+use Rattle.verity_answers.specs.Printed.{BadLine}
+use Rattle.verity_answers.proofs.Answering.{one_answer}
+use Rattle.verity_answers.proofs.script.print_bad.Goals as goal
+
+pub returns : goal.returns
+returns g c = one_answer _ _ BadLine c.in_ok-writeln.ensures.bytes

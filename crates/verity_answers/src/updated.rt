@@ -1,0 +1,31 @@
+//! What an update prints.
+
+ghost use Rattle.std.specs.Prelude.{OnOk};
+ghost use Rattle.std.specs.Io.KnownBytes.{Appends};
+ghost use Rattle.verity_volume.specs.Lines.{volume_line};
+ghost use Rattle.verity_answers.specs.Printed.{update_lines};
+
+use std::alloc::Global;
+use std::io::Write;
+use verity_digest::Digest;
+use verity_files::Failure;
+use verity_superblock::Superblock;
+use verity_volume::{Devices, committed_line};
+
+/// Prints how many blocks an update wrote or added, and the table line of its commit.
+pub fn print_update<W: Write>(
+    alloc: Global,
+    changed: u64,
+    devices: Devices<'_>,
+    superblock: &Superblock,
+    root: Digest,
+    output: &mut W,
+) -> Result<(), Failure>
+    ensures { OnOk result (Appends (W.contents output.old) (W.contents output.new)
+        (update_lines changed (volume_line devices.entry superblock.now root))) }
+{
+    let line = committed_line(alloc, devices, superblock, root)?;
+    writeln!(output, "changed {changed}")?;
+    writeln!(output, "committed {line}")?;
+    Ok(())
+}

@@ -1,6 +1,0 @@
-use Rattle.verity_changes.specs.Printed.{BadLine}
-use Rattle.verity_changes.proofs.Answering.{one_answer}
-use Rattle.verity_changes.proofs.script.print_bad.Goals as goal
-
-pub returns : goal.returns
-returns g c = one_answer _ _ BadLine c.in_ok-writeln.ensures.bytes
