@@ -1,6 +1,6 @@
 -- What the commands that change a volume print.
-use Rattle.std.specs.Prelude.{◌≡◌, ℕ, Bool, true, false, List, ◌++◌, codes, Option, None, Some}
-use Rattle.std.specs.List.{flat_map, list_any}
+use Rattle.std.specs.Prelude.{◌≡◌, ◌==◌, ℕ, Bool, true, false, List, [], ◌∷◌, ◌++◌, length, codes, Option, None, Some}
+use Rattle.std.specs.List.{flat_map, list_any, slice_split, sum_by}
 use Rattle.std.specs.Fmt.{decimal}
 use Rattle.std.specs.Io.KnownBytes.{Appends}
 use Rattle.verity_superblock.specs.Line.{TableLine, canonical}
@@ -31,9 +31,19 @@ abbrev pub status_for : Bool → ℕ
 status_for false = 0
 status_for true = 1
 
--- what a script prints: answers alone, a line each; and its status is 0 exactly where none of them is a refusal
-pub record AreAnswers (old new : Option (List ℕ)) (answered : ℕ) : Type 0 where
+-- how many answers a line of a script gets: none where it is empty
+abbrev pub answers_to : List ℕ → ℕ
+answers_to [] = 0
+answers_to (byte ∷ bytes) = 1
+
+-- how many answers a script gets
+abbrev pub answers_of : List ℕ → ℕ
+answers_of bytes = sum_by answers_to (slice_split (λ b. b == 10) bytes)
+
+-- what is printed: so many answers and nothing else, a line each; and the status is 0 exactly where none of them is a refusal
+pub record AreAnswers (old new : Option (List ℕ)) (count answered : ℕ) : Type 0 where
   pub answers : List Answered
+  pub each : length answers ≡ count
   pub printed : Appends old new (flat_map answer_line answers)
   pub status : answered ≡ status_for (list_any is_refusal answers)
 

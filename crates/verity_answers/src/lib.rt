@@ -3,9 +3,9 @@
 //!
 //! What a commit is worth the contracts of the layers below say. Here a script is read whole (`read_script`), and each of its lines is
 //! done by one call of an editor, or is a commit, which reaches the volume's files as `Commits` has it. Over an output whose bytes are
-//! known, a script prints answers alone, a line each, and its status is 0 exactly where none is a refusal (`run_script`); an update
-//! prints how many blocks were changed, and the table line of its commit (`print_update`). That each line is answered by what was done
-//! of it, and by nothing else, is shown by tests.
+//! known, a script prints as many answers as it has lines that aren't empty, a line each, and its status is 0 exactly where none is a
+//! refusal (`run_script`); an update prints how many blocks were changed, and the table line of its commit (`print_update`). That each
+//! line is answered by what was done of it is shown by tests.
 //!
 //! The definitions stand in `specs/`: `Printed` (answers and their lines).
 #![tactic(auto)]

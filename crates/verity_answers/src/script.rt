@@ -2,7 +2,7 @@
 
 ghost use Rattle.std.specs.Prelude.{◌≡◌, ◌==◌, ◌<◌, ◌+◌, ℕ, length, take, drop, IfOk, IfSome, IsSome, Some, None};
 ghost use Rattle.std.specs.List.{position};
-ghost use Rattle.verity_answers.specs.Printed.{AreAnswers, told_status};
+ghost use Rattle.verity_answers.specs.Printed.{AreAnswers, answers_of, answers_to, told_status};
 
 use std::alloc::{AllocError, Global};
 use std::io::{ErrorKind, Read, Write};
@@ -59,7 +59,7 @@ pub fn run_script<V: Edits, C: Commits<V>, W: Write, E: Write>(
     output: &mut W,
     errors: &mut E,
 ) -> Result<u8, Failure>
-    ensures { IfOk result (λ status. AreAnswers (W.contents output.old) (W.contents output.new) status) }
+    ensures { IfOk result (λ status. AreAnswers (W.contents output.old) (W.contents output.new) (answers_of script.entry.bytes.now) status) }
 {
     let mut status = DONE;
     let mut line: usize = 0;
@@ -85,6 +85,8 @@ fn first_line(bytes: &[u8]) -> (&[u8], Option<&[u8]>)
     ensures cut { (at : ℕ) → position (λ b. b == 10) bytes.now ≡ Some at → (result.0.now ≡ take at bytes.now)
         × IsSome result.1 × IfSome result.1 (λ behind. behind.now ≡ drop (at + 1) bytes.now) }
     ensures shorter { IfSome result.1 (λ behind. length behind.now < length bytes.now) }
+    ensures whole { result.1 ≡ None → answers_of bytes.now ≡ answers_to result.0.now }
+    ensures split { IfSome result.1 (λ behind. answers_of bytes.now ≡ answers_to result.0.now + answers_of behind.now) }
 {
     match end_of_line(bytes) {
         Some(at) => (&bytes[..at], Some(&bytes[at + 1..])),
@@ -119,7 +121,7 @@ fn run_line<'a, V: Edits, C: Commits<V>, W: Write>(
     text: &'a [u8],
     output: &mut W,
 ) -> (V, Result<Option<Refusal<'a>>, Failure>)
-    ensures { IfOk result.1 (λ told. AreAnswers (W.contents output.old) (W.contents output.new) (told_status told)) }
+    ensures { IfOk result.1 (λ told. AreAnswers (W.contents output.old) (W.contents output.new) (answers_to text.now) (told_status told)) }
 {
     if text.is_empty() {
         return (editor, Ok(None));
@@ -138,7 +140,7 @@ fn run_line<'a, V: Edits, C: Commits<V>, W: Write>(
 
 /// Prints that a line is none.
 fn print_bad<'a, W: Write>(output: &mut W) -> Result<Option<Refusal<'a>>, Failure>
-    ensures { IfOk result (λ told. AreAnswers (W.contents output.old) (W.contents output.new) (told_status told)) }
+    ensures { IfOk result (λ told. AreAnswers (W.contents output.old) (W.contents output.new) 1 (told_status told)) }
 {
     writeln!(output, "bad line")?;
     Ok(Some(Refusal::BadLine))
@@ -153,7 +155,7 @@ fn print_answer<'a, V: Edits, W: Write>(
     answer: Answer,
     output: &mut W,
 ) -> Result<Option<Refusal<'a>>, Failure>
-    ensures { IfOk result (λ told. AreAnswers (W.contents output.old) (W.contents output.new) (told_status told)) }
+    ensures { IfOk result (λ told. AreAnswers (W.contents output.old) (W.contents output.new) 1 (told_status told)) }
 {
     match answer {
         Answer::Done => {
