@@ -48,6 +48,7 @@ answers_left (Some bytes) = answers_of bytes.now
 -- the first of these lines, and those behind it
 pub of_first : (rest behind : Option (Bor (List ℕ))) (bytes : Bor (List ℕ)) (text : List ℕ) → rest ≡ Some bytes
     → (behind ≡ None → answers_of bytes.now ≡ answers_to text)
-    → IfSome behind (λ b. answers_of bytes.now ≡ answers_to text + answers_of b.now) → answers_left rest ≡ answers_to text + answers_left behind
+    → IfSome behind (λ b. answers_of bytes.now ≡ answers_to text + answers_of b.now)
+    → answers_left rest ≡ answers_to text + answers_left behind
 of_first rest None bytes text e whole split = ap answers_left e ∙ whole refl ∙ omega arith
 of_first rest (Some b) bytes text e whole split = ap answers_left e ∙ split

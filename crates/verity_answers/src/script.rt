@@ -59,7 +59,8 @@ pub fn run_script<V: Edits, C: Commits<V>, W: Write, E: Write>(
     output: &mut W,
     errors: &mut E,
 ) -> Result<u8, Failure>
-    ensures { IfOk result (λ status. AreAnswers (W.contents output.old) (W.contents output.new) (answers_of script.entry.bytes.now) status) }
+    ensures { IfOk result (λ status. AreAnswers (W.contents output.old) (W.contents output.new)
+        (answers_of script.entry.bytes.now) status) }
 {
     let mut status = DONE;
     let mut line: usize = 0;
