@@ -13,6 +13,7 @@ ghost use Rattle.nbd_session.specs.Protocol.{longest_reply};
 ghost use Rattle.nbd_hub.specs.History.{Step, Opening, own};
 ghost use Rattle.nbd_hub.specs.Sessions.{lookup, OpensOne, max_open, max_opened};
 ghost use Rattle.nbd_hub.specs.After.{IsAfter};
+ghost use Rattle.nbd_relay.specs.Asked.{IsHandedOn};
 ghost use Rattle.nbd_relay.specs.Client.{AsksFor, IsServed, TurnsOn, IsPart, Sends, Reads, Feeds, ends, input_bytes, IsUnready, Moves};
 
 use crate::stream::Stream;
@@ -195,7 +196,7 @@ impl<S: Stream + Drop, A: Allocator> Client<S, A> {
         ensures same { self.new.0 ≡ self.old.0 }
         ensures unread { Keeps (S.remaining self.old.1) (S.remaining self.new.1) }
         ensures written { Keeps (S.contents self.old.1) (S.contents self.new.1) }
-        ensures asked { S.asked self.new.1 ≡ S.asked self.old.1 }
+        ensures asked { IsHandedOn (S.asked self.old.1) (S.asked self.new.1) result }
         ensures flushed { OnOk result (S.flushed self.new.1 ≡ true) }
     {
         self.stream.flush()

@@ -1,7 +1,7 @@
 //! A stream of a client.
 
 ghost use Rattle.std.specs.Prelude.{◌≡◌, ◌≢◌, ◌<◌, ◌+◌, ℕ, List, length, Bool, true, Option, None, IfOk, OnOk};
-ghost use Rattle.nbd_relay.specs.Asked.{Asked, IsAsked};
+ghost use Rattle.nbd_relay.specs.Asked.{Asked, IsAsked, IsHandedOn};
 ghost use Rattle.std.specs.Io.{ReadsAtMost, WritesAtMost};
 ghost use Rattle.std.specs.Io.KnownBytes.{Keeps, ReadConsumes, WriteAppends};
 
@@ -47,7 +47,7 @@ pub trait Stream {
     fn flush(&mut self) -> io::Result<()>
         ensures unread { Keeps (remaining self.old) (remaining self.new) }
         ensures written { Keeps (contents self.old) (contents self.new) }
-        ensures asked { asked self.new ≡ asked self.old }
+        ensures asked { IsHandedOn (asked self.old) (asked self.new) result }
         ensures flushed { OnOk result (flushed self.new ≡ true) };
 }
 
@@ -101,6 +101,19 @@ impl Asks {
             }
         }
     }
+
+    /// Counts what came of a flush, which is no asking: an error alone.
+    pub fn note_flush(&mut self, answer: &io::Result<()>)
+        ensures { IsHandedOn self.old self.new answer.now }
+    {
+        if let Err(e) = answer {
+            if e.kind() == ErrorKind::WouldBlock {
+                self.waits.step();
+            } else {
+                self.failures.step();
+            }
+        }
+    }
 }
 
 /// A reader and a writer as one stream.
@@ -131,6 +144,8 @@ impl<R: Read, W: Write> Stream for Pair<R, W> {
     }
 
     fn flush(&mut self) -> io::Result<()> {
-        self.writer.flush()
+        let answer = self.writer.flush();
+        self.asks.note_flush(&answer);
+        answer
     }
 }

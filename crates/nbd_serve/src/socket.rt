@@ -134,6 +134,8 @@ impl<C: Connection + Drop, A: Allocator> Stream for Socket<C, A> {
     }
 
     fn flush(&mut self) -> io::Result<()> {
-        self.empty()
+        let answer = self.empty();
+        self.asks.note_flush(&answer);
+        answer
     }
 }
