@@ -1,5 +1,5 @@
 -- A script's first line, and the answers that its lines get.
-use Rattle.std.proofs.Common.{◌≡◌, ◌==◌, ℕ, ◌+◌, ◌-◌, ◌<◌, ◌≤◌, nat_lt, cond, Bool, true, false, List, [], ◌∷◌, length, take, drop}
+use Rattle.std.proofs.Common.{◌≡◌, ◌==◌, ℕ, ◌+◌, ◌-◌, ◌≤◌, cond, Bool, true, false, List, ◌∷◌, length, take, drop}
 use Rattle.std.proofs.Common.{Bor, Option, None, Some, IfSome, refl, sym, ap, subst, ◌∙◌, arith}
 use Rattle.std.specs.List.{All, position, position_or_len, slice_split, sum_by}
 use Rattle.std.proofs.lemmas.Bool.{ltb-false}

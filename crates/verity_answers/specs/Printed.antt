@@ -1,11 +1,14 @@
 -- What the commands that change a volume print.
-use Rattle.std.specs.Prelude.{◌≡◌, ◌==◌, ℕ, Bool, true, false, List, [], ◌∷◌, ◌++◌, length, codes, Option, None, Some}
+use Rattle.std.specs.Prelude.{◌≡◌, ◌==◌, ℕ, Bool, true, false, List, [], ◌∷◌, ◌++◌, length, codes, Option, None, Some, ⊤}
 use Rattle.std.specs.List.{flat_map, list_any, slice_split, sum_by}
 use Rattle.std.specs.Fmt.{decimal}
 use Rattle.std.specs.Io.KnownBytes.{Appends}
 use Rattle.verity_superblock.specs.Line.{TableLine, canonical}
 use Rattle.verity_files.specs.Faults.{line, fault_text}
 use Rattle.verity_files.specs.declared.fault.Fault.{Fault}
+use Rattle.verity_files.specs.declared.failure.Failure.{Failure}
+use Rattle.verity_files.specs.declared.failure.Failure.TheVariants.{Output}
+use Rattle.verity_volume.specs.Lines.{IsOfLine}
 
 -- what is answered to a line of a script
 pub data Answered : Type 0 where
@@ -55,3 +58,8 @@ told_status (Some refusal) = 1
 -- what `update` prints: how many blocks were written or added, and the table line of the commit
 abbrev pub update_lines : ℕ → TableLine → List ℕ
 update_lines changed table = (codes "changed " ++ line (decimal changed)) ++ (codes "committed " ++ line (canonical table))
+
+-- why there are no more answers: there is no table line, or the output can't be written
+abbrev pub EndsAnswers : Failure → Type 0
+EndsAnswers Output = ⊤
+EndsAnswers failure = IsOfLine failure

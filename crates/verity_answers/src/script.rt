@@ -1,8 +1,8 @@
 //! A script over a volume: read whole, then done line by line.
 
-ghost use Rattle.std.specs.Prelude.{◌≡◌, ◌==◌, ◌<◌, ◌+◌, ℕ, length, take, drop, IfOk, IfSome, IsSome, Some, None};
+ghost use Rattle.std.specs.Prelude.{◌≡◌, ◌==◌, ◌<◌, ◌+◌, ℕ, length, take, drop, IfOk, IfErr, IfSome, IsSome, Some, None};
 ghost use Rattle.std.specs.List.{position};
-ghost use Rattle.verity_answers.specs.Printed.{AreAnswers, answers_of, answers_to, told_status};
+ghost use Rattle.verity_answers.specs.Printed.{AreAnswers, EndsAnswers, answers_of, answers_to, told_status};
 
 use std::alloc::{AllocError, Global};
 use std::io::{ErrorKind, Read, Write};
@@ -59,8 +59,9 @@ pub fn run_script<V: Edits, C: Commits<V>, W: Write, E: Write>(
     output: &mut W,
     errors: &mut E,
 ) -> Result<u8, Failure>
-    ensures { IfOk result (λ status. AreAnswers (W.contents output.old) (W.contents output.new)
+    ensures answered { IfOk result (λ status. AreAnswers (W.contents output.old) (W.contents output.new)
         (answers_of script.entry.bytes.now) status) }
+    ensures ended { IfErr result EndsAnswers }
 {
     let mut status = DONE;
     let mut line: usize = 0;
@@ -122,7 +123,9 @@ fn run_line<'a, V: Edits, C: Commits<V>, W: Write>(
     text: &'a [u8],
     output: &mut W,
 ) -> (V, Result<Option<Refusal<'a>>, Failure>)
-    ensures { IfOk result.1 (λ told. AreAnswers (W.contents output.old) (W.contents output.new) (answers_to text.now) (told_status told)) }
+    ensures answered { IfOk result.1 (λ told.
+        AreAnswers (W.contents output.old) (W.contents output.new) (answers_to text.now) (told_status told)) }
+    ensures ended { IfErr result.1 EndsAnswers }
 {
     if text.is_empty() {
         return (editor, Ok(None));
@@ -141,7 +144,8 @@ fn run_line<'a, V: Edits, C: Commits<V>, W: Write>(
 
 /// Prints that a line is none.
 fn print_bad<'a, W: Write>(output: &mut W) -> Result<Option<Refusal<'a>>, Failure>
-    ensures { IfOk result (λ told. AreAnswers (W.contents output.old) (W.contents output.new) 1 (told_status told)) }
+    ensures answered { IfOk result (λ told. AreAnswers (W.contents output.old) (W.contents output.new) 1 (told_status told)) }
+    ensures ended { IfErr result EndsAnswers }
 {
     writeln!(output, "bad line")?;
     Ok(Some(Refusal::BadLine))
@@ -156,7 +160,8 @@ fn print_answer<'a, V: Edits, W: Write>(
     answer: Answer,
     output: &mut W,
 ) -> Result<Option<Refusal<'a>>, Failure>
-    ensures { IfOk result (λ told. AreAnswers (W.contents output.old) (W.contents output.new) 1 (told_status told)) }
+    ensures answered { IfOk result (λ told. AreAnswers (W.contents output.old) (W.contents output.new) 1 (told_status told)) }
+    ensures ended { IfErr result EndsAnswers }
 {
     match answer {
         Answer::Done => {
@@ -198,7 +203,9 @@ fn reply_to<V: Edits, C: Commits<V>>(
     commits: &mut C,
     devices: Devices<'_>,
     line: Line<'_>,
-) -> (V, Result<Answer, Failure>) {
+) -> (V, Result<Answer, Failure>)
+    ensures { IfErr result.1 (λ e. e ≡ Failure.NoMemory) }
+{
     if editor.broken() || commits.is_broken() {
         return (editor, Ok(Answer::Refused(Fault::Edit(EditFault::Broken))));
     }
@@ -218,7 +225,9 @@ fn reply_to<V: Edits, C: Commits<V>>(
 }
 
 /// Want of memory is a failure, and any other fault is answered.
-fn answer_of(done: Result<Committed, Fault>) -> Result<Answer, Failure> {
+fn answer_of(done: Result<Committed, Fault>) -> Result<Answer, Failure>
+    ensures { IfErr result (λ e. e ≡ Failure.NoMemory) }
+{
     match done {
         Ok(committed) => Ok(Answer::Committed(committed)),
         Err(fault) => match Failure::from(fault) {

@@ -1,9 +1,9 @@
 //! What an update prints.
 
-ghost use Rattle.std.specs.Prelude.{OnOk};
+ghost use Rattle.std.specs.Prelude.{OnOk, IfErr};
 ghost use Rattle.std.specs.Io.KnownBytes.{Appends};
 ghost use Rattle.verity_volume.specs.Lines.{volume_line};
-ghost use Rattle.verity_answers.specs.Printed.{update_lines};
+ghost use Rattle.verity_answers.specs.Printed.{EndsAnswers, update_lines};
 
 use std::alloc::Global;
 use std::io::Write;
@@ -21,8 +21,9 @@ pub fn print_update<W: Write>(
     root: Digest,
     output: &mut W,
 ) -> Result<(), Failure>
-    ensures { OnOk result (Appends (W.contents output.old) (W.contents output.new)
+    ensures printed { OnOk result (Appends (W.contents output.old) (W.contents output.new)
         (update_lines changed (volume_line devices.entry superblock.now root))) }
+    ensures ended { IfErr result EndsAnswers }
 {
     let line = committed_line(alloc, devices, superblock, root)?;
     writeln!(output, "changed {changed}")?;

@@ -1,5 +1,5 @@
 -- The lines that commands print of a volume.
-use Rattle.std.specs.Prelude.{ℕ, zero, suc, ◌+◌, ◌-◌, List, [], ◌∷◌, ◌++◌, codes}
+use Rattle.std.specs.Prelude.{ℕ, zero, suc, ◌+◌, ◌-◌, List, [], ◌∷◌, ◌++◌, codes, ⊤}
 use Rattle.std.specs.Fmt.{decimal}
 use Rattle.uuid.specs.Text.{hyphenated_text, lower}
 use Rattle.verity_digest.specs.Hash.{name_of}
@@ -8,6 +8,9 @@ use Rattle.verity_edit.specs.Planning.{volume_shape}
 use Rattle.verity_superblock.specs.Superblock.{Volume}
 use Rattle.verity_superblock.specs.Line.{TableLine, salt_text, algorithm_of}
 use Rattle.verity_files.specs.Faults.{line}
+use Rattle.verity_files.specs.declared.failure.Failure.{Failure}
+use Rattle.verity_files.specs.declared.failure.Failure.TheVariants.{NoMemory, Refused}
+use Rattle.verity_files.specs.declared.fault.Fault.TheVariants.{Salt, Table}
 use Rattle.verity_volume.specs.declared.lines.Devices.{Devices}
 use Rattle.verity_volume.specs.declared.lines.LineParts.{LineParts}
 
@@ -38,6 +41,13 @@ volume_line devices volume root = record {
   root = root;
   salt = volume.params.salt;
 }
+
+-- why there is no table line: want of memory, a salt that is none, or parts that no line has
+abbrev pub IsOfLine : Failure → Type 0
+IsOfLine NoMemory = ⊤
+IsOfLine (Refused (Salt fault)) = ⊤
+IsOfLine (Refused (Table fault)) = ⊤
+IsOfLine _ = ⊥
 
 -- a name, and what it has
 abbrev pub named_line : List ℕ → List ℕ → List ℕ

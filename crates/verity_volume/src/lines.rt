@@ -1,10 +1,10 @@
 //! The lines that commands print of a volume.
-ghost use Rattle.std.specs.Prelude.{◌≡◌, ◌^◌, ◌<◌, ◌≤◌, IfOk, OnOk, string_bytes};
+ghost use Rattle.std.specs.Prelude.{◌≡◌, ◌^◌, ◌<◌, ◌≤◌, IfOk, IfErr, OnOk, string_bytes};
 ghost use Rattle.verity_geometry.specs.Geometry.{levels_of};
 ghost use Rattle.std.specs.Io.KnownBytes.{Appends};
 ghost use Rattle.verity_superblock.specs.Line.{IsTableLine, canonical};
 ghost use Rattle.std.specs.Fmt.{decimal};
-ghost use Rattle.verity_volume.specs.Lines.{line_of, volume_line, named_line, kind_lines, size_lines, level_line, tree_lines};
+ghost use Rattle.verity_volume.specs.Lines.{IsOfLine, line_of, volume_line, named_line, kind_lines, size_lines, level_line, tree_lines};
 ghost use Rattle.verity_volume.specs.Lines.{superblock_lines};
 
 use std::alloc::Global;
@@ -31,6 +31,7 @@ pub struct LineParts<'a> {
 pub fn table_line(alloc: Global, volume: &LineParts<'_>, root: Digest) -> Result<String, Failure>
     ensures text { IfOk result (λ text. string_bytes text ≡ canonical (line_of volume.now root)) }
     ensures profile { IfOk result (λ text. IsTableLine (line_of volume.now root)) }
+    ensures refused { IfErr result IsOfLine }
 {
     Ok(table_of(alloc, volume, root)?.text()?)
 }
@@ -39,6 +40,7 @@ pub fn table_line(alloc: Global, volume: &LineParts<'_>, root: Digest) -> Result
 pub fn table_of(alloc: Global, volume: &LineParts<'_>, root: Digest) -> Result<Table, Failure>
     ensures value { IfOk result (λ table. table ≡ line_of volume.now root) }
     ensures profile { IfOk result IsTableLine }
+    ensures refused { IfErr result IsOfLine }
 {
     Ok(Table::new(
         alloc,
@@ -72,7 +74,8 @@ pub fn committed_line(
     superblock: &Superblock,
     root: Digest,
 ) -> Result<String, Failure>
-    ensures { IfOk result (λ text. string_bytes text ≡ canonical (volume_line devices.entry superblock.now root)) }
+    ensures text { IfOk result (λ text. string_bytes text ≡ canonical (volume_line devices.entry superblock.now root)) }
+    ensures refused { IfErr result IsOfLine }
 {
     let volume = LineParts {
         data_path: devices.data_path,

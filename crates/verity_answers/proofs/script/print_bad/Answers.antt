@@ -2,5 +2,5 @@ use Rattle.verity_answers.specs.Printed.{BadLine}
 use Rattle.verity_answers.proofs.Answering.{one_answer}
 use Rattle.verity_answers.proofs.script.print_bad.Goals as goal
 
-pub returns : goal.returns
-returns g c = one_answer _ _ BadLine c.in_ok-writeln.ensures.bytes
+pub returns-clause-answered : goal.returns-clause-answered
+returns-clause-answered g c = one_answer _ _ BadLine c.in_ok-writeln.ensures.bytes

@@ -1,4 +1,4 @@
-use Rattle.std.proofs.Common.{ℕ, ◌+◌, length, Option, None, Some}
+use Rattle.std.proofs.Common.{◌+◌, length, None, Some}
 use Rattle.verity_answers.specs.Printed.{answers_of}
 use Rattle.verity_answers.proofs.Answering.{Answering}
 use Rattle.verity_answers.proofs.Cutting.{answers_left}
