@@ -191,7 +191,7 @@ impl<S: Stream + Drop, A: Allocator> Client<S, A> {
         hub.asks(self.session, &self.input[self.begin..self.begin + taken])
     }
 
-    /// Has its stream hand on what it took and holds.
+    /// Has its stream hand on what it took and holds. An error is one that the stream counts, as a wait or as a failure.
     pub fn flush(&mut self) -> io::Result<()>
         ensures same { self.new.0 ≡ self.old.0 }
         ensures unread { Keeps (S.remaining self.old.1) (S.remaining self.new.1) }

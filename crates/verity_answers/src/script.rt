@@ -50,6 +50,8 @@ fn unread(error: io::Error) -> Failure {
 /// Does the lines of a script in order and prints one answer line each, but for empty lines: `ok`, `committed ` and the
 /// new table line, `refused ` and the fault's text, or `bad line`. It goes on after a refusal, and answers status 1 if
 /// there was one. Edits that are pending at the end are dropped with the editor. Why a line wasn't done goes to `errors`.
+///
+/// There is no status only for want of memory, where there is no table line, or where the output can't be written.
 pub fn run_script<V: Edits, C: Commits<V>, W: Write, E: Write>(
     alloc: Global,
     editor: V,

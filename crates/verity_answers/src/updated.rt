@@ -12,7 +12,8 @@ use verity_files::Failure;
 use verity_superblock::Superblock;
 use verity_volume::{Devices, committed_line};
 
-/// Prints how many blocks an update wrote or added, and the table line of its commit.
+/// Prints how many blocks an update wrote or added, and the table line of its commit. It fails only for want of memory, where there is
+/// no table line, or where the output can't be written.
 pub fn print_update<W: Write>(
     alloc: Global,
     changed: u64,

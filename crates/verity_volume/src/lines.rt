@@ -27,7 +27,8 @@ pub struct LineParts<'a> {
     pub salt: &'a [u8],
 }
 
-/// The table line of a volume with this root hash, as it is printed.
+/// The table line of a volume with this root hash, as it is printed. There is none for want of memory, or where the salt or the line is
+/// refused.
 pub fn table_line(alloc: Global, volume: &LineParts<'_>, root: Digest) -> Result<String, Failure>
     ensures text { IfOk result (λ text. string_bytes text ≡ canonical (line_of volume.now root)) }
     ensures profile { IfOk result (λ text. IsTableLine (line_of volume.now root)) }
@@ -36,7 +37,7 @@ pub fn table_line(alloc: Global, volume: &LineParts<'_>, root: Digest) -> Result
     Ok(table_of(alloc, volume, root)?.text()?)
 }
 
-/// The table line of a volume with this root hash.
+/// The table line of a volume with this root hash. Refused as for `table_line`.
 pub fn table_of(alloc: Global, volume: &LineParts<'_>, root: Digest) -> Result<Table, Failure>
     ensures value { IfOk result (λ table. table ≡ line_of volume.now root) }
     ensures profile { IfOk result IsTableLine }
@@ -67,7 +68,7 @@ pub struct Devices<'a> {
     pub hash_room: u64,
 }
 
-/// The table line of a volume with this superblock and this root hash.
+/// The table line of a volume with this superblock and this root hash. Refused as for `table_line`.
 pub fn committed_line(
     alloc: Global,
     devices: Devices<'_>,
