@@ -54,12 +54,3 @@ pub shows_read : {S : Type 0} (facts : store.Ghosts S) (old new : S) (n : ℕ) (
 shows_read facts old new n block blocks tells same right gave =
     ⊎_elim (λ told. sym (right (sym tells ∙ told.0)) ∙ ap (λ c. get_or c n []) (sym (told.1 ∙ same)))
     (λ only. sym (only n block (subst (λ rows. Contains rows (n, block)) (sym gave) (Contains-push (facts.given old) (n, block)))))
-
--- .. where it was answered
-pub answer_shown : {S E : Type 0} (facts : store.Ghosts S) (old new : S) (n : ℕ) (block : List ℕ) (result : Result (Unit {0}) E)
-    → facts.tells new ≡ facts.tells old → facts.content new ≡ facts.content old
-    → OnOk result (facts.tells old ≡ true → get_or (facts.content old) n [] ≡ block)
-    → OnOk result (facts.given new ≡ facts.given old ++ (n, block) ∷ [])
-    → OnOk result ((blocks : List (List ℕ)) → Shows facts new blocks → block ≡ get_or blocks n [])
-answer_shown facts old new n block (Ok done) tells same right gave = λ blocks. shows_read facts old new n block blocks tells same right gave
-answer_shown facts old new n block (Err error) tells same right gave = tt

@@ -8,12 +8,13 @@ ghost use Rattle.verity_plan.specs.Levels.{KeepsFront, moved_blocks};
 ghost use Rattle.verity_plan.specs.Plan.{ArePlanned};
 ghost use Rattle.verity_plan.specs.Carried.{IsCarried, AreInTree};
 
+use crate::StoreFailed;
 use crate::levels::move_tree;
 use crate::made::Made;
 use crate::tree::Change;
 use crate::writes::write_made;
 use std::alloc::Allocator;
-use verity_store::{BlockStore, StoreFault};
+use verity_store::BlockStore;
 
 /// Gives the hash store the length of the new tree, moves the levels that both trees have, writes the blocks of the plan
 /// and, in front of the tree, the superblock's block, in room that the store has. It reads the blocks that it moves and no others.
@@ -24,7 +25,7 @@ pub fn change_hash<H: BlockStore, A: Allocator>(
     plan: &[Made<A>],
     superblock: &[u8],
     block: &mut [u8],
-) -> Result<(), StoreFault>
+) -> Result<(), StoreFailed>
     requires hash_size { change.now.new.hash_size ≡ change.now.old.hash_size }
     requires digest_size { change.now.new.digest_size ≡ change.now.old.digest_size }
     requires behind { 1 ≤ change.now.first }
@@ -49,5 +50,5 @@ pub fn change_hash<H: BlockStore, A: Allocator>(
 {
     move_tree(hash_store, change.first, &change.old, &change.new, block)?;
     write_made(hash_store, plan)?;
-    hash_store.write(change.first - 1, superblock)
+    Ok(hash_store.write(change.first - 1, superblock)?)
 }

@@ -1,10 +1,10 @@
-//! Why an edit is refused.
+//! Why an edit is refused, and that a plan isn't carried out.
 ghost use Rattle.std.specs.Prelude.{Some};
 
 use std::alloc::AllocError;
 use std::fmt;
 use thiserror::Error;
-use verity_store::Which;
+use verity_store::{StoreFault, Which};
 use verity_superblock::SuperFault;
 
 /// Why a volume isn't opened, or an edit or a commit is refused. Its text is its number and what it carries.
@@ -84,5 +84,17 @@ impl fmt::Display for EditFault {
             EditFault::Line => f.write_str("E13"),
             EditFault::Untrusted { level, index } => write!(f, "E14 level {level} index {index}"),
         }
+    }
+}
+
+/// A call on a store failed, which its `failures` count. The store's fault isn't kept, since whoever carries out a plan knows the store
+/// and answers its name.
+#[derive(Clone, Copy, Debug, PartialEq, Eq, Error)]
+#[error("the store failed")]
+pub struct StoreFailed;
+
+impl From<StoreFault> for StoreFailed {
+    fn from(_fault: StoreFault) -> Self {
+        StoreFailed
     }
 }

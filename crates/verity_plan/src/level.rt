@@ -9,14 +9,14 @@ ghost use Rattle.verity_plan.specs.Seen.{GivesAt, Shows};
 ghost use Rattle.verity_plan.specs.Slots.{slots, AreSized};
 ghost use Rattle.verity_plan.specs.Plan.{numbers_of, places, ArePlanned, AddsPlanned, AddsChild, made_blocks, made_digests};
 
-use crate::EditFault;
 use crate::child::Child;
 use crate::children::Children;
 use crate::made::Made;
 use crate::plan::{remake, set_slot};
+use crate::{EditFault, StoreFailed};
 use std::alloc::Allocator;
 use verity_digest::{Digest, Hasher};
-use verity_store::{BlockStore, StoreFault, Which};
+use verity_store::{BlockStore, Which};
 
 /// Where the hash blocks of a level of the committed tree stand, and its first digest where no block holds it.
 #[derive(Clone, Copy, Debug)]
@@ -52,7 +52,7 @@ fn read_old<H: BlockStore>(
     level: &Level,
     index: u64,
     block: &mut [u8],
-) -> Result<(), StoreFault>
+) -> Result<(), StoreFailed>
     requires level { IsLevel level.now (length (H.content hash_store.old)) (H.size hash_store.old) level.now.digest_size }
     requires sized { length block.old ≡ H.size hash_store.old }
     ensures read { OnOk result ((content : List (List ℕ)) → Shows H.BlockStore hash_store.new content →
@@ -66,7 +66,7 @@ fn read_old<H: BlockStore>(
 {
     let _len = hash_store.len();
     if index < level.old.len {
-        return hash_store.read(level.old.start + index, block);
+        return Ok(hash_store.read(level.old.start + index, block)?);
     }
     block.fill(0);
     if index == 0 {
@@ -85,7 +85,7 @@ fn make_again<H: BlockStore, A: Allocator + Copy>(
     children: &Children<A>,
     index: u64,
     block: &mut [u8],
-) -> Result<Digest, StoreFault>
+) -> Result<Digest, StoreFailed>
     requires level { IsLevel level.now (length (H.content hash_store.old)) (H.size hash_store.old) (size_of hasher.old.salted.algorithm) }
     requires children { AreChildren level.now children.now.items }
     requires sized { length block.old ≡ H.size hash_store.old }

@@ -7,8 +7,9 @@ ghost use Rattle.verity_store.specs.Moves.{IsMoved, ChangesWithin};
 ghost use Rattle.verity_store.specs.Stores.{StaysStore, TellsFailure};
 ghost use Rattle.verity_plan.specs.Levels.{LevelsMoved, BothMoved, KeepsFront, moved_blocks};
 
+use crate::StoreFailed;
 use verity_geometry::Geometry;
-use verity_store::{BlockStore, StoreFault, move_run};
+use verity_store::{BlockStore, move_run};
 
 /// Moves the levels of a tree to where a tree of a greater count has them, level 0 first.
 pub fn move_apart<H: BlockStore>(
@@ -17,7 +18,7 @@ pub fn move_apart<H: BlockStore>(
     old: &Geometry,
     new: &Geometry,
     block: &mut [u8],
-) -> Result<(), StoreFault>
+) -> Result<(), StoreFailed>
     requires grown { Grows old.now new.now }
     requires first { first ≤ 2 ^ 40 }
     requires room { first + total_of new.now ≤ length (H.content hash_store.old) }
@@ -50,7 +51,7 @@ fn move_level<H: BlockStore>(
     to: u64,
     count: u64,
     block: &mut [u8],
-) -> Result<(), StoreFault>
+) -> Result<(), StoreFailed>
     requires from { from + count ≤ length (H.content hash_store.old) }
     requires to { to + count ≤ length (H.content hash_store.old) }
     requires sized { length block.old ≡ H.size hash_store.old }
@@ -65,7 +66,7 @@ fn move_level<H: BlockStore>(
     if from == to {
         return Ok(());
     }
-    move_run(hash_store, from, to, count, block)
+    Ok(move_run(hash_store, from, to, count, block)?)
 }
 
 /// Moves the levels that a tree of a smaller count has to where it has them, the top one first.
@@ -75,7 +76,7 @@ pub fn move_together<H: BlockStore>(
     old: &Geometry,
     new: &Geometry,
     block: &mut [u8],
-) -> Result<(), StoreFault>
+) -> Result<(), StoreFailed>
     requires grown { Grows new.now old.now }
     requires first { first ≤ 2 ^ 40 }
     requires room { first + total_of old.now ≤ length (H.content hash_store.old) }
@@ -111,7 +112,7 @@ pub fn move_tree<H: BlockStore>(
     old: &Geometry,
     new: &Geometry,
     block: &mut [u8],
-) -> Result<(), StoreFault>
+) -> Result<(), StoreFailed>
     requires hash_size { new.now.hash_size ≡ old.now.hash_size }
     requires digest_size { new.now.digest_size ≡ old.now.digest_size }
     requires first { first ≤ 2 ^ 40 }
@@ -144,7 +145,7 @@ fn grow_tree<H: BlockStore>(
     old: &Geometry,
     new: &Geometry,
     block: &mut [u8],
-) -> Result<(), StoreFault>
+) -> Result<(), StoreFailed>
     requires grown { Grows old.now new.now }
     requires blocks { blocks ≡ first + total_of new.now }
     requires few { blocks ≤ 2 ^ 41 }
@@ -172,7 +173,7 @@ fn cut_tree<H: BlockStore>(
     old: &Geometry,
     new: &Geometry,
     block: &mut [u8],
-) -> Result<(), StoreFault>
+) -> Result<(), StoreFailed>
     requires grown { Grows new.now old.now }
     requires blocks { blocks ≡ first + total_of new.now }
     requires few { blocks ≤ 2 ^ 41 }
@@ -191,5 +192,5 @@ fn cut_tree<H: BlockStore>(
     ensures store { StaysStore H.BlockStore hash_store.old hash_store.new }
 {
     move_together(hash_store, first, old, new, block)?;
-    hash_store.set_len(blocks)
+    Ok(hash_store.set_len(blocks)?)
 }

@@ -14,7 +14,7 @@
 //! and the touched ones, and where the count of blocks stays, it reads at most as many hash blocks as are touched.
 //!
 //! The errors are those of [`EditFault`], which is that of an editor too: an edit is refused with E1 to E5, a plan with E5 or E6.
-//! A refused call changes nothing, but that a store which failed while a plan is carried out may have been changed.
+//! A refused call changes nothing. Where a store fails while a plan is carried out ([`StoreFailed`]), it may have been changed.
 //!
 //! The definitions stand in `specs/`: `Edits` (images, edits and what refuses them), `Touched` (the touched hash blocks and their
 //! bound), `Draft` (pending edits), `Planning` (what a plan is), `Carried` (what carrying it out makes), `Standing`, `Kept`, `Faults`,
@@ -40,7 +40,7 @@ mod tree;
 mod writes;
 
 pub use change::change_hash;
-pub use fault::EditFault;
+pub use fault::{EditFault, StoreFailed};
 pub use made::Made;
 pub use pending::Pending;
 pub use planning::{CommitPlan, geometry_over, plan_commit};

@@ -11,15 +11,15 @@ ghost use Rattle.verity_plan.specs.Slots.{AreNamed, AreSized, AreWithin};
 ghost use Rattle.verity_plan.specs.Plan.{numbers_of};
 ghost use Rattle.verity_plan.specs.Leaves.{leaf_hashes};
 
-use crate::EditFault;
 use crate::children::Children;
 use crate::leaves::changed_leaves;
 use crate::writes::{write_pending, write_zeros};
+use crate::{EditFault, StoreFailed};
 use std::alloc::{AllocError, Allocator, Global};
 use std::collections::BTreeMap;
 use std::marker::Model;
 use verity_digest::Hasher;
-use verity_store::{Block, BlockStore, StoreFault};
+use verity_store::{Block, BlockStore};
 
 /// The edits since the last commit. A contract sees a `Draft`.
 #[derive(Drop)]
@@ -229,7 +229,7 @@ impl<A: Allocator + Copy> Pending<A> {
     /// Makes a store that holds the committed image hold the working one, in room that it has: gives it the length, writes zeros
     /// where blocks were dropped and others added again, and each block that was written. It reads nothing and takes no memory. Where
     /// the store fails, some of this may be done.
-    pub fn apply<D: BlockStore>(&self, store: &mut D, zero: &[u8]) -> Result<(), StoreFault>
+    pub fn apply<D: BlockStore>(&self, store: &mut D, zero: &[u8]) -> Result<(), StoreFailed>
         requires committed { length (D.content store.old) ≡ self.now.committed }
         requires size { D.size store.old ≡ self.now.size }
         requires zero { zero.now ≡ zero_block self.now.size }

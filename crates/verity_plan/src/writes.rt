@@ -6,16 +6,17 @@ ghost use Rattle.verity_plan.specs.Applied.{overwritten, FitStore};
 ghost use Rattle.verity_plan.specs.Plan.{planned_at};
 ghost use Rattle.verity_plan.specs.Written.{AreWritten, OnlyPlanned};
 
+use crate::StoreFailed;
 use crate::made::Made;
 use std::alloc::Allocator;
 use std::collections::BTreeMap;
-use verity_store::{Block, BlockStore, StoreFault};
+use verity_store::{Block, BlockStore};
 
 /// Writes the blocks of a plan.
 pub fn write_made<H: BlockStore, A: Allocator>(
     hash_store: &mut H,
     plan: &[Made<A>],
-) -> Result<(), StoreFault>
+) -> Result<(), StoreFailed>
     requires within { (c : ℕ) → c < length plan.now → (planned_at plan.now c).at < length (H.content hash_store.old) }
     requires sized { (c : ℕ) → c < length plan.now → length (planned_at plan.now c).block ≡ H.size hash_store.old }
     ensures written { OnOk result (H.tells hash_store.old ≡ true → AreWritten (length plan.now) plan.now (H.content hash_store.new)) }
@@ -34,7 +35,7 @@ pub fn write_made<H: BlockStore, A: Allocator>(
 pub fn write_pending<D: BlockStore, A: Allocator>(
     store: &mut D,
     written: &BTreeMap<u64, Block<A>, A>,
-) -> Result<(), StoreFault>
+) -> Result<(), StoreFailed>
     requires { FitStore (length (D.content store.old)) (D.size store.old) written.now.entries }
     ensures written { OnOk result (D.tells store.old ≡ true → D.content store.new ≡ overwritten written.now.entries (D.content store.old)) }
     ensures len { length (D.content store.new) ≡ length (D.content store.old) }
@@ -53,7 +54,7 @@ pub fn write_zeros<D: BlockStore>(
     from: u64,
     to: u64,
     zero: &[u8],
-) -> Result<(), StoreFault>
+) -> Result<(), StoreFailed>
     requires order { from ≤ to }
     requires within { to ≤ length (D.content store.old) }
     requires sized { length zero.now ≡ D.size store.old }

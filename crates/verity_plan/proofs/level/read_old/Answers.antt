@@ -5,8 +5,7 @@ use Rattle.std.proofs.lemmas.List.{get_or-set_same}
 use Rattle.verity_store.proofs.BlockLemmas.{length-cut}
 use Rattle.verity_plan.specs.Slots.{slots}
 use Rattle.verity_plan.specs.Level.{IsOldBlock}
-use Rattle.verity_plan.proofs.LevelMoves.{on_ok}
-use Rattle.verity_plan.proofs.SeenLemmas.{answer_shown, gives_read}
+use Rattle.verity_plan.proofs.SeenLemmas.{shows_read, gives_read}
 use Rattle.verity_plan.proofs.level.read_old.Goals as goal
 
 pub set_slot-requires-clause-room : goal.set_slot-requires-clause-room
@@ -18,10 +17,10 @@ set_slot-requires-clause-room g c =
 
 pub returns-then-index-level-clause-read : goal.returns-then-index-level-clause-read
 returns-then-index-level-clause-read g c =
-    let read = c.read.ensures in
-    on_ok c.read.result _ _ (λ is blocks shown below. is blocks shown)
-    (answer_shown g.H.BlockStore c.args.hash_store.now c.read.new.self (c.args.level.now.old.start + c.args.index) c.read.new.out
-    c.read.result read.tells read.content read.right read.given)
+    let read = c.in_ok-read.ensures in
+    λ blocks shown below.
+    shows_read g.H.BlockStore c.args.hash_store.now c.read.new.self (c.args.level.now.old.start + c.args.index) c.read.new.out
+    blocks read.tells read.content read.right read.given shown
 
 pub returns-in-Some-clause-first : goal.returns-in-Some-clause-first
 returns-in-Some-clause-first g c = λ far here.
