@@ -9,7 +9,7 @@ use Rattle.verity_superblock.specs.Superblock.{Volume}
 use Rattle.verity_superblock.specs.Line.{TableLine, salt_text, algorithm_of}
 use Rattle.verity_files.specs.Faults.{line}
 use Rattle.verity_files.specs.declared.failure.Failure.{Failure}
-use Rattle.verity_files.specs.declared.failure.Failure.TheVariants.{NoMemory, Refused}
+use Rattle.verity_files.specs.declared.failure.Failure.TheVariants.{NoMemory, Refused, Output}
 use Rattle.verity_files.specs.declared.fault.Fault.TheVariants.{Salt, Table}
 use Rattle.verity_volume.specs.declared.lines.Devices.{Devices}
 use Rattle.verity_volume.specs.declared.lines.LineParts.{LineParts}
@@ -48,6 +48,12 @@ IsOfLine NoMemory = ⊤
 IsOfLine (Refused (Salt fault)) = ⊤
 IsOfLine (Refused (Table fault)) = ⊤
 IsOfLine _ = ⊥
+
+-- why a line isn't printed: want of memory, or the output can't be written
+abbrev pub IsOfOutput : Failure → Type 0
+IsOfOutput NoMemory = ⊤
+IsOfOutput Output = ⊤
+IsOfOutput _ = ⊥
 
 -- a name, and what it has
 abbrev pub named_line : List ℕ → List ℕ → List ℕ

@@ -1,5 +1,7 @@
 //! The journal of a volume: where it stands, and its file.
-ghost use Rattle.std.specs.Prelude.{◌≡◌, None, IfOk};
+ghost use Rattle.std.specs.Prelude.{◌≡◌, None, IfOk, IfErr};
+ghost use Rattle.verity_files.specs.declared.failure.Word.TheVariants as word;
+ghost use Rattle.verity_volume.specs.Refusals.{BlamesNone, BlamesAtMost, IsOfFile};
 
 use std::alloc::{AllocError, Global};
 use std::fs::File;
@@ -27,7 +29,9 @@ pub fn journal_path<R: Files<File = File> + AllocGlobal>(
     named: Option<&str>,
     hash: Identity,
     hash_path: &str,
-) -> Result<Option<String>, Failure> {
+) -> Result<Option<String>, Failure>
+    ensures { IfErr result BlamesNone }
+{
     match (named, hash) {
         (Some(NONE), _) => Ok(None),
         (Some(path), _) => Ok(Some(String::from_str(rt.alloc(), path)?)),
@@ -40,14 +44,18 @@ pub fn journal_path<R: Files<File = File> + AllocGlobal>(
 fn path_beside<R: Files<File = File> + AllocGlobal>(
     rt: &R,
     hash_path: &str,
-) -> Result<String, Failure> {
+) -> Result<String, Failure>
+    ensures { IfErr result BlamesNone }
+{
     let mut path = path_of(rt, hash_path)?;
     path.push_str(".journal")?;
     Ok(path)
 }
 
 /// The path of what a path leads to; the path itself where there is nothing.
-fn path_of<R: Files<File = File> + AllocGlobal>(rt: &R, path: &str) -> Result<String, Failure> {
+fn path_of<R: Files<File = File> + AllocGlobal>(rt: &R, path: &str) -> Result<String, Failure>
+    ensures { IfErr result BlamesNone }
+{
     match fs::canonicalize(rt, path) {
         Ok(path) => Ok(String::from_str(rt.alloc(), path.as_str())?),
         Err(error) => match error.kind() {
@@ -74,7 +82,9 @@ pub fn volume_names<R: Files<File = File> + AllocGlobal>(
     data_path: &str,
     hash: &Opened,
     hash_path: &str,
-) -> Result<String, Failure> {
+) -> Result<String, Failure>
+    ensures { IfErr result BlamesNone }
+{
     let mut names = name_of(rt, data.identity, data_path)?;
     names.push('\0')?;
     names.push_str(&name_of(rt, hash.identity, hash_path)?)?;
@@ -86,7 +96,9 @@ fn name_of<R: Files<File = File> + AllocGlobal>(
     rt: &R,
     identity: Identity,
     path: &str,
-) -> Result<String, Failure> {
+) -> Result<String, Failure>
+    ensures { IfErr result BlamesNone }
+{
     match identity {
         Identity::File(_, _) => {
             let path = path_of(rt, path)?;
@@ -109,7 +121,9 @@ fn sync_folder<R: Files<File = File>>(rt: &R, path: &str) -> io::Result<()> {
 pub fn check_gate<R: Files<File = File> + AllocGlobal>(
     rt: &R,
     hash_path: &str,
-) -> Result<(), Failure> {
+) -> Result<(), Failure>
+    ensures { IfErr result BlamesNone }
+{
     if is_device(rt, hash_path) {
         return Ok(());
     }
@@ -122,7 +136,9 @@ pub fn check_other_gate<R: Files<File = File> + AllocGlobal>(
     rt: &R,
     hash_path: &str,
     named: &str,
-) -> Result<(), Failure> {
+) -> Result<(), Failure>
+    ensures { IfErr result BlamesNone }
+{
     if is_device(rt, hash_path) {
         return Ok(());
     }
@@ -136,7 +152,9 @@ pub fn check_other_gate<R: Files<File = File> + AllocGlobal>(
 }
 
 /// That the gate of a journal is closed, or there is none. S6.
-fn check_gate_at<R: Files<File = File>>(rt: &R, path: &str) -> Result<(), Failure> {
+fn check_gate_at<R: Files<File = File>>(rt: &R, path: &str) -> Result<(), Failure>
+    ensures { IfErr result BlamesNone }
+{
     let mut gate = [0];
     match open_journal(rt, path, Command::Verify)? {
         Some(mut opened) if opened.len > 0 => {
@@ -207,7 +225,9 @@ pub fn recover_files<R: Files<File = File> + AllocGlobal>(
     data: &Opened,
     hash: &Opened,
     names: &str,
-) -> Result<Option<Found>, Failure> {
+) -> Result<Option<Found>, Failure>
+    ensures { IfErr result (BlamesAtMost word.Journal) }
+{
     let Some(opened) = open_journal(rt, path, Command::Recover)? else {
         return Ok(None);
     };
@@ -234,7 +254,9 @@ fn is_foreign(bytes: &[u8]) -> bool {
 }
 
 /// All bytes of a journal.
-fn bytes_of(alloc: Global, journal: &Opened) -> Result<Vec<u8>, Failure> {
+fn bytes_of(alloc: Global, journal: &Opened) -> Result<Vec<u8>, Failure>
+    ensures { IfErr result BlamesNone }
+{
     let mut bytes = vec![in alloc; 0; journal.len as usize]?;
     let mut file = journal.again()?.file;
     match RawFile::read_exact_at(&mut file, 0, &mut bytes) {
@@ -312,7 +334,8 @@ fn started(
 
 /// One of a volume's files, and how many bytes it has.
 fn sized(opened: &Opened) -> Result<(VolumeFile<File>, u64), Fault>
-    ensures { IfOk result (λ file. ⟦<VolumeFile<File> as RawFile>⟧.bytes file.0 ≡ None) }
+    ensures unknown { IfOk result (λ file. ⟦<VolumeFile<File> as RawFile>⟧.bytes file.0 ≡ None) }
+    ensures refused { IfErr result IsOfFile }
 {
     let again = opened.again()?;
     let len = again.len;

@@ -5,7 +5,7 @@ ghost use Rattle.std.specs.Io.KnownBytes.{Appends};
 ghost use Rattle.verity_superblock.specs.Line.{IsTableLine, canonical};
 ghost use Rattle.std.specs.Fmt.{decimal};
 ghost use Rattle.verity_volume.specs.Lines.{IsOfLine, line_of, volume_line, named_line, kind_lines, size_lines, level_line, tree_lines};
-ghost use Rattle.verity_volume.specs.Lines.{superblock_lines};
+ghost use Rattle.verity_volume.specs.Lines.{superblock_lines, IsOfOutput};
 
 use std::alloc::Global;
 use std::io::Write;
@@ -90,15 +90,17 @@ pub fn committed_line(
     table_line(alloc, &volume, root)
 }
 
-/// Prints a superblock, and where the levels of its tree stand, which begins at a hash block.
+/// Prints a superblock, and where the levels of its tree stand, which begins at a hash block. Refused for want of memory, or where the
+/// output can't be written, of which some lines may stand there then.
 pub fn print_superblock<W: Write>(
     alloc: Global,
     superblock: &Superblock,
     start: u64,
     output: &mut W,
 ) -> Result<(), Failure>
-    requires { start ≤ 2 ^ 40 }
-    ensures { OnOk result (Appends (W.contents output.old) (W.contents output.new) (superblock_lines superblock.now start)) }
+    requires near { start ≤ 2 ^ 40 }
+    ensures printed { OnOk result (Appends (W.contents output.old) (W.contents output.new) (superblock_lines superblock.now start)) }
+    ensures refused { IfErr result IsOfOutput }
 {
     print_kind(superblock, output)?;
     print_sizes(alloc, superblock, output)?;
@@ -107,7 +109,8 @@ pub fn print_superblock<W: Write>(
 }
 
 fn print_kind<W: Write>(superblock: &Superblock, output: &mut W) -> Result<(), Failure>
-    ensures { OnOk result (Appends (W.contents output.old) (W.contents output.new) (kind_lines superblock.now)) }
+    ensures printed { OnOk result (Appends (W.contents output.old) (W.contents output.new) (kind_lines superblock.now)) }
+    ensures refused { IfErr result IsOfOutput }
 {
     let mut uuid = [0; 36];
     print_text("version", "1", output)?;
@@ -125,7 +128,8 @@ fn print_sizes<W: Write>(
     superblock: &Superblock,
     output: &mut W,
 ) -> Result<(), Failure>
-    ensures { OnOk result (Appends (W.contents output.old) (W.contents output.new) (size_lines superblock.now)) }
+    ensures printed { OnOk result (Appends (W.contents output.old) (W.contents output.new) (size_lines superblock.now)) }
+    ensures refused { IfErr result IsOfOutput }
 {
     let salt = spell_salt(alloc, superblock.salt())?;
     print_number(
@@ -143,22 +147,25 @@ fn print_sizes<W: Write>(
 }
 
 fn print_text<W: Write>(name: &str, text: &str, output: &mut W) -> Result<(), Failure>
-    ensures { OnOk result (Appends (W.contents output.old) (W.contents output.new) (named_line name.now text.now)) }
+    ensures printed { OnOk result (Appends (W.contents output.old) (W.contents output.new) (named_line name.now text.now)) }
+    ensures refused { IfErr result IsOfOutput }
 {
     writeln!(output, "{name} {text}")?;
     Ok(())
 }
 
 fn print_number<W: Write>(name: &str, number: u64, output: &mut W) -> Result<(), Failure>
-    ensures { OnOk result (Appends (W.contents output.old) (W.contents output.new) (named_line name.now (decimal number))) }
+    ensures printed { OnOk result (Appends (W.contents output.old) (W.contents output.new) (named_line name.now (decimal number))) }
+    ensures refused { IfErr result IsOfOutput }
 {
     writeln!(output, "{name} {number}")?;
     Ok(())
 }
 
 fn print_tree<W: Write>(geometry: &Geometry, start: u64, output: &mut W) -> Result<(), Failure>
-    requires { start ≤ 2 ^ 40 }
-    ensures { OnOk result (Appends (W.contents output.old) (W.contents output.new) (tree_lines geometry.now start)) }
+    requires near { start ≤ 2 ^ 40 }
+    ensures printed { OnOk result (Appends (W.contents output.old) (W.contents output.new) (tree_lines geometry.now start)) }
+    ensures refused { IfErr result IsOfOutput }
 {
     let levels = geometry.levels();
     print_number("levels", levels as u64, output)?;
@@ -176,7 +183,8 @@ fn print_level<W: Write>(
 ) -> Result<(), Failure>
     requires there { level < levels_of geometry.now }
     requires near { start ≤ 2 ^ 40 }
-    ensures { OnOk result (Appends (W.contents output.old) (W.contents output.new) (level_line geometry.now start level)) }
+    ensures printed { OnOk result (Appends (W.contents output.old) (W.contents output.new) (level_line geometry.now start level)) }
+    ensures refused { IfErr result IsOfOutput }
 {
     let first = start + geometry.level_start(level);
     let blocks = geometry.level_len(level);

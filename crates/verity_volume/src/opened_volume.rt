@@ -1,4 +1,7 @@
 //! A volume's files, opened to be edited.
+ghost use Rattle.std.specs.Prelude.{IfErr};
+ghost use Rattle.verity_files.specs.declared.failure.Word.TheVariants as word;
+ghost use Rattle.verity_volume.specs.Refusals.{BlamesAtMost};
 
 use crate::superblock::read_superblock;
 use std::alloc::Global;
@@ -39,7 +42,9 @@ pub fn open_both<R: Files<File = File>>(
     data_path: &str,
     hash_path: &str,
     command: Command,
-) -> Result<(Result<Opened, StoreFault>, Opened), Failure> {
+) -> Result<(Result<Opened, StoreFault>, Opened), Failure>
+    ensures { IfErr result (BlamesAtMost word.Hash) }
+{
     let hash = open_there(rt, hash_path, command, Which::Hash)?;
     let data = open_there(rt, data_path, command, Which::Data);
     if let Ok(data) = &data {

@@ -1,5 +1,6 @@
 //! The editors whose commits go through a journal: over stores whose changes are kept beside a volume's files until then.
-ghost use Rattle.std.specs.Prelude.{◌≡◌, false, length, IfOk};
+ghost use Rattle.std.specs.Prelude.{◌≡◌, false, length, IfOk, IfErr};
+ghost use Rattle.verity_volume.specs.Refusals.{IsOfStore};
 
 use crate::edits::Edits;
 use crate::journal::FileKeeper;
@@ -99,7 +100,8 @@ impl<D: OverFile, H: OverFile> StagedEdits for LineEditor<Staged<D>, Staged<H>> 
     }
 }
 
-/// A store with nothing staged over a file that holds by now what a staged store does. E6 where it hasn't its length.
+/// A store with nothing staged over a file that holds by now what a staged store does. E6 of this store where it hasn't its length, or
+/// for want of memory.
 fn restaged<S: OverFile>(
     alloc: Global,
     opened: Opened,
@@ -110,6 +112,7 @@ fn restaged<S: OverFile>(
     ensures len { IfOk result (λ s. length (⟦<Staged<S> as BlockStore>⟧.content s)
         ≡ length (⟦<Staged<S> as BlockStore>⟧.content old.now)) }
     ensures unknown { IfOk result (λ s. ⟦<Staged<S> as BlockStore>⟧.tells s ≡ false) }
+    ensures refused { IfErr result (IsOfStore which) }
 {
     let size = old.block_size();
     let blocks = old.len();

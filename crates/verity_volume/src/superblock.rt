@@ -1,7 +1,8 @@
 //! The superblock of a hash device, read before the sizes that it names are known.
-ghost use Rattle.std.specs.Prelude.{◌≡◌, ◌^◌, ◌≤◌, IfOk};
+ghost use Rattle.std.specs.Prelude.{◌≡◌, ◌^◌, ◌≤◌, IfOk, IfErr};
 ghost use Rattle.verity_superblock.specs.Image.{CanBegin, start_behind};
 ghost use Rattle.verity_superblock.specs.Superblock.{IsProfile};
+ghost use Rattle.verity_volume.specs.Refusals.{IsOfSuperblock};
 
 use std::alloc::Global;
 use verity_files::{Fault, Opened, store_of_most};
@@ -18,6 +19,7 @@ pub fn read_superblock(alloc: Global, hash: Opened, offset: u64) -> Result<(Supe
     ensures begins { IfOk result (λ read. CanBegin offset read.0.params.hash_block_size) }
     ensures start { IfOk result (λ read. read.1 ≡ start_behind offset read.0.params.hash_block_size) }
     ensures near { IfOk result (λ read. read.1 ≤ 2 ^ 40) }
+    ensures refused { IfErr result IsOfSuperblock }
 {
     let mut hash_store = store_of_most(hash, SUPERBLOCK_SIZE, u64::MAX)?;
     let mut bytes = [0; SUPERBLOCK_SIZE];
@@ -32,7 +34,9 @@ fn read_bytes<S: BlockStore>(
     hash_store: &mut S,
     offset: u64,
     bytes: &mut [u8; SUPERBLOCK_SIZE],
-) -> Result<(), Fault> {
+) -> Result<(), Fault>
+    ensures { IfErr result IsOfSuperblock }
+{
     if offset % SUPERBLOCK_SIZE as u64 != 0 {
         return Err(SuperFault::Offset.into());
     }

@@ -6,11 +6,11 @@ use Rattle.verity_volume.specs.Lines.{named_line}
 use Rattle.verity_volume.proofs.Printing.{behind}
 use Rattle.verity_volume.proofs.lines.print_kind.Goals as goal
 
-pub returns : goal.returns
-returns g c =
+pub returns-clause-printed : goal.returns-clause-printed
+returns-clause-printed g c =
     let params = c.args.superblock.now.params in
-    let version = c.in_ok-print_text.ensures in
-    let hash_type = c.in_ok-print_text-2.ensures in
+    let version = c.in_ok-print_text.ensures.printed in
+    let hash_type = c.in_ok-print_text-2.ensures.printed in
     let uuid : Appends (g.W.Write.contents c.print_text-2.new.output) (g.W.Write.contents c.print_text-3.new.output)
     (named_line (codes "uuid") (hyphenated_text lower params.uuid)) = search rules in
     let algorithm : OnOk c.print_text-4.result (Appends (g.W.Write.contents c.print_text-3.new.output)

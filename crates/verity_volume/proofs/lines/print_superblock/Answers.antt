@@ -5,9 +5,9 @@ use Rattle.verity_volume.specs.Lines.{tree_lines}
 use Rattle.verity_volume.proofs.Printing.{behind}
 use Rattle.verity_volume.proofs.lines.print_superblock.Goals as goal
 
-pub returns : goal.returns
-returns g c =
+pub returns-clause-printed : goal.returns-clause-printed
+returns-clause-printed g c =
     let v = c.args.superblock.now in
     let tree : OnOk c.print_tree.result (Appends (g.W.Write.contents c.print_sizes.new.output)
     (g.W.Write.contents c.print_tree.new.output) (tree_lines (volume_shape v.params v.data_blocks) c.args.start)) = search rules in
-    behind c.print_tree.result _ _ _ _ _ c.in_ok-print_kind.ensures (behind _ _ _ _ _ _ c.in_ok-print_sizes.ensures tree)
+    behind c.print_tree.result _ _ _ _ _ c.in_ok-print_kind.ensures.printed (behind _ _ _ _ _ _ c.in_ok-print_sizes.ensures.printed tree)
