@@ -1,6 +1,7 @@
 //! The command `dump`: prints the superblock of a hash device.
 
-ghost use Rattle.std.specs.Prelude.{OnOk};
+ghost use Rattle.std.specs.Prelude.{OnOk, IfErr};
+ghost use Rattle.verity_tool.specs.Blamed.{DumpBlames};
 ghost use Rattle.verity_tool.specs.Printed.{IsDumped};
 
 use std::fs::File;
@@ -17,7 +18,8 @@ pub fn dump<R: Files<File = File> + AllocGlobal, W: Write>(
     words: &DumpWords<'_>,
     output: &mut W,
 ) -> Result<(), Failure>
-    ensures { OnOk result (IsDumped words.now.hash_offset.now (W.contents output.old) (W.contents output.new)) }
+    ensures printed { OnOk result (IsDumped words.now.hash_offset.now (W.contents output.old) (W.contents output.new)) }
+    ensures blames { IfErr result (DumpBlames words.now) }
 {
     let offset = number(Word::HashOffset, words.hash_offset)?;
     let hash = open_locked(rt, words.hash_path, Command::Dump, Which::Hash)?;

@@ -1,9 +1,15 @@
 //! The command `format`: makes the hash device of a block image.
 
-ghost use Rattle.std.specs.Prelude.{◌≡◌, IfOk, OnOk, string_bytes};
+ghost use Rattle.std.specs.Prelude.{◌≡◌, None, Ok, IfSome, IfOk, IfErr, OnOk, string_bytes};
+ghost use Rattle.verity_files.specs.Words.{number_in};
+ghost use Rattle.verity_files.specs.declared.failure.Failure.TheVariants as failure;
+ghost use Rattle.verity_files.specs.declared.failure.Word.TheVariants as word;
 ghost use Rattle.verity_superblock.specs.Line.{IsTableLine, canonical};
 ghost use Rattle.verity_superblock.specs.Image.{start_behind};
-ghost use Rattle.verity_tool.specs.Formatting.{line_made, IsAsked};
+ghost use Rattle.verity_volume.specs.Lines.{IsOfLine};
+ghost use Rattle.verity_volume.specs.Refusals.{BlamesAtMost};
+ghost use Rattle.verity_tool.specs.Blamed.{IsMisread, FormatBlames};
+ghost use Rattle.verity_tool.specs.Formatting.{line_made, some_blocks, IsAsked};
 ghost use Rattle.verity_tool.specs.Printed.{IsFormatted};
 
 use std::alloc::Global;
@@ -56,7 +62,8 @@ pub fn format<R: Files<File = File> + Clock + Eprint + AllocGlobal, W: Write, E:
     output: &mut W,
     errors: &E,
 ) -> Result<(), Failure>
-    ensures { OnOk result (IsFormatted words.now (W.contents output.old) (W.contents output.new)) }
+    ensures printed { OnOk result (IsFormatted words.now (W.contents output.old) (W.contents output.new)) }
+    ensures blames { IfErr result (FormatBlames words.now) }
 {
     check_paths(words.data_path, words.hash_path)?;
     let shape = read_shape(words)?;
@@ -81,8 +88,9 @@ fn made_line(
     made: &Made,
     salt: &[u8],
 ) -> Result<String, Failure>
-    ensures { IfOk result (λ text. IsTableLine (line_made words.now shape.now made.now salt.now)
+    ensures text { IfOk result (λ text. IsTableLine (line_made words.now shape.now made.now salt.now)
         × (string_bytes text ≡ canonical (line_made words.now shape.now made.now salt.now))) }
+    ensures refused { IfErr result IsOfLine }
 {
     let volume = LineParts {
         data_path: words.data_path,
@@ -96,8 +104,10 @@ fn made_line(
     table_line(alloc, &volume, made.root)
 }
 
+#[tactic(auto, using(crate::proofs::Blaming::of_hash_block_size, crate::proofs::Blaming::of_hash_offset, crate::proofs::Blaming::of_uuid))]
 fn read_shape(words: &FormatWords<'_>) -> Result<Shape, Failure>
-    ensures { IfOk result (IsAsked words.now) }
+    ensures asked { IfOk result (IsAsked words.now) }
+    ensures blames { IfErr result (FormatBlames words.now) }
 {
     Ok(Shape {
         data_block_size: block_size(Word::DataBlockSize, words.data_block_size)?,
@@ -116,7 +126,8 @@ fn make<R: Files<File = File> + Clock + Eprint + AllocGlobal>(
     salt_bytes: &[u8],
     is_watched: bool,
 ) -> Result<Made, Failure>
-    ensures { IfOk result (λ made. made.hash_start_block ≡ start_behind shape.now.hash_offset shape.now.hash_block_size) }
+    ensures start { IfOk result (λ made. made.hash_start_block ≡ start_behind shape.now.hash_offset shape.now.hash_block_size) }
+    ensures blames { IfErr result (BlamesAtMost word.Hash) }
 {
     let params = BuildParameters::new(salt(rt.alloc(), salt_bytes)?, shape.uuid, shape.algorithm);
     let (data_store, data) = open_data(rt, words.data_path, shape)?;
@@ -148,8 +159,13 @@ fn make<R: Files<File = File> + Clock + Eprint + AllocGlobal>(
     }
 }
 
-fn data_blocks(word: Option<&str>) -> Result<Option<u64>, Failure> {
-    match word {
+fn data_blocks(asked: Option<&str>) -> Result<Option<u64>, Failure>
+    ensures all { asked.entry ≡ None → result ≡ Ok None }
+    ensures some { IfSome asked.entry (λ text. result ≡ some_blocks (number_in word.DataBlocks text.now)) }
+    ensures blames { IfErr result (λ e. (e ≡ failure.Word word.DataBlocks)
+        × IfSome asked.entry (λ text. IsMisread word.DataBlocks text.now)) }
+{
+    match asked {
         Some(text) => Ok(Some(number(Word::DataBlocks, text)?)),
         None => Ok(None),
     }
@@ -183,7 +199,8 @@ fn open_hash<R: Files<File = File> + AllocGlobal>(
     shape: &Shape,
     data: Identity,
 ) -> Result<(VolumeStore, bool), Failure>
-    ensures { IfOk result (λ opened. ⟦<VolumeStore as BlockStore>⟧.size opened.0 ≡ shape.now.hash_block_size) }
+    ensures size { IfOk result (λ opened. ⟦<VolumeStore as BlockStore>⟧.size opened.0 ≡ shape.now.hash_block_size) }
+    ensures blames { IfErr result (BlamesAtMost word.Hash) }
 {
     check_block_size(shape.hash_block_size)?;
     if shape.hash_offset == 0 {

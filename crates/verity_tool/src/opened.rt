@@ -1,5 +1,8 @@
 //! The volume that a table line names, opened to be read.
 
+ghost use Rattle.std.specs.Prelude.{IfErr};
+ghost use Rattle.verity_volume.specs.Refusals.{BlamesNone};
+
 use nbd_session::ExportName;
 use std::fs::File;
 use std::rt::Files;
@@ -19,7 +22,9 @@ pub fn open_stores<R: Files<File = File> + AllocGlobal>(
     rt: &R,
     table: &Table,
     command: Command,
-) -> Result<(VolumeStore, VolumeStore), Failure> {
+) -> Result<(VolumeStore, VolumeStore), Failure>
+    ensures { IfErr result BlamesNone }
+{
     let data = open_locked(rt, table.dev(), command, Which::Data)?;
     check_gate(rt, table.hash_dev())?;
     let data_store = store_of_most(data, table.data_block_size(), table.data_blocks())?;
@@ -36,7 +41,9 @@ pub fn open_hub<R: Files<File = File> + AllocGlobal>(
     name: &str,
     cache: usize,
     command: Command,
-) -> Result<FileHub, Failure> {
+) -> Result<FileHub, Failure>
+    ensures { IfErr result BlamesNone }
+{
     let table = Table::parse(rt.alloc(), line)?;
     let name = ExportName::new(name.as_bytes())?;
     let (data_store, hash_store) = open_stores(rt, &table, command)?;

@@ -1,8 +1,9 @@
 //! The command `recover`: makes whole a commit that a stop cut short.
 
-ghost use Rattle.std.specs.Prelude.{◌⊎◌, OnOk, codes};
+ghost use Rattle.std.specs.Prelude.{◌⊎◌, OnOk, IfErr, codes};
 ghost use Rattle.std.specs.Io.KnownBytes.{Appends};
 ghost use Rattle.verity_files.specs.Faults.{line};
+ghost use Rattle.verity_tool.specs.Blamed.{RecoverBlames};
 
 use std::fs::File;
 use std::io::Write;
@@ -18,8 +19,9 @@ pub fn recover<R: Files<File = File> + AllocGlobal, W: Write>(
     words: &RecoverWords<'_>,
     output: &mut W,
 ) -> Result<(), Failure>
-    ensures { OnOk result (Appends (W.contents output.old) (W.contents output.new) (line (codes "recovered"))
+    ensures printed { OnOk result (Appends (W.contents output.old) (W.contents output.new) (line (codes "recovered"))
         ⊎ Appends (W.contents output.old) (W.contents output.new) (line (codes "nothing to recover"))) }
+    ensures blames { IfErr result (RecoverBlames words.now) }
 {
     check_paths(words.data_path, words.hash_path)?;
     let (data, hash) = open_both(rt, words.data_path, words.hash_path, Command::Recover)?;

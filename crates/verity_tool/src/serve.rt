@@ -1,7 +1,9 @@
 //! The command `serve`: serves a volume over NBD.
 
-ghost use Rattle.std.specs.Prelude.{◌≡◌, true, Ok};
+ghost use Rattle.std.specs.Prelude.{◌≡◌, true, Ok, IfErr};
 ghost use Rattle.nbd_serve.specs.Lines.{IsServed};
+ghost use Rattle.verity_volume.specs.Refusals.{BlamesNone};
+ghost use Rattle.verity_tool.specs.Blamed.{ServeBlames};
 
 use crate::failing::fail;
 use crate::opened::{FileHub, open_hub};
@@ -32,7 +34,9 @@ pub fn serve<
     R: Files<File = File> + Net<Stream = TcpStream, Listener = TcpListener> + Clock + AllocGlobal,
     W: Write,
     E: Write,
->(rt: &R, words: &ServeWords<'_>, output: &mut W, errors: &mut E) -> Result<u8, Failure> {
+>(rt: &R, words: &ServeWords<'_>, output: &mut W, errors: &mut E) -> Result<u8, Failure>
+    ensures { IfErr result (ServeBlames words.now) }
+{
     let cache = number(Word::Cache, words.cache)? as usize;
     let count = sessions(words.sessions)?;
     let limits = limits(words)?;
@@ -53,7 +57,8 @@ fn listen<
     count: u64,
     output: &mut W,
 ) -> Result<u8, Failure>
-    ensures { result ≡ Ok 0 → IsServed (W.contents output.old) (W.contents output.new) count true }
+    ensures done { result ≡ Ok 0 → IsServed (W.contents output.old) (W.contents output.new) count true }
+    ensures blames { IfErr result BlamesNone }
 {
     match address.strip_prefix(UNIX) {
         // The system would find a name of its own for an empty path.
@@ -71,7 +76,9 @@ fn listen<
     }
 }
 
-fn limits(words: &ServeWords<'_>) -> Result<Limits, Failure> {
+fn limits(words: &ServeWords<'_>) -> Result<Limits, Failure>
+    ensures { IfErr result (ServeBlames words.now) }
+{
     let mebibytes = memory(words.memory)?;
     let seconds = number(Word::Idle, words.idle)?;
     Ok(Limits {
@@ -93,7 +100,9 @@ fn watched<'a, L: Door, R: Clock>(clock: &'a R, door: L, limits: Limits) -> Watc
 }
 
 /// N6; or want of memory, where that is what it was.
-fn socket(error: std::io::Error) -> Failure {
+fn socket(error: std::io::Error) -> Failure
+    ensures { BlamesNone result }
+{
     if error.kind() == ErrorKind::OutOfMemory {
         Failure::NoMemory
     } else {

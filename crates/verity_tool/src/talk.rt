@@ -1,6 +1,7 @@
 //! The command `talk`: serves a volume to one NBD client, over standard input and output.
 
-ghost use Rattle.std.specs.Prelude.{◌≡◌, ◌↔◌, Ok, Err, IsOk};
+ghost use Rattle.std.specs.Prelude.{◌≡◌, ◌↔◌, Ok, Err, IsOk, IfErr};
+ghost use Rattle.verity_tool.specs.Blamed.{TalkBlames};
 
 use crate::opened::open_hub;
 use std::fs::File;
@@ -22,7 +23,9 @@ pub fn talk<R: Files<File = File> + AllocGlobal, I: Read, W: Write>(
     words: &TalkWords<'_>,
     input: &mut I,
     output: &mut W,
-) -> Result<u8, Failure> {
+) -> Result<u8, Failure>
+    ensures { IfErr result (TalkBlames words.now) }
+{
     let cache = number(Word::Cache, words.cache)? as usize;
     let mut hub = open_hub(rt, words.table, words.name, cache, Command::Talk)?;
     let served = serve_stream(&mut hub, input, output, TURNS);
@@ -33,6 +36,7 @@ pub fn talk<R: Files<File = File> + AllocGlobal, I: Read, W: Write>(
 fn ended(served: Result<(), ServeFault>) -> Result<u8, Failure>
     ensures done { (result ≡ Ok 0) ↔ IsOk served }
     ensures starved { (result ≡ Ok 3) ↔ (served ≡ Err ServeFault.Starved) }
+    ensures refused { IfErr result (λ e. e ≡ Failure.NoMemory) }
     ensures memory { (result ≡ Err Failure.NoMemory) ↔ (served ≡ Err (ServeFault.Hub HubFault.NoMemory)) }
 {
     match served {

@@ -1,7 +1,9 @@
 //! The command `verify`: reports what is wrong in a volume.
 
-ghost use Rattle.std.specs.Prelude.{◌≡◌, ◌↔◌, ℕ, [], Ok, OnOk, IfOk};
+ghost use Rattle.std.specs.Prelude.{◌≡◌, ◌↔◌, ℕ, [], Ok, OnOk, IfOk, IfErr};
 ghost use Rattle.std.specs.Io.KnownBytes.{Appends};
+ghost use Rattle.verity_volume.specs.Lines.{IsOfOutput};
+ghost use Rattle.verity_volume.specs.Refusals.{BlamesNone};
 ghost use Rattle.verity_tool.specs.Printed.{place_line, report_lines};
 
 use crate::opened::open_stores;
@@ -31,6 +33,7 @@ pub fn verify<R: Files<File = File> + Clock + Eprint + AllocGlobal, W: Write, E:
 ) -> Result<u8, Failure>
     ensures verified { result ≡ Ok 0 → (unchecked : ℕ)
         × Appends (W.contents output.old) (W.contents output.new) (report_lines [] unchecked) }
+    ensures blames { IfErr result BlamesNone }
 {
     let report = report_of(rt, words, errors)?;
     print_report(&report, output)
@@ -40,7 +43,9 @@ fn report_of<R: Files<File = File> + Clock + Eprint + AllocGlobal, E: IsTerminal
     rt: &R,
     words: &VerifyWords<'_>,
     errors: &E,
-) -> Result<Report, Failure> {
+) -> Result<Report, Failure>
+    ensures { IfErr result BlamesNone }
+{
     let table = Table::parse(rt.alloc(), words.table)?;
     let (data_store, hash_store) = open_stores(rt, &table, Command::Verify)?;
     let progress = progress_of(rt, is_watched(words.is_quiet, errors), &data_store);
@@ -56,7 +61,9 @@ fn checked<D: BlockStore + Drop, H: BlockStore + Drop>(
     table: Table,
     data_store: D,
     hash_store: H,
-) -> Result<Report, Failure> {
+) -> Result<Report, Failure>
+    ensures { IfErr result BlamesNone }
+{
     let mut verifier = Verifier::new(alloc, table, data_store, hash_store, CACHE)?;
     Ok(verifier.report()?)
 }
@@ -66,6 +73,7 @@ fn print_report<W: Write>(report: &Report, output: &mut W) -> Result<u8, Failure
     ensures printed { OnOk result (Appends (W.contents output.old) (W.contents output.new)
         (report_lines report.now.faults report.now.unchecked)) }
     ensures status { IfOk result (λ status. (status ≡ 0) ↔ (report.now.faults ≡ [])) }
+    ensures refused { IfErr result IsOfOutput }
 {
     for (place, verdict) in report.faults.as_slice() {
         print_place(*place, *verdict, output)?;
@@ -82,7 +90,8 @@ fn print_report<W: Write>(report: &Report, output: &mut W) -> Result<u8, Failure
 }
 
 fn print_place<W: Write>(place: Place, verdict: Verdict, output: &mut W) -> Result<(), Failure>
-    ensures { OnOk result (Appends (W.contents output.old) (W.contents output.new) (place_line (place, verdict))) }
+    ensures printed { OnOk result (Appends (W.contents output.old) (W.contents output.new) (place_line (place, verdict))) }
+    ensures refused { IfErr result IsOfOutput }
 {
     match verdict {
         Verdict::Bad => writeln!(output, "bad {place}")?,
