@@ -35,3 +35,16 @@ IsOfStore which _ = ⊥
 abbrev pub IsOfFile : Fault → Type 0
 IsOfFile (fault.Store fault) = IsOfSystem fault
 IsOfFile _ = ⊥
+
+-- a file of either store can't be used
+abbrev pub IsOfStores : Fault → Type 0
+IsOfStores (fault.Store fault) = ⊤
+IsOfStores (fault.Edit (edit.Store which)) = ⊤
+IsOfStores _ = ⊥
+
+-- the system refused, a file failed, or the journal can't be used
+abbrev pub IsOfJournal : Fault → Type 0
+IsOfJournal (fault.Store fault) = IsOfSystem fault
+IsOfJournal (fault.Edit (edit.Store which)) = ⊤
+IsOfJournal fault.Journal = ⊤
+IsOfJournal _ = ⊥

@@ -1,7 +1,8 @@
 //! The journal of a volume: where it stands, and its file.
-ghost use Rattle.std.specs.Prelude.{◌≡◌, None, IfOk, IfErr};
+ghost use Rattle.std.specs.Prelude.{◌≡◌, None, IfSome, IfOk, IfErr};
 ghost use Rattle.verity_files.specs.declared.failure.Word.TheVariants as word;
-ghost use Rattle.verity_volume.specs.Refusals.{BlamesNone, BlamesAtMost, IsOfFile};
+ghost use Rattle.verity_volume.specs.Journals.{IsNamed, IsBeside, laid_to};
+ghost use Rattle.verity_volume.specs.Refusals.{BlamesNone, BlamesAtMost, IsOfFile, IsOfJournal};
 
 use std::alloc::{AllocError, Global};
 use std::fs::File;
@@ -30,7 +31,9 @@ pub fn journal_path<R: Files<File = File> + AllocGlobal>(
     hash: Identity,
     hash_path: &str,
 ) -> Result<Option<String>, Failure>
-    ensures { IfErr result BlamesNone }
+    ensures named { IfSome named.entry (λ text. IfOk result (IsNamed text.now)) }
+    ensures beside { named.entry ≡ None → IfOk result (IsBeside hash) }
+    ensures refused { IfErr result BlamesNone }
 {
     match (named, hash) {
         (Some(NONE), _) => Ok(None),
@@ -195,7 +198,9 @@ fn open_journal<R: Files<File = File>>(
 }
 
 /// A journal that was opened, where it is a regular file. S7.
-fn regular(opened: Result<Opened, StoreFault>) -> Result<Opened, Fault> {
+fn regular(opened: Result<Opened, StoreFault>) -> Result<Opened, Fault>
+    ensures { IfErr result IsOfJournal }
+{
     match opened {
         Ok(opened) => match opened.identity {
             Identity::File(_, _) => Ok(opened),
@@ -272,7 +277,9 @@ pub fn make_journal<R: Files<File = File> + AllocGlobal>(
     path: &str,
     data: &Opened,
     hash: &Opened,
-) -> Result<FileKeeper, Fault> {
+) -> Result<FileKeeper, Fault>
+    ensures { IfErr result IsOfJournal }
+{
     let opened = match open_or_make(rt, path) {
         Ok((opened, _)) => regular(Ok(opened))?,
         Err(fault) => return Err(journal_fault(fault)),
@@ -293,7 +300,9 @@ fn started_anew<R: Files<File = File> + AllocGlobal>(
     data: &Opened,
     hash: &Opened,
     journal: Opened,
-) -> Result<FileKeeper, Fault> {
+) -> Result<FileKeeper, Fault>
+    ensures { IfErr result IsOfJournal }
+{
     if sync_folder(rt, path).is_err() {
         return Err(Fault::Journal);
     }
@@ -301,7 +310,9 @@ fn started_anew<R: Files<File = File> + AllocGlobal>(
 }
 
 /// S3 for want of memory, S7 for all else.
-fn journal_fault(fault: StoreFault) -> Fault {
+fn journal_fault(fault: StoreFault) -> Fault
+    ensures { IsOfJournal result }
+{
     match fault {
         StoreFault::NoMemory => Fault::Store(StoreFault::NoMemory),
         _ => Fault::Journal,
@@ -322,7 +333,9 @@ fn started(
     hash: &Opened,
     journal: Opened,
     bytes: Vec<u8>,
-) -> Result<FileKeeper, Fault> {
+) -> Result<FileKeeper, Fault>
+    ensures { IfErr result IsOfJournal }
+{
     let on_data = sized(data)?;
     let on_hash = sized(hash)?;
     let mut keeper = Keeper::new(disks_of(on_data, on_hash, whole_file(journal), bytes));
@@ -359,7 +372,9 @@ fn disks_of(
 }
 
 /// The fault of a journal or a store: S7, or E6 and the store.
-pub fn fault_of_disks(keeper: &FileKeeper, fault: DiskFault) -> Fault {
+pub fn fault_of_disks(keeper: &FileKeeper, fault: DiskFault) -> Fault
+    ensures { result ≡ laid_to fault keeper.now.disks.last_failed }
+{
     match (fault, keeper.disks().last_failed()) {
         (DiskFault::NoMemory, _) => Fault::Store(StoreFault::NoMemory),
         (DiskFault::Device, Some(Device::Data)) => Fault::Edit(EditFault::Store(Which::Data)),

@@ -1,7 +1,8 @@
 //! A volume's files, opened to be edited.
-ghost use Rattle.std.specs.Prelude.{IfErr};
+ghost use Rattle.std.specs.Prelude.{◌≡◌, ◌≢◌, None, Ok, Err, IfSome, IfErr};
+ghost use Rattle.verity_files.specs.Words.{number_in};
 ghost use Rattle.verity_files.specs.declared.failure.Word.TheVariants as word;
-ghost use Rattle.verity_volume.specs.Refusals.{BlamesAtMost};
+ghost use Rattle.verity_volume.specs.Refusals.{BlamesNone, BlamesAtMost};
 
 use crate::superblock::read_superblock;
 use std::alloc::Global;
@@ -57,7 +58,11 @@ pub fn open_both<R: Files<File = File>>(
 
 /// Where the superblock stands: at the offset that is named, at byte 0 where none is, and not to be named beside a table line, which
 /// says where its tree begins.
-pub fn offset_of(table: Option<&str>, offset: Option<&str>) -> Result<u64, Failure> {
+pub fn offset_of(table: Option<&str>, offset: Option<&str>) -> Result<u64, Failure>
+    ensures unsaid { offset.entry ≡ None → result ≡ Ok 0 }
+    ensures said { IfSome offset.entry (λ text. table.entry ≡ None → result ≡ number_in word.HashOffset text.now) }
+    ensures beside { offset.entry ≢ None → table.entry ≢ None → result ≡ Err (Failure.Word word.HashOffset) }
+{
     match (table, offset) {
         (_, None) => Ok(0),
         (Some(_), Some(_)) => Err(Failure::Word(Word::HashOffset)),
@@ -72,7 +77,9 @@ pub fn open_volume(
     offset: u64,
     data: Result<Opened, StoreFault>,
     hash: Opened,
-) -> Result<OpenedVolume, Failure> {
+) -> Result<OpenedVolume, Failure>
+    ensures { IfErr result BlamesNone }
+{
     let again = hash.again()?;
     let sizes = sizes_of(alloc, line, &hash, offset)?;
     let (data_store, hash_store, sizes) = open_stores(data, hash, sizes)?;
@@ -90,7 +97,9 @@ fn sizes_of(
     line: &Option<Table>,
     hash: &Opened,
     offset: u64,
-) -> Result<Sizes, Failure> {
+) -> Result<Sizes, Failure>
+    ensures { IfErr result BlamesNone }
+{
     match line {
         Some(table) => Ok(Sizes {
             data_block_size: table.data_block_size(),
@@ -105,7 +114,9 @@ fn sizes_of(
 }
 
 /// What the superblock at an offset of HASH says of them.
-fn read_sizes(alloc: Global, hash: &Opened, offset: u64) -> Result<Sizes, Failure> {
+fn read_sizes(alloc: Global, hash: &Opened, offset: u64) -> Result<Sizes, Failure>
+    ensures { IfErr result BlamesNone }
+{
     match read_superblock(alloc, hash.again()?, offset) {
         Ok((superblock, hash_start_block)) => Ok(Sizes {
             data_block_size: superblock.data_block_size(),
@@ -133,7 +144,9 @@ fn open_stores(
     data: Result<Opened, StoreFault>,
     hash: Opened,
     sizes: Sizes,
-) -> Result<(VolumeStore, VolumeStore, Sizes), Failure> {
+) -> Result<(VolumeStore, VolumeStore, Sizes), Failure>
+    ensures { IfErr result BlamesNone }
+{
     let mut sizes = sizes;
     let data = data?;
     sizes.data_room = room_of(&data, sizes.data_block_size);

@@ -1,6 +1,6 @@
 //! The editors whose commits go through a journal: over stores whose changes are kept beside a volume's files until then.
 ghost use Rattle.std.specs.Prelude.{◌≡◌, false, length, IfOk, IfErr};
-ghost use Rattle.verity_volume.specs.Refusals.{IsOfStore};
+ghost use Rattle.verity_volume.specs.Refusals.{IsOfStore, IsOfStores};
 
 use crate::edits::Edits;
 use crate::journal::FileKeeper;
@@ -40,7 +40,8 @@ impl<'a, M: Meter> OverFile for Watched<'a, VolumeStore, M> {
 /// An editor over two staged stores.
 pub trait StagedEdits: Edits {
     /// Goes on over files that hold by now what its stores do, with nothing staged. E6 where one hasn't its store's length.
-    fn restage(&mut self, alloc: Global, data: Opened, hash: Opened) -> Result<(), Fault>;
+    fn restage(&mut self, alloc: Global, data: Opened, hash: Opened) -> Result<(), Fault>
+        ensures { IfErr result IsOfStores };
 
     /// Commits, and brings what is staged through a journal, which has these names of the files, to them. The editor comes back.
     fn commit_through(

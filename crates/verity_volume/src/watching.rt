@@ -1,4 +1,5 @@
 //! A volume's files, as a person watches them being read.
+ghost use Rattle.std.specs.Prelude.{◌≡◌, ◌≢◌, true, false, None};
 
 use std::io::{Eprint, IsTerminal};
 use std::time::Clock;
@@ -10,7 +11,9 @@ use verity_watch::{Progress, Watched};
 pub type WatchedFile<'a, M> = Watched<'a, VolumeStore, M>;
 
 /// Whether someone looks on: standard error is a terminal, and nothing else was asked for.
-pub fn is_watched<E: IsTerminal>(is_quiet: bool, errors: &E) -> bool {
+pub fn is_watched<E: IsTerminal>(is_quiet: bool, errors: &E) -> bool
+    ensures { is_quiet ≡ true → result ≡ false }
+{
     !is_quiet && errors.is_terminal()
 }
 
@@ -19,7 +22,10 @@ pub fn progress_of<'a, R: Clock + Eprint + AllocGlobal>(
     rt: &'a R,
     is_watched: bool,
     store: &VolumeStore,
-) -> Option<Progress<'a, R>> {
+) -> Option<Progress<'a, R>>
+    ensures unwatched { is_watched ≡ false → result ≡ None }
+    ensures watched { is_watched ≡ true → result ≢ None }
+{
     if !is_watched {
         return None;
     }
