@@ -1,5 +1,5 @@
 -- What the commands print.
-use Rattle.std.specs.Prelude.{◌≡◌, ℕ, List, [], ◌∷◌, ◌++◌, codes, Option, Some, Ok}
+use Rattle.std.specs.Prelude.{◌≡◌, ◌↔◌, ℕ, List, [], ◌∷◌, ◌++◌, codes, Option, Some, Ok}
 use Rattle.std.specs.List.{flat_map}
 use Rattle.std.specs.Fmt.{decimal}
 use Rattle.std.specs.Io.KnownBytes.{Appends}
@@ -29,6 +29,13 @@ last_line (fault ∷ faults) = line (codes "corrupt")
 -- a report: a line for each of its blocks, one that says how many weren't read, and the last
 abbrev pub report_lines : List (Place × Verdict) → ℕ → List ℕ
 report_lines faults unchecked = flat_map place_line faults ++ (codes "unchecked " ++ (line (decimal unchecked) ++ last_line faults))
+
+-- what `verify` prints, and its status: a report, which is of no block exactly where the status is 0
+pub record IsReported (status : ℕ) (old new : Option (List ℕ)) : Type 0 where
+  pub faults : List (Place × Verdict)
+  pub unchecked : ℕ
+  pub printed : Appends old new (report_lines faults unchecked)
+  pub done : (status ≡ 0) ↔ (faults ≡ [])
 
 -- what `dump` prints: the superblock of a volume of the profile that stands at the offset that was asked for, and its tree
 pub record IsDumped (text : List ℕ) (old new : Option (List ℕ)) : Type 0 where

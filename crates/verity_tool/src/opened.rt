@@ -1,6 +1,6 @@
 //! The volume that a table line names, opened to be read.
 
-ghost use Rattle.std.specs.Prelude.{IfErr};
+ghost use Rattle.std.specs.Prelude.{◌≡◌, IfOk, IfErr};
 ghost use Rattle.verity_volume.specs.Refusals.{BlamesNone};
 
 use nbd_session::ExportName;
@@ -9,7 +9,7 @@ use std::rt::Files;
 use verity_check::Verifier;
 use verity_files::{Command, Failure, VolumeStore, open_locked, store_of_most};
 use verity_hub::Hub;
-use verity_store::Which;
+use verity_store::{BlockStore, Which};
 use verity_superblock::Table;
 use verity_volume::check_gate;
 
@@ -23,7 +23,9 @@ pub fn open_stores<R: Files<File = File> + AllocGlobal>(
     table: &Table,
     command: Command,
 ) -> Result<(VolumeStore, VolumeStore), Failure>
-    ensures { IfErr result BlamesNone }
+    ensures data_size { IfOk result (λ stores. ⟦<VolumeStore as BlockStore>⟧.size stores.0 ≡ table.now.data_block_size) }
+    ensures hash_size { IfOk result (λ stores. ⟦<VolumeStore as BlockStore>⟧.size stores.1 ≡ table.now.hash_block_size) }
+    ensures blames { IfErr result BlamesNone }
 {
     let data = open_locked(rt, table.dev(), command, Which::Data)?;
     check_gate(rt, table.hash_dev())?;

@@ -1,10 +1,10 @@
 //! The command `verify`: reports what is wrong in a volume.
 
-ghost use Rattle.std.specs.Prelude.{◌≡◌, ◌↔◌, ℕ, [], Ok, OnOk, IfOk, IfErr};
+ghost use Rattle.std.specs.Prelude.{◌≡◌, ◌↔◌, [], OnOk, IfOk, IfErr};
 ghost use Rattle.std.specs.Io.KnownBytes.{Appends};
 ghost use Rattle.verity_volume.specs.Lines.{IsOfOutput};
 ghost use Rattle.verity_volume.specs.Refusals.{BlamesNone};
-ghost use Rattle.verity_tool.specs.Printed.{place_line, report_lines};
+ghost use Rattle.verity_tool.specs.Printed.{place_line, report_lines, IsReported};
 
 use crate::opened::open_stores;
 use std::alloc::Global;
@@ -31,8 +31,7 @@ pub fn verify<R: Files<File = File> + Clock + Eprint + AllocGlobal, W: Write, E:
     output: &mut W,
     errors: &E,
 ) -> Result<u8, Failure>
-    ensures verified { result ≡ Ok 0 → (unchecked : ℕ)
-        × Appends (W.contents output.old) (W.contents output.new) (report_lines [] unchecked) }
+    ensures reported { IfOk result (λ status. IsReported status (W.contents output.old) (W.contents output.new)) }
     ensures blames { IfErr result BlamesNone }
 {
     let report = report_of(rt, words, errors)?;
