@@ -1,4 +1,4 @@
--- Which words a command blames: each is one that isn't understood.
+-- Which words a command blames, and of which of them a clause says that they aren't understood.
 use Rattle.std.specs.Prelude.{◌≡◌, ◌≢◌, ℕ, List, codes, None, Some, Err, ⊤, IfSome}
 use Rattle.verity_files.specs.Words.{number_in, sessions_in, memory_in, salt_of, uuid_in, paths_refusal}
 use Rattle.verity_files.specs.declared.failure.Failure.{Failure}
@@ -26,7 +26,7 @@ DumpBlames words (failure.Word word.HashOffset) = IsMisread word.HashOffset word
 DumpBlames words (failure.Word _) = ⊥
 DumpBlames words _ = ⊤
 
--- `format`: HASH also where it leads to DATA
+-- `format`; of HASH, which may lead to DATA, it isn't said when
 abbrev pub FormatBlames : FormatWords → Failure → Type 0
 FormatBlames words (failure.Word word.Data) = paths_refusal words.data_path.now words.hash_path.now ≡ Some (failure.Word word.Data)
 FormatBlames words (failure.Word word.Hash) = ⊤
@@ -40,7 +40,7 @@ FormatBlames words (failure.Word word.HashOffset) = IsMisread word.HashOffset wo
 FormatBlames words (failure.Word _) = ⊥
 FormatBlames words _ = ⊤
 
--- `recover`: HASH also where it leads to DATA, the journal where it leads to either, or a device has none
+-- `recover`; of HASH, and of a journal that may lead to a device or be missing, it isn't said when
 abbrev pub RecoverBlames : RecoverWords → Failure → Type 0
 RecoverBlames words (failure.Word word.Data) = paths_refusal words.data_path.now words.hash_path.now ≡ Some (failure.Word word.Data)
 RecoverBlames words (failure.Word word.Hash) = ⊤
