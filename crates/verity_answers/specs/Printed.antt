@@ -4,28 +4,31 @@ use Rattle.std.specs.List.{flat_map, list_any, slice_split, sum_by}
 use Rattle.std.specs.Fmt.{decimal}
 use Rattle.std.specs.Io.KnownBytes.{Appends}
 use Rattle.verity_superblock.specs.Line.{TableLine, canonical}
+use Rattle.verity_superblock.specs.Superblock.{Volume}
 use Rattle.verity_files.specs.Faults.{line, fault_text}
 use Rattle.verity_files.specs.declared.fault.Fault.{Fault}
 use Rattle.verity_files.specs.declared.failure.Failure.{Failure}
 use Rattle.verity_files.specs.declared.failure.Failure.TheVariants.{Output}
-use Rattle.verity_volume.specs.Lines.{IsOfLine}
+use Rattle.verity_volume.specs.declared.lines.Devices.{Devices}
+use Rattle.verity_volume.specs.Lines.{IsOfLine, volume_line}
 
 -- what is answered to a line of a script
 pub data Answered : Type 0 where
   Done : Answered
-  Committed : TableLine → Answered
+  Committed : (volume : Volume) (root : List ℕ) → Answered
   BadLine : Answered
   Refused : Fault → Answered
 
-abbrev pub answer_line : Answered → List ℕ
-answer_line Done = line (codes "ok")
-answer_line (Committed table) = codes "committed " ++ line (canonical table)
-answer_line BadLine = line (codes "bad line")
-answer_line (Refused fault) = codes "refused " ++ line (fault_text fault)
+-- on these devices
+abbrev pub answer_line : Devices → Answered → List ℕ
+answer_line devices Done = line (codes "ok")
+answer_line devices (Committed volume root) = codes "committed " ++ line (canonical (volume_line devices volume root))
+answer_line devices BadLine = line (codes "bad line")
+answer_line devices (Refused fault) = codes "refused " ++ line (fault_text fault)
 
 abbrev pub is_refusal : Answered → Bool
 is_refusal Done = false
-is_refusal (Committed table) = false
+is_refusal (Committed volume root) = false
 is_refusal BadLine = true
 is_refusal (Refused fault) = true
 
@@ -44,10 +47,10 @@ abbrev pub answers_of : List ℕ → ℕ
 answers_of bytes = sum_by answers_to (slice_split (λ b. b == 10) bytes)
 
 -- what is printed: so many answers and nothing else, a line each; and the status is 0 exactly where none of them is a refusal
-pub record AreAnswers (old new : Option (List ℕ)) (count answered : ℕ) : Type 0 where
+pub record AreAnswers (devices : Devices) (old new : Option (List ℕ)) (count answered : ℕ) : Type 0 where
   pub answers : List Answered
   pub each : length answers ≡ count
-  pub printed : Appends old new (flat_map answer_line answers)
+  pub printed : Appends old new (flat_map (answer_line devices) answers)
   pub status : answered ≡ status_for (list_any is_refusal answers)
 
 -- where it tells of a refusal there was one, and else none

@@ -47,9 +47,9 @@ fn unread(error: io::Error) -> Failure {
     }
 }
 
-/// Does the lines of a script in order and prints one answer line each, but for empty lines: `ok`, `committed ` and the
-/// new table line, `refused ` and the fault's text, or `bad line`. It goes on after a refusal, and answers status 1 if
-/// there was one. Edits that are pending at the end are dropped with the editor. Why a line wasn't done goes to `errors`.
+/// Does the lines of a script in order and prints one answer line each, but for empty lines: `ok`, `committed ` and the new
+/// table line, of these devices, `refused ` and the fault's text, or `bad line`. It goes on after a refusal, and answers status 1
+/// if there was one. Edits that are pending at the end are dropped with the editor. Why a line wasn't done goes to `errors`.
 ///
 /// There is no status only for want of memory, where there is no table line, or where the output can't be written.
 pub fn run_script<V: Edits, C: Commits<V>, W: Write, E: Write>(
@@ -61,7 +61,7 @@ pub fn run_script<V: Edits, C: Commits<V>, W: Write, E: Write>(
     output: &mut W,
     errors: &mut E,
 ) -> Result<u8, Failure>
-    ensures answered { IfOk result (λ status. AreAnswers (W.contents output.old) (W.contents output.new)
+    ensures answered { IfOk result (λ status. AreAnswers devices.entry (W.contents output.old) (W.contents output.new)
         (answers_of script.entry.bytes.now) status) }
     ensures ended { IfErr result EndsAnswers }
 {
@@ -126,7 +126,7 @@ fn run_line<'a, V: Edits, C: Commits<V>, W: Write>(
     output: &mut W,
 ) -> (V, Result<Option<Refusal<'a>>, Failure>)
     ensures answered { IfOk result.1 (λ told.
-        AreAnswers (W.contents output.old) (W.contents output.new) (answers_to text.now) (told_status told)) }
+        AreAnswers devices.entry (W.contents output.old) (W.contents output.new) (answers_to text.now) (told_status told)) }
     ensures ended { IfErr result.1 EndsAnswers }
 {
     if text.is_empty() {
@@ -146,7 +146,8 @@ fn run_line<'a, V: Edits, C: Commits<V>, W: Write>(
 
 /// Prints that a line is none.
 fn print_bad<'a, W: Write>(output: &mut W) -> Result<Option<Refusal<'a>>, Failure>
-    ensures answered { IfOk result (λ told. AreAnswers (W.contents output.old) (W.contents output.new) 1 (told_status told)) }
+    ensures answered { (on : Devices) → IfOk result (λ told. AreAnswers on (W.contents output.old) (W.contents output.new) 1
+        (told_status told)) }
     ensures ended { IfErr result EndsAnswers }
 {
     writeln!(output, "bad line")?;
@@ -162,7 +163,8 @@ fn print_answer<'a, V: Edits, W: Write>(
     answer: Answer,
     output: &mut W,
 ) -> Result<Option<Refusal<'a>>, Failure>
-    ensures answered { IfOk result (λ told. AreAnswers (W.contents output.old) (W.contents output.new) 1 (told_status told)) }
+    ensures answered { IfOk result (λ told. AreAnswers devices.entry (W.contents output.old) (W.contents output.new) 1
+        (told_status told)) }
     ensures ended { IfErr result EndsAnswers }
 {
     match answer {

@@ -1,3 +1,4 @@
 pub mod Blaming
 pub mod Dumping
 pub mod Reporting
+pub mod Talking

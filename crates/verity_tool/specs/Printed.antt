@@ -1,8 +1,9 @@
 -- What the commands print.
-use Rattle.std.specs.Prelude.{◌≡◌, ◌↔◌, ℕ, List, [], ◌∷◌, ◌++◌, codes, Option, Some, Ok}
+use Rattle.std.specs.Prelude.{◌≡◌, ◌↔◌, ℕ, true, List, [], ◌∷◌, ◌++◌, codes, Option, Some, Ok}
 use Rattle.std.specs.List.{flat_map}
 use Rattle.std.specs.Fmt.{decimal}
 use Rattle.std.specs.Io.KnownBytes.{Appends}
+use Rattle.nbd_serve.specs.Lines.{IsServed}
 use Rattle.verity_chain.specs.Texts.{place_text}
 use Rattle.verity_chain.specs.declared.place.Place.{Place}
 use Rattle.verity_check.specs.declared.finding.Verdict.{Verdict}
@@ -11,7 +12,7 @@ use Rattle.verity_superblock.specs.Image.{CanBegin, start_behind}
 use Rattle.verity_superblock.specs.Line.{TableLine, IsTableLine, canonical}
 use Rattle.verity_superblock.specs.Superblock.{Volume, IsProfile}
 use Rattle.verity_files.specs.Faults.{line}
-use Rattle.verity_files.specs.Words.{number_in, salt_of}
+use Rattle.verity_files.specs.Words.{number_in, salt_of, sessions_in}
 use Rattle.verity_files.specs.declared.failure.Word.TheVariants as word
 use Rattle.verity_volume.specs.Lines.{superblock_lines}
 use Rattle.verity_words.specs.declared.words.format.FormatWords.{FormatWords}
@@ -60,3 +61,10 @@ pub record IsFormatted (words : FormatWords) (old new : Option (List ℕ)) : Typ
   pub asked : number_in word.HashOffset words.hash_offset.now ≡ Ok offset
   pub start : table.hash_start_block ≡ start_behind offset table.hash_block_size
   pub printed : Appends old new (line (canonical table))
+
+-- what `serve` prints where it is done: `listening`, and a line for each of as many sessions as were asked for, none of which names a
+-- fault
+pub record IsServedAsAsked (text : List ℕ) (old new : Option (List ℕ)) : Type 0 where
+  pub sessions : ℕ
+  pub asked : sessions_in text ≡ Ok sessions
+  pub served : IsServed old new sessions true

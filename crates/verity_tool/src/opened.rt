@@ -1,7 +1,10 @@
 //! The volume that a table line names, opened to be read.
 
-ghost use Rattle.std.specs.Prelude.{◌≡◌, IfOk, IfErr};
+ghost use Rattle.std.specs.Prelude.{◌≡◌, [], IsOk, IfOk, IfErr};
+ghost use Rattle.verity_superblock.specs.Line.{Line};
+ghost use Rattle.verity_check.specs.Verifier.{IsCacheSize};
 ghost use Rattle.verity_volume.specs.Refusals.{BlamesNone};
+ghost use Rattle.verity_tool.specs.Serving.{IsJustMade, offered};
 
 use nbd_session::ExportName;
 use std::fs::File;
@@ -36,7 +39,7 @@ pub fn open_stores<R: Files<File = File> + AllocGlobal>(
 }
 
 /// A hub of no session over the volume that a table line names, under an export's name. The line is read first, then the
-/// name.
+/// name. Its verifier counts what the stores give from here on.
 pub fn open_hub<R: Files<File = File> + AllocGlobal>(
     rt: &R,
     line: &str,
@@ -44,7 +47,12 @@ pub fn open_hub<R: Files<File = File> + AllocGlobal>(
     cache: usize,
     command: Command,
 ) -> Result<FileHub, Failure>
-    ensures { IfErr result BlamesNone }
+    ensures line { IfOk result (λ hub. Line line.now hub.1.table) }
+    ensures made { IfOk result (λ hub. IsJustMade ⟦<VolumeStore as BlockStore>⟧ ⟦<VolumeStore as BlockStore>⟧ hub.1) }
+    ensures offer { IfOk result (λ hub. hub.0.offer ≡ offered hub.1.table name.now) }
+    ensures none { IfOk result (λ hub. (hub.0.next ≡ 0) × (hub.0.sessions ≡ [])) }
+    ensures cache { IsOk result → IsCacheSize cache }
+    ensures blames { IfErr result BlamesNone }
 {
     let table = Table::parse(rt.alloc(), line)?;
     let name = ExportName::new(name.as_bytes())?;

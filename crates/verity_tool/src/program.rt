@@ -6,6 +6,7 @@ use crate::format::format;
 use crate::recover::recover;
 use crate::serve::serve;
 use crate::talk::talk;
+use crate::told::Told;
 use crate::verify::verify;
 use clap::Error;
 use clap::error::ErrorKind;
@@ -87,7 +88,7 @@ fn answer<
         Request::Dump(words) => dump(rt, &words, output).map(|()| DONE),
         Request::Edit(words) => edit(rt, &words, output, errors),
         Request::Verify(words) => verify(rt, &words, output, errors),
-        Request::Serve(words) => serve(rt, &words, output, errors),
+        Request::Serve(words) => serve(rt, &words, &mut Told::new(output, errors, words.listen)),
         Request::Talk(words) => talk(rt, &words, input, output),
         Request::Recover(words) => recover(rt, &words, output).map(|()| DONE),
         Request::Update(words) => update(rt, &words, output, errors),

@@ -4,10 +4,10 @@ ghost use Rattle.std.specs.Prelude.{◌≡◌, true, Ok, IfErr};
 ghost use Rattle.nbd_serve.specs.Lines.{IsServed};
 ghost use Rattle.verity_volume.specs.Refusals.{BlamesNone};
 ghost use Rattle.verity_tool.specs.Blamed.{ServeBlames};
+ghost use Rattle.verity_tool.specs.Printed.{IsServedAsAsked};
 
 use crate::failing::fail;
 use crate::opened::{FileHub, open_hub};
-use crate::told::Told;
 use nbd_serve::{Door, Limits, Stop, Watched};
 use std::fs::File;
 use std::io::{ErrorKind, Write};
@@ -26,23 +26,23 @@ const UNIX: &str = "unix:";
 /// The bytes of a mebibyte.
 const MEBIBYTE: u64 = 1 << 20;
 
-/// Serves the volume that a table line names to so many connections.
+/// Serves the volume that a table line names to so many connections, and prints what [`serve_on`] says.
 ///
 /// Faults are found in this order: the words, the line, the name, the two files (data first), the verifier, the listener.
-/// The file of a Unix socket, which is made here, is removed at the end. Each fault of a session is told to `errors` in words.
+/// The file of a Unix socket, which is made here, is removed at the end.
 pub fn serve<
     R: Files<File = File> + Net<Stream = TcpStream, Listener = TcpListener> + Clock + AllocGlobal,
     W: Write,
-    E: Write,
->(rt: &R, words: &ServeWords<'_>, output: &mut W, errors: &mut E) -> Result<u8, Failure>
-    ensures { IfErr result (ServeBlames words.now) }
+>(rt: &R, words: &ServeWords<'_>, output: &mut W) -> Result<u8, Failure>
+    ensures done { result ≡ Ok 0
+        → IsServedAsAsked words.now.sessions.now (W.contents output.old) (W.contents output.new) }
+    ensures blames { IfErr result (ServeBlames words.now) }
 {
     let cache = number(Word::Cache, words.cache)? as usize;
     let count = sessions(words.sessions)?;
     let limits = limits(words)?;
     let mut hub = open_hub(rt, words.table, words.name, cache, Command::Serve)?;
-    let mut told = Told::new(output, errors, words.listen);
-    listen(rt, &mut hub, words.listen, limits, count, &mut told)
+    listen(rt, &mut hub, words.listen, limits, count, output)
 }
 
 /// Serves at an address.

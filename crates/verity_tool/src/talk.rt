@@ -2,13 +2,15 @@
 
 ghost use Rattle.std.specs.Prelude.{◌≡◌, ◌↔◌, Ok, Err, IsOk, IfErr};
 ghost use Rattle.verity_tool.specs.Blamed.{TalkBlames};
+ghost use Rattle.verity_tool.specs.Serving.{IsTalked};
 
 use crate::opened::open_hub;
 use std::fs::File;
 use std::io::{Read, Write};
 use std::rt::Files;
-use verity_files::{Command, DONE, Failure, NO_MEMORY, REFUSED, Word, number};
+use verity_files::{Command, DONE, Failure, NO_MEMORY, REFUSED, VolumeStore, Word, number};
 use verity_hub::{HubFault, ServeFault, serve_stream};
+use verity_store::BlockStore;
 use verity_words::TalkWords;
 
 /// How many turns the session may take.
@@ -24,7 +26,14 @@ pub fn talk<R: Files<File = File> + AllocGlobal, I: Read, W: Write>(
     input: &mut I,
     output: &mut W,
 ) -> Result<u8, Failure>
-    ensures { IfErr result (TalkBlames words.now) }
+    ensures done { result ≡ Ok 0
+        → IsTalked ⟦<VolumeStore as BlockStore>⟧ ⟦<VolumeStore as BlockStore>⟧ words.now (record {
+          reader = I.remaining input.old;
+          reader' = I.remaining input.new;
+          writer = W.contents output.old;
+          writer' = W.contents output.new;
+        }) }
+    ensures blames { IfErr result (TalkBlames words.now) }
 {
     let cache = number(Word::Cache, words.cache)? as usize;
     let mut hub = open_hub(rt, words.table, words.name, cache, Command::Talk)?;
