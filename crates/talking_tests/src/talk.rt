@@ -35,11 +35,8 @@ pub fn said(
 
 /// The value of a hexadecimal digit, or none of a blank.
 fn digit(byte: u8) -> Option<u8> {
-    match byte {
-        b'0'..=b'9' => Some(byte - b'0'),
-        b'a'..=b'f' => Some(byte - b'a' + 10),
-        _ => None,
-    }
+    let value = char::from(byte).to_digit(16)?;
+    u8::try_from(value).ok()
 }
 
 /// The bytes that a text spells in hexadecimal digits, blanks apart.
