@@ -2,11 +2,15 @@
 
 use crate::volumes::*;
 use std::test::Fail;
+use verity_edit::Editor;
+use verity_store::BlockStore;
 
 // How many blocks are hashed by a commit of another count, and by the next one, without edits. None where a call is refused,
 // or the roots differ.
-fn hashed(editor: Plain, count: u64) -> Option<(u64, u64)> {
-    let mut editor = editor;
+fn hashed<D: BlockStore, H: BlockStore>(
+    editor: &mut Editor<D, H>,
+    count: u64,
+) -> Option<(u64, u64)> {
     let done = if editor.blocks() < count {
         editor.grow(count)
     } else {
@@ -41,8 +45,8 @@ const CHANGES: [(usize, u64, u64); 9] = [
 fn counts_that_change(rt: HostRuntime) -> Result<(), Fail> {
     let alloc = rt.alloc();
     for (old, new, most) in CHANGES {
-        let editor = opened(alloc, volume_of(alloc, old)?)?;
-        let hashed = hashed(editor, new);
+        let mut editor = opened(alloc, volume_of(alloc, old)?)?;
+        let hashed = hashed(&mut editor, new);
         assert!(rt;
             hashed.is_some_and(|(first, second)| first <= most && second == 0),
             "{old} to {new}: {hashed:?}"

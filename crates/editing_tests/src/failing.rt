@@ -8,7 +8,7 @@ use test_stores::FailStore;
 use test_volumes::{BuiltVolume, make_volume, params};
 use verity_build::build;
 use verity_edit::{EditFault, Editor};
-use verity_store::{MemStore, Which};
+use verity_store::{BlockStore, MemStore, Which};
 
 type Failing = FailStore<MemStore>;
 
@@ -63,17 +63,15 @@ fn open_fails(alloc: Global, failure: Failure) -> Result<bool, Fail> {
     }
 }
 
-// An editor that was opened, with pending edits.
-fn edited(alloc: Global, failure: Failure) -> Result<Option<Frail>, Fail> {
+// An editor over the volume.
+fn opened(alloc: Global, failure: Failure) -> Result<Frail, Fail> {
     let (data_store, hash_store) = over(volume_of(alloc, 16)?, failure);
-    let Ok(mut editor) = Editor::open(alloc, data_store, hash_store) else {
-        return Ok(None);
-    };
-    if editor.write(3, &[9; 512]).is_ok() && editor.grow(17).is_ok() {
-        Ok(Some(editor))
-    } else {
-        Ok(None)
-    }
+    opened_over(alloc, data_store, hash_store)
+}
+
+// Whether the edits are taken.
+fn is_edited<D: BlockStore, H: BlockStore>(editor: &mut Editor<D, H>) -> bool {
+    editor.write(3, &[9; 512]).is_ok() && editor.grow(17).is_ok()
 }
 
 // What came of a commit whose call failed: whether the editor broke, and what stands in both stores.
@@ -94,20 +92,13 @@ fn left_by(editor: Frail) -> Left {
     }
 }
 
-// An editor whose commit named the store that failed.
-fn refused(alloc: Global, failure: Failure) -> Result<Option<Frail>, Fail> {
-    let Some(mut editor) = edited(alloc, failure)? else {
-        return Ok(None);
-    };
-    if editor.commit().err() == Some(EditFault::Store(failure.which)) {
-        Ok(Some(editor))
-    } else {
-        Ok(None)
-    }
+// Whether the edits are taken, and their commit names the store that failed.
+fn is_refused<D: BlockStore, H: BlockStore>(editor: &mut Editor<D, H>, which: Which) -> bool {
+    is_edited(editor) && editor.commit().err() == Some(EditFault::Store(which))
 }
 
 // Whether a broken editor answers E7 to every call but the getters and `close`, and another one commits.
-fn goes_on(editor: &mut Frail) -> bool {
+fn goes_on<D: BlockStore, H: BlockStore>(editor: &mut Editor<D, H>) -> bool {
     if !editor.broken() {
         return editor.commit().is_ok();
     }
@@ -151,43 +142,35 @@ fn is_rebuilt(alloc: Global, left: Left) -> Result<bool, Fail> {
 
 // Whether a commit whose call fails names the store, and goes on or is given up.
 fn commit_fails(alloc: Global, failure: Failure) -> Result<bool, Fail> {
-    let Some(mut editor) = refused(alloc, failure)? else {
-        return Ok(false);
-    };
-    if !goes_on(&mut editor) {
-        return Ok(false);
-    }
+    let mut editor = opened(alloc, failure)?;
+    let is_refused = is_refused(&mut editor, failure.which) && goes_on(&mut editor);
     let left = left_by(editor);
-    if left.broken {
-        is_rebuilt(alloc, left)
+    let stands = if left.broken {
+        is_rebuilt(alloc, left)?
     } else {
-        is_whole(alloc, &left)
-    }
+        is_whole(alloc, &left)?
+    };
+    Ok(is_refused && stands)
 }
 
 // Whether a commit of which a call fails breaks the editor, and whether both stores then hold what a successful one leaves.
 fn fate(alloc: Global, failure: Failure) -> Result<Option<(bool, bool)>, Fail> {
-    let Some(editor) = refused(alloc, failure)? else {
-        return Ok(None);
-    };
+    let mut editor = opened(alloc, failure)?;
+    let is_refused = is_refused(&mut editor, failure.which);
     let left = left_by(editor);
     let is_whole = is_whole(alloc, &left)?;
-    Ok(Some((left.broken, is_whole)))
+    Ok(is_refused.then_some((left.broken, is_whole)))
 }
 
 // The calls at a store of `open` and a commit none of whose calls fails.
 fn calls(alloc: Global, which: Which) -> Result<u64, Fail> {
-    let Some(mut editor) = edited(alloc, Failure { which, call: 0 })? else {
-        return Ok(0);
-    };
-    if editor.commit().is_err() {
-        return Ok(0);
-    }
-    let (data_store, hash_store) = editor.close();
-    match which {
-        Which::Data => Ok(data_store.calls()),
-        Which::Hash => Ok(hash_store.calls()),
-    }
+    let mut editor = opened(alloc, Failure { which, call: 0 })?;
+    let is_done = is_edited(&mut editor) && editor.commit().is_ok();
+    Ok(match which {
+        _ if !is_done => 0,
+        Which::Data => editor.data_store().calls(),
+        Which::Hash => editor.hash_store().calls(),
+    })
 }
 
 // `open` makes the first calls, the commit the others, of which the last is the sync: it breaks the editor, and the stores

@@ -1,5 +1,6 @@
 //! Editors in heaps with little room.
 
+use crate::volumes::opened_over;
 use linked_list_allocator::LocalHeap;
 use std::alloc::{Allocator, Global};
 use std::test::Fail;
@@ -43,20 +44,5 @@ pub fn opened_in<S: Allocator + Copy, A: Allocator + Copy>(
 ) -> Result<Editor<MemStore<S>, MemStore<S>, A>, Fail> {
     let data_store = copy_in(store_alloc, &volume.data_store, size)?;
     let hash_store = copy_in(store_alloc, &volume.hash_store, 512)?;
-    match Editor::open(alloc, data_store, hash_store) {
-        Ok(editor) => Ok(editor),
-        Err(refused) => Err(refused.fault.into()),
-    }
-}
-
-// An editor that committed.
-pub fn committed_in<S: Allocator + Drop, A: Allocator + Copy>(
-    editor: Editor<MemStore<S>, MemStore<S>, A>,
-) -> Option<Editor<MemStore<S>, MemStore<S>, A>> {
-    let mut editor = editor;
-    if editor.commit().is_ok() {
-        Some(editor)
-    } else {
-        None
-    }
+    opened_over(alloc, data_store, hash_store)
 }

@@ -8,7 +8,7 @@ use std::test::Fail;
 use test_volumes::{BuiltVolume, STEP, image, make_volume};
 use verity_digest::Digest;
 use verity_edit::{EditFault, Editor, OpenRefused};
-use verity_store::MemStore;
+use verity_store::{BlockStore, MemStore};
 
 // What came of opening in a heap of so many bytes: the root hash, or both stores.
 fn open_in(
@@ -78,7 +78,8 @@ fn commits_to<S: Allocator + Drop, A: Allocator + Copy>(
     editor: Editor<MemStore<S>, MemStore<S>, A>,
     wanted: &BuiltVolume,
 ) -> bool {
-    committed_in(editor).is_some_and(|editor| holds(editor, wanted))
+    let mut editor = editor;
+    editor.commit().is_ok() && holds(editor, wanted)
 }
 
 // A call that is refused memory.
@@ -88,16 +89,15 @@ enum Call {
     Commit,
 }
 
-// Writes block 3, or commits that and added blocks, where a heap has so many bytes left: the editor, and why it was refused.
-fn squeezed<S: Allocator + Copy + Drop, A: Allocator + Copy>(
+// Writes block 3, or commits that and added blocks, where a heap has so many bytes left: why it was refused.
+fn squeezed<D: BlockStore, H: BlockStore, A: Allocator + Copy>(
     alloc: Global,
-    editor: Editor<MemStore<S>, MemStore<S>, A>,
+    editor: &mut Editor<D, H, A>,
     heap: &LocalHeap,
     room: usize,
     call: Call,
     count: u64,
-) -> Result<(Editor<MemStore<S>, MemStore<S>, A>, Option<EditFault>), Fail> {
-    let mut editor = editor;
+) -> Result<Option<EditFault>, Fail> {
     if let Call::Commit = call {
         editor.write(3, &[0x5a; 512])?;
         editor.grow(count)?;
@@ -108,7 +108,7 @@ fn squeezed<S: Allocator + Copy + Drop, A: Allocator + Copy>(
         Call::Commit => editor.commit().err(),
     };
     drop(rest);
-    Ok((editor, fault))
+    Ok(fault)
 }
 
 // Whether nothing is edited by a refused write, and both stores are as before a refused commit, whose edits are still pending.
@@ -148,14 +148,13 @@ fn is_refused_well<S: Allocator + Copy + Drop, A: Allocator + Copy>(
     call: Call,
     case: &Case,
 ) -> Result<Option<bool>, Fail> {
-    let editor = opened_in(stores_in, edits_in, &case.old, SIZE)?;
-    let (editor, fault) = squeezed(alloc, editor, heap, room, call, case.count)?;
-    let Some(fault) = fault else {
+    let mut editor = opened_in(stores_in, edits_in, &case.old, SIZE)?;
+    let Some(fault) = squeezed(alloc, &mut editor, heap, room, call, case.count)? else {
         return Ok(None);
     };
     let stays = fault == EditFault::NoMemory && stays(editor, call, case);
-    let editor = opened_in(stores_in, edits_in, &case.old, SIZE)?;
-    let (editor, _fault) = squeezed(alloc, editor, heap, room, call, case.count)?;
+    let mut editor = opened_in(stores_in, edits_in, &case.old, SIZE)?;
+    let _fault = squeezed(alloc, &mut editor, heap, room, call, case.count)?;
     Ok(Some(stays && goes_on(editor, call, case)))
 }
 

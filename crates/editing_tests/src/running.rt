@@ -109,7 +109,8 @@ fn goes_on(alloc: Global, room: usize) -> Result<bool, Fail> {
         return Ok(false);
     };
     let wanted = scratch(alloc, &fills.working)?;
-    Ok(committed_in(editor).is_some_and(|editor| holds(editor, &wanted)))
+    let mut editor = editor;
+    Ok(editor.commit().is_ok() && holds(editor, &wanted))
 }
 
 fn is_refused(reply: &Reply) -> bool {

@@ -4,7 +4,7 @@ use std::alloc::{Allocator, Global};
 use std::test::Fail;
 use test_volumes::{BuiltVolume, make_volume, numbered};
 use verity_edit::Editor;
-use verity_store::MemStore;
+use verity_store::{BlockStore, MemStore};
 
 pub const SIZE: usize = 512;
 
@@ -16,7 +16,15 @@ pub fn volume_of(alloc: Global, count: usize) -> Result<BuiltVolume, Fail> {
 }
 
 pub fn opened(alloc: Global, volume: BuiltVolume) -> Result<Plain, Fail> {
-    match Editor::open(alloc, volume.data_store, volume.hash_store) {
+    opened_over(alloc, volume.data_store, volume.hash_store)
+}
+
+pub fn opened_over<D: BlockStore + Drop, H: BlockStore + Drop, A: Allocator + Copy>(
+    alloc: A,
+    data_store: D,
+    hash_store: H,
+) -> Result<Editor<D, H, A>, Fail> {
+    match Editor::open(alloc, data_store, hash_store) {
         Ok(editor) => Ok(editor),
         Err(refused) => Err(refused.fault.into()),
     }
@@ -40,15 +48,4 @@ pub fn is_same<S: Allocator>(
 ) -> bool {
     data_store.bytes() == wanted.data_store.bytes()
         && hash_store.bytes() == wanted.hash_store.bytes()
-}
-
-// An editor whose commit hashed at most so many blocks.
-pub fn committed(editor: Plain, most: u64) -> Option<Plain> {
-    let mut editor = editor;
-    match editor.commit() {
-        Ok(committed) if committed.hashed <= most && committed.root == editor.root() => {
-            Some(editor)
-        }
-        _ => None,
-    }
 }

@@ -75,6 +75,24 @@ fn a_wrong_size_comes_before_ragged_bytes(rt: HostRuntime) -> Result<(), Fail> {
     Ok(())
 }
 
+/// The first bytes of blocks 1 to 4.
+fn first_bytes<S: BlockStore>(store: &mut S) -> [Option<u8>; 4] {
+    [
+        first_byte(store, 1),
+        first_byte(store, 2),
+        first_byte(store, 3),
+        first_byte(store, 4),
+    ]
+}
+
+/// Whether two blocks of a store are moved up by one, and then two down by one.
+fn moves_both_ways<S: BlockStore>(store: &mut S) -> bool {
+    moves_two(store, 1, 2)
+        && first_bytes(store) == [Some(1), Some(1), Some(2), Some(4)]
+        && moves_two(store, 3, 2)
+        && first_bytes(store) == [Some(1), Some(2), Some(4), Some(4)]
+}
+
 #[test]
 fn runs_are_moved_both_ways(rt: HostRuntime) -> Result<(), Fail> {
     let Ok(mut store) = MemStore::zeroed(rt.alloc(), 512, 5) else {
@@ -83,16 +101,16 @@ fn runs_are_moved_both_ways(rt: HostRuntime) -> Result<(), Fail> {
     for n in 0..5 {
         assert!(rt; number(&mut store, n));
     }
-    assert!(rt; moves_two(&mut store, 1, 2));
-    assert_eq!(rt; first_byte(&mut store, 1), Some(1));
-    assert_eq!(rt; first_byte(&mut store, 2), Some(1));
-    assert_eq!(rt; first_byte(&mut store, 3), Some(2));
-    assert_eq!(rt; first_byte(&mut store, 4), Some(4));
-    assert!(rt; moves_two(&mut store, 3, 2));
-    assert_eq!(rt; first_byte(&mut store, 1), Some(1));
-    assert_eq!(rt; first_byte(&mut store, 2), Some(2));
-    assert_eq!(rt; first_byte(&mut store, 3), Some(4));
+    assert!(rt; moves_both_ways(&mut store));
     Ok(())
+}
+
+/// Whether a store gives block 2, fails, gives block 4, and then fails again.
+fn gives_twice<S: BlockStore>(store: &mut S) -> bool {
+    first_byte(store, 2) == Some(3)
+        && first_byte(store, 2) == None
+        && first_byte(store, 4) == Some(4)
+        && first_byte(store, 0) == None
 }
 
 #[test]
@@ -103,14 +121,8 @@ fn a_script_is_given_in_order(rt: HostRuntime) -> Result<(), Fail> {
     let Ok(mut store) = ScriptStore::new(rt.alloc(), 512, 5, answers) else {
         return Err(Fail::from("memory was refused"));
     };
-    assert_eq!(rt; first_byte(&mut store, 2), Some(3));
-    assert_eq!(rt; first_byte(&mut store, 2), None);
-    assert_eq!(rt; first_byte(&mut store, 4), Some(4));
-    assert_eq!(rt; first_byte(&mut store, 0), None);
-    let given = store.given();
-    assert_eq!(rt; given.len(), 2);
-    assert_eq!(rt; given.first().map(|one| one.0), Some(2));
-    assert_eq!(rt; given.last().map(|one| one.0), Some(4));
+    assert!(rt; gives_twice(&mut store));
+    assert!(rt; matches!(store.given(), [(2, _), (4, _)]));
     Ok(())
 }
 
@@ -123,21 +135,35 @@ fn a_script_of_a_wrong_length_is_ragged(rt: HostRuntime) -> Result<(), Fail> {
     Ok(())
 }
 
+/// Whether the third call alone fails, a sync.
+fn fails_its_third<S: BlockStore>(store: &mut S) -> bool {
+    first_byte(store, 0) == Some(0)
+        && store.sync() == Ok(())
+        && store.sync() == Err(StoreFault::Device)
+        && store.reserve(1) == Ok(())
+        && store.set_len(1) == Ok(())
+}
+
 #[test]
 fn the_third_call_fails_and_is_not_passed_on(rt: HostRuntime) -> Result<(), Fail> {
     let Ok(memory) = MemStore::zeroed(rt.alloc(), 512, 2) else {
         return Err(Fail::from("memory was refused"));
     };
     let mut store = FailStore::at(FailStore::at(memory, 0), 3);
-    assert_eq!(rt; first_byte(&mut store, 0), Some(0));
-    assert_eq!(rt; store.sync(), Ok(()));
-    assert_eq!(rt; store.sync(), Err(StoreFault::Device));
-    assert_eq!(rt; store.reserve(1), Ok(()));
-    assert_eq!(rt; store.set_len(1), Ok(()));
-    assert_eq!(rt; store.calls(), 4);
-    assert_eq!(rt; store.store().calls(), 3);
+    assert!(rt; fails_its_third(&mut store));
+    assert_eq!(rt; (store.calls(), store.store().calls()), (4, 3));
     assert_eq!(rt; store.into_inner().into_inner().len(), 1);
     Ok(())
+}
+
+/// Whether two reads are answered, none after them, and every sync.
+fn gives_two_reads<S: BlockStore>(store: &mut S) -> bool {
+    first_byte(store, 0) == Some(0)
+        && store.sync() == Ok(())
+        && first_byte(store, 1) == Some(0)
+        && first_byte(store, 0) == None
+        && first_byte(store, 1) == None
+        && store.sync() == Ok(())
 }
 
 #[test]
@@ -146,12 +172,7 @@ fn reads_after_the_second_fail(rt: HostRuntime) -> Result<(), Fail> {
         return Err(Fail::from("memory was refused"));
     };
     let mut store = FailStore::reads_after(memory, 2);
-    assert_eq!(rt; first_byte(&mut store, 0), Some(0));
-    assert_eq!(rt; store.sync(), Ok(()));
-    assert_eq!(rt; first_byte(&mut store, 1), Some(0));
-    assert_eq!(rt; first_byte(&mut store, 0), None);
-    assert_eq!(rt; first_byte(&mut store, 1), None);
-    assert_eq!(rt; store.sync(), Ok(()));
+    assert!(rt; gives_two_reads(&mut store));
     assert_eq!(rt; store.calls(), 6);
     Ok(())
 }
@@ -170,8 +191,6 @@ fn a_file_in_memory_keeps_what_is_written(rt: HostRuntime) -> Result<(), Fail> {
 
 #[test]
 fn a_real_file_keeps_what_is_written(rt: HostRuntime) -> Result<(), Fail> {
-    let missing = FileStore::open(&rt, "no-such-file", 512, false);
-    assert_eq!(rt; missing.err(), Some(StoreFault::Device));
     let Ok(mut store) = FileStore::create(&rt, "scratch-store", 512) else {
         return Err(Fail::from("the file can be made"));
     };
@@ -181,11 +200,27 @@ fn a_real_file_keeps_what_is_written(rt: HostRuntime) -> Result<(), Fail> {
         return Err(Fail::from("the file can be opened"));
     };
     assert_eq!(rt; first_byte(&mut again, 0), Some(7));
-    let ragged = FileStore::open(&rt, "scratch-store", 1024, false);
+    Ok(())
+}
+
+#[test]
+fn a_file_of_another_size_is_refused(rt: HostRuntime) -> Result<(), Fail> {
+    let Ok(mut store) = FileStore::create(&rt, "scratch-sizes", 512) else {
+        return Err(Fail::from("the file can be made"));
+    };
+    assert!(rt; keeps_what_is_written(&mut store));
+    let ragged = FileStore::open(&rt, "scratch-sizes", 1024, false);
     assert_eq!(rt; ragged.err(), Some(StoreFault::Ragged));
-    let wrong = FileStore::create(&rt, "scratch-store", 500);
+    let wrong = FileStore::create(&rt, "scratch-sizes", 500);
     assert_eq!(rt; wrong.err(), Some(StoreFault::BlockSize));
-    assert_eq!(rt; first_byte(&mut again, 0), Some(7));
+    assert_eq!(rt; first_byte(&mut store, 0), Some(7));
+    Ok(())
+}
+
+#[test]
+fn a_missing_file_is_a_failed_device(rt: HostRuntime) -> Result<(), Fail> {
+    let missing = FileStore::open(&rt, "no-such-file", 512, false);
+    assert_eq!(rt; missing.err(), Some(StoreFault::Device));
     Ok(())
 }
 

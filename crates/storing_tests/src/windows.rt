@@ -48,14 +48,19 @@ fn past_the_end_nothing_changes(rt: HostRuntime) -> Result<(), Fail> {
     Ok(())
 }
 
+// Whether a store is cut to one block, which takes a write, and grows again.
+fn is_cut_and_grows<S: BlockStore>(store: &mut S) -> bool {
+    store.set_len(1).is_ok()
+        && store.len() == 1
+        && store.block_size() == SIZE
+        && store.write(0, &[5; SIZE]).is_ok()
+        && store.set_len(2).is_ok()
+}
+
 #[test]
 fn shrinks_and_takes_writes(rt: HostRuntime) -> Result<(), Fail> {
     let mut store = two_of_four(&rt)?;
-    store.set_len(1)?;
-    assert_eq!(rt; store.len(), 1);
-    assert_eq!(rt; store.block_size(), SIZE);
-    store.write(0, &[5; SIZE])?;
-    store.set_len(2)?;
+    assert!(rt; is_cut_and_grows(&mut store));
     assert_eq!(rt; last_byte(&mut store, 0)?, Some(5));
     assert_eq!(rt; last_byte(&mut store, 1)?, Some(0));
     Ok(())
