@@ -4,9 +4,9 @@ use std::alloc::Global;
 use std::process::Abort;
 use std::test::Fail;
 use test_stores::{Answer, ScriptStore};
-use verity_check::{CheckFault, Place};
+use verity_check::{CheckFault, Place, Verifier};
 use verity_digest::Algorithm;
-use verity_store::Block;
+use verity_store::{Block, BlockStore};
 
 // A store that gives blocks filled with these bytes, in turn.
 fn fills(alloc: Global, bytes: [u8; 3]) -> Result<ScriptStore, Fail> {
@@ -17,28 +17,24 @@ fn fills(alloc: Global, bytes: [u8; 3]) -> Result<ScriptStore, Fail> {
     Ok(ScriptStore::new(alloc, 512, 17, answers)?)
 }
 
+// Whether data block 3 is served, then refused, and then served.
+fn is_checked_again<D: BlockStore, H: BlockStore>(
+    alloc: Global,
+    verifier: &mut Verifier<D, H>,
+) -> bool {
+    let fault = CheckFault::Mismatch(Place::Data(3));
+    serves(alloc, verifier, 1536, 512, [3, 3])
+        && refuses(alloc, verifier, 1536, 512, fault)
+        && serves(alloc, verifier, 1536, 512, [3, 3])
+}
+
 #[test]
 fn a_second_read_is_checked_again(rt: HostRuntime) -> Result<(), Fail> {
     let alloc = rt.alloc();
     let (_, hash) = data_and_tree(alloc, Algorithm::Sha256)?;
-    let mut verifier = over(
-        alloc,
-        Algorithm::Sha256,
-        fills(alloc, [3, 4, 3])?,
-        store(hash)?,
-        1,
-    )?;
-    assert!(rt; serves(alloc, &mut verifier, 1536, 512, [3, 3]));
-    assert!(rt;
-        refuses(
-            alloc,
-            &mut verifier,
-            1536,
-            512,
-            CheckFault::Mismatch(Place::Data(3))
-        )
-    );
-    assert!(rt; serves(alloc, &mut verifier, 1536, 512, [3, 3]));
+    let data = fills(alloc, [3, 4, 3])?;
+    let mut verifier = over(alloc, Algorithm::Sha256, data, store(hash)?, 1)?;
+    assert!(rt; is_checked_again(alloc, &mut verifier));
     Ok(())
 }
 

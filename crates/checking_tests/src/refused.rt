@@ -7,12 +7,12 @@ use std::process::Abort;
 use std::test::Fail;
 use test_volumes::{BuiltVolume, STEP, copy, fill, flip, image};
 use verity_check::{CheckFault, Place, Report, Verdict, Verifier};
-use verity_store::MemStore;
+use verity_store::{BlockStore, MemStore};
 
 // What a read of three blocks into a list over a heap of so many steps answers, where the list is then as it should be.
-fn read_into(
+fn read_into<D: BlockStore, H: BlockStore>(
     alloc: Global,
-    verifier: &mut Verifier<MemStore, MemStore>,
+    verifier: &mut Verifier<D, H>,
     image: &[u8],
     steps: usize,
 ) -> Result<Option<Result<(), CheckFault>>, Fail> {
@@ -55,17 +55,22 @@ fn a_read_refused_memory_appends_nothing(rt: HostRuntime) -> Result<(), Fail> {
 
 const BAD: [(Place, Verdict); 1] = [(Place::Data(5), Verdict::Bad)];
 
-// A verifier over a heap, of the volume with a bit of data block 5 flipped.
+// A store of the data blocks, with a bit of data block 5 flipped.
+fn flipped_data(alloc: Global) -> Result<MemStore, Fail> {
+    let mut image = image(alloc, 17)?;
+    flip(&mut image, 5 * 512 + 7);
+    Ok(MemStore::new(image, 512)?)
+}
+
+// A verifier over a heap, of the volume with that data.
 fn flipped<'a>(
     alloc: Global,
     heap: &'a LocalHeap,
     volume: &BuiltVolume,
 ) -> Result<Verifier<MemStore, MemStore, &'a LocalHeap>, Fail> {
-    let hash_store = copy(alloc, &volume.hash_store)?;
-    let mut image = image(alloc, 17)?;
-    flip(&mut image, 5 * 512 + 7);
-    let data_store = MemStore::new(image, 512)?;
     let table = salted_table(heap)?;
+    let data_store = flipped_data(alloc)?;
+    let hash_store = copy(alloc, &volume.hash_store)?;
     Ok(Verifier::new(heap, table, data_store, hash_store, 4)?)
 }
 
@@ -74,10 +79,10 @@ fn lists_bad<A: Allocator>(report: &Report<A>) -> bool {
 }
 
 // Whether a report that finds so much room is given, where it is then right.
-fn report_with<'a>(
+fn report_with<D: BlockStore, H: BlockStore, A: Allocator + Copy + Drop>(
     alloc: Global,
-    heap: &'a LocalHeap,
-    verifier: &mut Verifier<MemStore, MemStore, &'a LocalHeap>,
+    heap: &LocalHeap,
+    verifier: &mut Verifier<D, H, A>,
     steps: usize,
 ) -> Result<Option<bool>, Fail> {
     let gap = Vec::from_elem(heap, 0u8, steps.saturating_mul(STEP))?;
@@ -92,9 +97,9 @@ fn report_with<'a>(
 }
 
 // Whether the next report and reads are right.
-fn is_usable<'a>(
+fn is_usable<D: BlockStore, H: BlockStore, A: Allocator + Copy + Drop>(
     alloc: Global,
-    verifier: &mut Verifier<MemStore, MemStore, &'a LocalHeap>,
+    verifier: &mut Verifier<D, H, A>,
 ) -> bool {
     reports(verifier, &BAD, 0)
         && serves_block(alloc, verifier, 4)

@@ -216,23 +216,16 @@ pub const FIRST: Place = Place::Hash { level: 0, index: 0 };
 
 pub const SECOND: Place = Place::Hash { level: 0, index: 1 };
 
-// The superblock of a volume of two data blocks.
-pub fn superblock() -> [u8; 512] {
-    let mut block = [0; 512];
-    block[..6].copy_from_slice(b"verity");
-    block[8] = 1;
-    block[12] = 1;
-    block[32..38].copy_from_slice(b"sha256");
-    block[65] = 2;
-    block[69] = 2;
-    block[72] = 2;
-    block
-}
+// What stands at the front of the superblock of a volume of two data blocks; the rest of it is zero.
+const FRONT: [u8; 73] = *b"verity\0\0\x01\0\0\0\x01\0\0\0\0\0\0\0\0\0\0\0\0\0\0\0\0\0\0\0\
+    sha256\0\0\0\0\0\0\0\0\0\0\0\0\0\0\0\0\0\0\0\0\0\0\0\0\0\0\
+    \0\x02\0\0\0\x02\0\0\x02";
 
 // A hash device of 32 data blocks whose superblock is that of two.
 pub fn altered(alloc: Global) -> Result<Vec<u8>, Fail> {
     let blocks = tree(alloc, Algorithm::Sha256, &image(alloc, 32)?)?;
-    let mut hash = superblock().to_vec(alloc)?;
+    let mut hash = FRONT.to_vec(alloc)?;
+    hash.resize(512, 0)?;
     hash.extend_from_slice(&blocks)?;
     Ok(hash)
 }
