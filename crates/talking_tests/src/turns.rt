@@ -143,11 +143,9 @@ fn times_blocked<E: Export, S: Stream + Drop>(
     blocked
 }
 
-/// Whether a client is done, and was sent these bytes; its session is ended.
-fn has_said<E: Export>(hub: &mut Sessions<E>, client: &mut Client<Slow>, said: &[u8]) -> bool {
-    client.turn(hub) == Turn::Done
-        && client.stream().output.as_slice() == said
-        && hub.end(client.id()) == Ok(())
+/// Whether a client was sent these bytes; its session is ended.
+fn has_said<E: Export>(hub: &mut Sessions<E>, client: &Client<Slow>, said: &[u8]) -> bool {
+    client.stream().output.as_slice() == said && hub.end(client.id()) == Ok(())
 }
 
 #[test]
@@ -156,8 +154,9 @@ fn two_clients_take_turns(rt: HostRuntime) -> Result<(), Fail> {
     let mut first = Client::open(rt.alloc(), make_slow(rt.alloc(), FIRST)?, &mut hub)?;
     let mut second = Client::open(rt.alloc(), make_slow(rt.alloc(), SECOND)?, &mut hub)?;
     assert!(rt; times_blocked(&mut hub, &mut first, &mut second) > 100);
-    assert!(rt; has_said(&mut hub, &mut first, FIRST_SAID));
-    assert!(rt; has_said(&mut hub, &mut second, SECOND_SAID));
+    assert_eq!(rt; first.turn(&mut hub), Turn::Done);
+    assert!(rt; has_said(&mut hub, &first, FIRST_SAID));
+    assert!(rt; has_said(&mut hub, &second, SECOND_SAID));
     Ok(())
 }
 
