@@ -12,22 +12,23 @@ mod verify;
 
 use clap::{ArgMatches, Command, Error};
 pub use dump::DumpWords;
-use dump::{dump_command, dump_words};
+use dump::dump_words;
 pub use edit::EditWords;
-use edit::{edit_command, edit_words};
+use edit::edit_words;
 pub use format::FormatWords;
-use format::{format_command, format_words};
+use format::format_words;
+use parts::{Form, command_of};
 pub use recover::RecoverWords;
-use recover::{recover_command, recover_words};
+use recover::recover_words;
 pub use serve::ServeWords;
-use serve::{serve_command, serve_words};
+use serve::serve_words;
 use std::alloc::{AllocError, Global};
 pub use talk::TalkWords;
-use talk::{talk_command, talk_words};
+use talk::talk_words;
 pub use update::UpdateWords;
-use update::{update_command, update_words};
+use update::update_words;
 pub use verify::VerifyWords;
-use verify::{verify_command, verify_words};
+use verify::verify_words;
 
 /// What the words ask for. Texts are as they were given; numbers and names are not read yet.
 #[derive(Clone, Copy, Debug)]
@@ -47,28 +48,38 @@ pub enum Request<'a> {
 /// The program's version.
 const VERSION: &str = "0.1";
 
+/// The commands, in the order in which `--help` shows them.
+const FORMS: [Form<'static>; 8] = [
+    format::FORM,
+    dump::FORM,
+    edit::FORM,
+    update::FORM,
+    recover::FORM,
+    verify::FORM,
+    serve::FORM,
+    talk::FORM,
+];
+
+/// The program, as `clap` has it.
 fn tool<'a>(alloc: Global) -> Result<Command<'a>, AllocError> {
-    let tool = Ok(
-        Command::new(alloc, "dalgovuun")
-            .about("Makes, edits, verifies and serves dm-verity volumes")
-            .version(VERSION),
-    );
-    let tool = with(tool, format_command(alloc));
-    let tool = with(tool, dump_command(alloc));
-    let tool = with(tool, edit_command(alloc));
-    let tool = with(tool, update_command(alloc));
-    let tool = with(tool, recover_command(alloc));
-    let tool = with(tool, verify_command(alloc));
-    let tool = with(tool, serve_command(alloc));
-    with(tool, talk_command(alloc))
+    let tool = Command::new(alloc, "dalgovuun")
+        .about("Makes, edits, verifies and serves dm-verity volumes")
+        .version(VERSION);
+    with_commands(alloc, tool, &FORMS)
 }
 
-/// The program's words with one command more.
-fn with<'a>(
-    tool: Result<Command<'a>, AllocError>,
-    command: Result<Command<'a>, AllocError>,
+/// The program with these commands.
+fn with_commands<'a>(
+    alloc: Global,
+    tool: Command<'a>,
+    forms: &[Form<'a>],
 ) -> Result<Command<'a>, AllocError> {
-    tool?.subcommand(command?)
+    let mut tool = tool;
+    for form in forms {
+        let command = command_of(alloc, *form)?;
+        tool = tool.subcommand(command)?;
+    }
+    Ok(tool)
 }
 
 fn asked<'a>(matches: &ArgMatches<'a>) -> Option<Request<'a>> {

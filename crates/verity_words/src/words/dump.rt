@@ -1,26 +1,22 @@
 //! The words of `dump`.
 
-use super::parts::{hash_offset, path};
-use clap::{ArgMatches, Command};
-use std::alloc::{AllocError, Global};
+use super::parts::{Form, HASH, HASH_OFFSET};
+use clap::ArgMatches;
 
-/// What `--help` shows.
-const EXAMPLE: &str = "Example:
-  dalgovuun dump image.hash";
+/// The command.
+pub const FORM: Form<'static> = Form {
+    name: "dump",
+    about: "Prints the superblock of a hash device",
+    example: "Example:
+  dalgovuun dump image.hash",
+    parameters: &[HASH, HASH_OFFSET],
+};
 
 /// The words of `dump`.
 #[derive(Clone, Copy, Debug)]
 pub struct DumpWords<'a> {
     pub hash_path: &'a str,
     pub hash_offset: &'a str,
-}
-
-pub fn dump_command<'a>(alloc: Global) -> Result<Command<'a>, AllocError> {
-    Command::new(alloc, "dump")
-        .about("Prints the superblock of a hash device")
-        .after_help(EXAMPLE)
-        .arg(path(alloc, "HASH", "The hash device"))?
-        .arg(hash_offset(alloc))
 }
 
 pub fn dump_words<'a>(matches: &ArgMatches<'a>) -> Option<DumpWords<'a>> {

@@ -1,15 +1,31 @@
 //! The words of `edit`.
 
-use super::parts::{journal, own_offset, own_table, path, quiet, with_arg};
-use clap::{ArgMatches, Command};
-use std::alloc::{AllocError, Global};
+use super::parts::{DATA, Form, HASH, JOURNAL, Kind, OWN_OFFSET, OWN_TABLE, Parameter, QUIET};
+use clap::ArgMatches;
 
-/// What `--help` shows.
-const EXAMPLE: &str = "Example:
+/// The command.
+pub const FORM: Form<'static> = Form {
+    name: "edit",
+    about: "Does a script's lines over a volume, and prints an answer to each",
+    example: "Example:
   printf 'grow 310\\nfill 309 5a\\ncommit\\n' > script
   dalgovuun edit image image.hash script > answers
   grep -q '^committed ' answers &&
-      sed -n 's/^committed //p' answers | tail -n 1 > image.table";
+      sed -n 's/^committed //p' answers | tail -n 1 > image.table",
+    parameters: &[
+        DATA,
+        HASH,
+        Parameter {
+            name: "SCRIPT",
+            help: "The script",
+            kind: Kind::Argument,
+        },
+        OWN_OFFSET,
+        OWN_TABLE,
+        JOURNAL,
+        QUIET,
+    ],
+};
 
 /// The words of `edit`.
 #[derive(Clone, Copy, Debug)]
@@ -21,21 +37,6 @@ pub struct EditWords<'a> {
     pub table: Option<&'a str>,
     pub journal: Option<&'a str>,
     pub is_quiet: bool,
-}
-
-pub fn edit_command<'a>(alloc: Global) -> Result<Command<'a>, AllocError> {
-    let command = Ok(
-        Command::new(alloc, "edit")
-            .about("Does a script's lines over a volume, and prints an answer to each")
-            .after_help(EXAMPLE),
-    );
-    let command = with_arg(command, path(alloc, "DATA", "The block image"));
-    let command = with_arg(command, path(alloc, "HASH", "The hash device"));
-    let command = with_arg(command, path(alloc, "SCRIPT", "The script"));
-    let command = with_arg(command, own_offset(alloc));
-    let command = with_arg(command, own_table(alloc));
-    let command = with_arg(command, journal(alloc));
-    with_arg(command, quiet(alloc))
 }
 
 pub fn edit_words<'a>(matches: &ArgMatches<'a>) -> Option<EditWords<'a>> {

@@ -1,13 +1,56 @@
 //! The words of `format`.
 
-use super::parts::{hash_offset, option, path, quiet, with_arg};
-use clap::{ArgMatches, Command};
-use std::alloc::{AllocError, Global};
+use super::parts::{DATA, Form, HASH_OFFSET, Kind, Parameter, QUIET};
+use clap::ArgMatches;
 
-/// What `--help` shows.
-const EXAMPLE: &str = "Example:
+/// The command.
+pub const FORM: Form<'static> = Form {
+    name: "format",
+    about: "Makes the hash device of a block image, and prints the table line",
+    example: "Example:
   dalgovuun format image image.hash --salt 00ff \\
-    --uuid 01234567-89ab-cdef-0123-456789abcdef > image.table";
+    --uuid 01234567-89ab-cdef-0123-456789abcdef > image.table",
+    parameters: &[
+        DATA,
+        Parameter {
+            name: "HASH",
+            help: "The hash device that is made",
+            kind: Kind::Argument,
+        },
+        Parameter {
+            name: "salt",
+            help: "The salt in hexadecimal, or 'none'",
+            kind: Kind::Required,
+        },
+        Parameter {
+            name: "uuid",
+            help: "The UUID of the volume",
+            kind: Kind::Required,
+        },
+        Parameter {
+            name: "data-blocks",
+            help: "How many blocks of DATA, where not all",
+            kind: Kind::Optional,
+        },
+        Parameter {
+            name: "data-block-size",
+            help: "Bytes in a data block",
+            kind: Kind::Default("4096"),
+        },
+        Parameter {
+            name: "hash-block-size",
+            help: "Bytes in a hash block",
+            kind: Kind::Default("4096"),
+        },
+        Parameter {
+            name: "algorithm",
+            help: "sha256 or sha512",
+            kind: Kind::Default("sha256"),
+        },
+        HASH_OFFSET,
+        QUIET,
+    ],
+};
 
 /// The words of `format`.
 #[derive(Clone, Copy, Debug)]
@@ -22,46 +65,6 @@ pub struct FormatWords<'a> {
     pub algorithm: &'a str,
     pub hash_offset: &'a str,
     pub is_quiet: bool,
-}
-
-pub fn format_command<'a>(alloc: Global) -> Result<Command<'a>, AllocError> {
-    let command = Ok(
-        Command::new(alloc, "format")
-            .about("Makes the hash device of a block image, and prints the table line")
-            .after_help(EXAMPLE),
-    );
-    let command = with_arg(command, path(alloc, "DATA", "The block image"));
-    let command = with_arg(command, path(alloc, "HASH", "The hash device that is made"));
-    let command = with_arg(
-        command,
-        option(alloc, "salt", "The salt in hexadecimal, or 'none'").required(true),
-    );
-    let command = with_arg(
-        command,
-        option(alloc, "uuid", "The UUID of the volume").required(true),
-    );
-    let command = with_arg(
-        command,
-        option(
-            alloc,
-            "data-blocks",
-            "How many blocks of DATA, where not all",
-        ),
-    );
-    let command = with_arg(
-        command,
-        option(alloc, "data-block-size", "Bytes in a data block").default_value("4096"),
-    );
-    let command = with_arg(
-        command,
-        option(alloc, "hash-block-size", "Bytes in a hash block").default_value("4096"),
-    );
-    let command = with_arg(
-        command,
-        option(alloc, "algorithm", "sha256 or sha512").default_value("sha256"),
-    );
-    let command = with_arg(command, hash_offset(alloc));
-    with_arg(command, quiet(alloc))
 }
 
 pub fn format_words<'a>(matches: &ArgMatches<'a>) -> Option<FormatWords<'a>> {

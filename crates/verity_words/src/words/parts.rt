@@ -1,82 +1,129 @@
-//! The arguments and options of which commands are made.
+//! The commands as tables: what `--help` shows of each, and its arguments and options.
 
 use clap::{Arg, ArgAction, Command};
 use std::alloc::{AllocError, Global};
 
-/// A command with one argument more.
-pub fn with_arg<'a>(
-    command: Result<Command<'a>, AllocError>,
-    arg: Arg<'a>,
-) -> Result<Command<'a>, AllocError> {
-    command?.arg(arg)
+/// An argument or an option of a command.
+#[derive(Clone, Copy)]
+pub struct Parameter<'a> {
+    pub name: &'a str,
+    pub help: &'a str,
+    pub kind: Kind<'a>,
 }
 
-/// A required argument.
-pub fn path<'a>(alloc: Global, name: &'a str, help: &'a str) -> Arg<'a> {
-    Arg::new(alloc, name).required(true).help(help)
+/// What a parameter is, and what stands where it isn't given.
+#[derive(Clone, Copy)]
+pub enum Kind<'a> {
+    /// An argument, which has to be given.
+    Argument,
+    /// An option that has to be given.
+    Required,
+    /// An option that may be missing.
+    Optional,
+    /// An option with this value where it is missing.
+    Default(&'a str),
+    /// An option without a value.
+    Flag,
 }
 
-/// An option with a value.
-pub fn option<'a>(alloc: Global, name: &'a str, help: &'a str) -> Arg<'a> {
-    Arg::new(alloc, name).long(name).help(help)
+/// A command: its name, what it does, an example, and what it takes, in the order in which `--help` shows them.
+#[derive(Clone, Copy)]
+pub struct Form<'a> {
+    pub name: &'a str,
+    pub about: &'a str,
+    pub example: &'a str,
+    pub parameters: &'a [Parameter<'a>],
 }
+
+/// A command, as `clap` has it.
+pub fn command_of<'a>(alloc: Global, form: Form<'a>) -> Result<Command<'a>, AllocError> {
+    let mut command = Command::new(alloc, form.name)
+        .about(form.about)
+        .after_help(form.example);
+    for parameter in form.parameters {
+        command = command.arg(arg_of(alloc, *parameter))?;
+    }
+    Ok(command)
+}
+
+/// A parameter, as `clap` has it.
+fn arg_of<'a>(alloc: Global, parameter: Parameter<'a>) -> Arg<'a> {
+    let arg = Arg::new(alloc, parameter.name).help(parameter.help);
+    match parameter.kind {
+        Kind::Argument => arg.required(true),
+        Kind::Required => arg.long(parameter.name).required(true),
+        Kind::Optional => arg.long(parameter.name),
+        Kind::Default(value) => arg.long(parameter.name).default_value(value),
+        Kind::Flag => arg.long(parameter.name).action(ArgAction::SetTrue),
+    }
+}
+
+/// DATA, of the commands that read an image or have one.
+pub const DATA: Parameter<'static> = Parameter {
+    name: "DATA",
+    help: "The block image",
+    kind: Kind::Argument,
+};
+
+/// HASH, of the commands that have a hash device.
+pub const HASH: Parameter<'static> = Parameter {
+    name: "HASH",
+    help: "The hash device",
+    kind: Kind::Argument,
+};
 
 /// `--hash-offset`, of the commands that read or write a superblock.
-pub fn hash_offset<'a>(alloc: Global) -> Arg<'a> {
-    option(
-        alloc,
-        "hash-offset",
-        "The superblock's place in HASH, in bytes",
-    )
-    .default_value("0")
-}
+pub const HASH_OFFSET: Parameter<'static> = Parameter {
+    name: "hash-offset",
+    help: "The superblock's place in HASH, in bytes",
+    kind: Kind::Default("0"),
+};
 
 /// `--hash-offset`, of the commands that edit: not beside `--table`.
-pub fn own_offset<'a>(alloc: Global) -> Arg<'a> {
-    option(
-        alloc,
-        "hash-offset",
-        "The superblock's place in HASH, in bytes; 0 where neither it nor a line is named",
-    )
-}
+pub const OWN_OFFSET: Parameter<'static> = Parameter {
+    name: "hash-offset",
+    help: "The superblock's place in HASH, in bytes; 0 where neither it nor a line is named",
+    kind: Kind::Optional,
+};
 
 /// `--table`, of the commands that edit.
-pub fn own_table<'a>(alloc: Global) -> Arg<'a> {
-    option(
-        alloc,
-        "table",
-        "The table line of the volume, under which nothing else of it is trusted",
-    )
-}
+pub const OWN_TABLE: Parameter<'static> = Parameter {
+    name: "table",
+    help: "The table line of the volume, under which nothing else of it is trusted",
+    kind: Kind::Optional,
+};
 
 /// `--journal`, of the commands that commit.
-pub fn journal<'a>(alloc: Global) -> Arg<'a> {
-    option(
-        alloc,
-        "journal",
-        "The journal's path, or none; HASH.journal where HASH is a file",
-    )
-}
+pub const JOURNAL: Parameter<'static> = Parameter {
+    name: "journal",
+    help: "The journal's path, or none; HASH.journal where HASH is a file",
+    kind: Kind::Optional,
+};
 
 /// `--table`, of the commands that trust a table line.
-pub fn table<'a>(alloc: Global) -> Arg<'a> {
-    option(alloc, "table", "The table line of the volume").required(true)
-}
+pub const TABLE: Parameter<'static> = Parameter {
+    name: "table",
+    help: "The table line of the volume",
+    kind: Kind::Required,
+};
 
 /// `--name`, of the commands that serve.
-pub fn name<'a>(alloc: Global) -> Arg<'a> {
-    option(alloc, "name", "The export's name").required(true)
-}
+pub const NAME: Parameter<'static> = Parameter {
+    name: "name",
+    help: "The export's name",
+    kind: Kind::Required,
+};
 
 /// `--cache`, of the commands that serve.
-pub fn cache<'a>(alloc: Global) -> Arg<'a> {
-    option(alloc, "cache", "How many checked hash blocks are kept").default_value("1024")
-}
+pub const CACHE: Parameter<'static> = Parameter {
+    name: "cache",
+    help: "How many checked hash blocks are kept",
+    kind: Kind::Default("1024"),
+};
 
 /// `--quiet`, of the commands that read a volume whole.
-pub fn quiet<'a>(alloc: Global) -> Arg<'a> {
-    Arg::new(alloc, "quiet")
-        .long("quiet")
-        .action(ArgAction::SetTrue)
-        .help("Shows no progress")
-}
+pub const QUIET: Parameter<'static> = Parameter {
+    name: "quiet",
+    help: "Shows no progress",
+    kind: Kind::Flag,
+};

@@ -1,14 +1,18 @@
 //! The words of `talk`.
 
-use super::parts::{cache, name, table};
-use clap::{ArgMatches, Command};
-use std::alloc::{AllocError, Global};
+use super::parts::{CACHE, Form, NAME, TABLE};
+use clap::ArgMatches;
 
-/// What `--help` shows.
-const EXAMPLE: &str = "Example:
+/// The command.
+pub const FORM: Form<'static> = Form {
+    name: "talk",
+    about: "Serves a volume to one NBD client, over standard input and output",
+    example: "Example:
   nbdsh -c 'h.connect_command([\"dalgovuun\", \"talk\", \"--table\",
     open(\"image.table\").read().strip(), \"--name\", \"vol\"])' \\
-    -c 'print(h.get_size())'";
+    -c 'print(h.get_size())'",
+    parameters: &[TABLE, NAME, CACHE],
+};
 
 /// The words of `talk`.
 #[derive(Clone, Copy, Debug)]
@@ -16,15 +20,6 @@ pub struct TalkWords<'a> {
     pub table: &'a str,
     pub name: &'a str,
     pub cache: &'a str,
-}
-
-pub fn talk_command<'a>(alloc: Global) -> Result<Command<'a>, AllocError> {
-    Command::new(alloc, "talk")
-        .about("Serves a volume to one NBD client, over standard input and output")
-        .after_help(EXAMPLE)
-        .arg(table(alloc))?
-        .arg(name(alloc))?
-        .arg(cache(alloc))
 }
 
 pub fn talk_words<'a>(matches: &ArgMatches<'a>) -> Option<TalkWords<'a>> {

@@ -1,14 +1,30 @@
 //! The words of `update`.
 
-use super::parts::{journal, own_offset, own_table, path, quiet, with_arg};
-use clap::{ArgMatches, Command};
-use std::alloc::{AllocError, Global};
+use super::parts::{DATA, Form, HASH, JOURNAL, Kind, OWN_OFFSET, OWN_TABLE, Parameter, QUIET};
+use clap::ArgMatches;
 
-/// What `--help` shows.
-const EXAMPLE: &str = "Example:
+/// The command.
+pub const FORM: Form<'static> = Form {
+    name: "update",
+    about: "Makes a volume that of another image, by what differs, with one commit",
+    example: "Example:
   cp image image.new; printf 'new bytes' | dd of=image.new conv=notrunc status=none
   dalgovuun update image image.hash image.new > answers &&
-      sed -n 's/^committed //p' answers > image.table";
+      sed -n 's/^committed //p' answers > image.table",
+    parameters: &[
+        DATA,
+        HASH,
+        Parameter {
+            name: "NEW",
+            help: "The image to be held",
+            kind: Kind::Argument,
+        },
+        OWN_OFFSET,
+        OWN_TABLE,
+        JOURNAL,
+        QUIET,
+    ],
+};
 
 /// The words of `update`.
 #[derive(Clone, Copy, Debug)]
@@ -20,21 +36,6 @@ pub struct UpdateWords<'a> {
     pub table: Option<&'a str>,
     pub journal: Option<&'a str>,
     pub is_quiet: bool,
-}
-
-pub fn update_command<'a>(alloc: Global) -> Result<Command<'a>, AllocError> {
-    let command = Ok(
-        Command::new(alloc, "update")
-            .about("Makes a volume that of another image, by what differs, with one commit")
-            .after_help(EXAMPLE),
-    );
-    let command = with_arg(command, path(alloc, "DATA", "The block image"));
-    let command = with_arg(command, path(alloc, "HASH", "The hash device"));
-    let command = with_arg(command, path(alloc, "NEW", "The image to be held"));
-    let command = with_arg(command, own_offset(alloc));
-    let command = with_arg(command, own_table(alloc));
-    let command = with_arg(command, journal(alloc));
-    with_arg(command, quiet(alloc))
 }
 
 pub fn update_words<'a>(matches: &ArgMatches<'a>) -> Option<UpdateWords<'a>> {

@@ -1,26 +1,22 @@
 //! The words of `verify`.
 
-use super::parts::{quiet, table};
-use clap::{ArgMatches, Command};
-use std::alloc::{AllocError, Global};
+use super::parts::{Form, QUIET, TABLE};
+use clap::ArgMatches;
 
-/// What `--help` shows.
-const EXAMPLE: &str = "Example:
-  dalgovuun verify --table \"$(cat image.table)\"";
+/// The command.
+pub const FORM: Form<'static> = Form {
+    name: "verify",
+    about: "Reports what is wrong in a volume",
+    example: "Example:
+  dalgovuun verify --table \"$(cat image.table)\"",
+    parameters: &[TABLE, QUIET],
+};
 
 /// The words of `verify`.
 #[derive(Clone, Copy, Debug)]
 pub struct VerifyWords<'a> {
     pub table: &'a str,
     pub is_quiet: bool,
-}
-
-pub fn verify_command<'a>(alloc: Global) -> Result<Command<'a>, AllocError> {
-    Command::new(alloc, "verify")
-        .about("Reports what is wrong in a volume")
-        .after_help(EXAMPLE)
-        .arg(table(alloc))?
-        .arg(quiet(alloc))
 }
 
 pub fn verify_words<'a>(matches: &ArgMatches<'a>) -> Option<VerifyWords<'a>> {
