@@ -34,22 +34,30 @@ fn read_into<D: BlockStore, H: BlockStore>(
     })
 }
 
+// With how many steps of room such a read is first served. None where it isn't, or an answer before that is no V4.
+fn steps_to_read<D: BlockStore, H: BlockStore>(
+    alloc: Global,
+    verifier: &mut Verifier<D, H>,
+) -> Result<Option<usize>, Fail> {
+    let image = image(alloc, 17)?;
+    for steps in 1..1000 {
+        match read_into(alloc, verifier, &image, steps)? {
+            Some(Ok(())) => return Ok(Some(steps)),
+            Some(Err(CheckFault::NoMemory)) => {}
+            _ => return Ok(None),
+        }
+    }
+    Ok(None)
+}
+
 #[test]
 fn a_read_refused_memory_appends_nothing(rt: HostRuntime) -> Result<(), Fail> {
     let alloc = rt.alloc();
     let volume = salted(alloc)?;
     let table = salted_table(alloc)?;
     let mut verifier = Verifier::new(alloc, table, volume.data_store, volume.hash_store, 4)?;
-    let image = image(alloc, 17)?;
-    for steps in 1..1000 {
-        let answer = read_into(alloc, &mut verifier, &image, steps)?;
-        if answer == Some(Ok(())) {
-            assert!(rt; steps > 96);
-            return Ok(());
-        }
-        assert_eq!(rt; answer, Some(Err(CheckFault::NoMemory)));
-    }
-    assert!(rt; false);
+    let steps = steps_to_read(alloc, &mut verifier)?;
+    assert!(rt; steps.is_some_and(|steps| steps > 96), "{steps:?}");
     Ok(())
 }
 

@@ -1,6 +1,7 @@
 //! How many blocks are hashed where the count of data blocks changes. What such commits leave is in `tests/program`.
 
 use crate::volumes::*;
+use std::alloc::Global;
 use std::test::Fail;
 use verity_edit::Editor;
 use verity_store::BlockStore;
@@ -41,12 +42,16 @@ const CHANGES: [(usize, u64, u64); 9] = [
     (4097, 256, 2),
 ];
 
+// The same of the volume of so many blocks.
+fn hashed_by(alloc: Global, old: usize, new: u64) -> Result<Option<(u64, u64)>, Fail> {
+    let mut editor = opened(alloc, volume_of(alloc, old)?)?;
+    Ok(hashed(&mut editor, new))
+}
+
 #[test]
 fn counts_that_change(rt: HostRuntime) -> Result<(), Fail> {
-    let alloc = rt.alloc();
     for (old, new, most) in CHANGES {
-        let mut editor = opened(alloc, volume_of(alloc, old)?)?;
-        let hashed = hashed(&mut editor, new);
+        let hashed = hashed_by(rt.alloc(), old, new)?;
         assert!(rt;
             hashed.is_some_and(|(first, second)| first <= most && second == 0),
             "{old} to {new}: {hashed:?}"

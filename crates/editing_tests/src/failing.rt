@@ -7,12 +7,11 @@ use std::test::Fail;
 use test_stores::FailStore;
 use test_volumes::{BuiltVolume, make_volume, params};
 use verity_build::build;
+use verity_digest::Digest;
 use verity_edit::{EditFault, Editor};
 use verity_store::{BlockStore, MemStore, Which};
 
 type Failing = FailStore<MemStore>;
-
-type Frail = Editor<Failing, Failing>;
 
 // The call of this number fails at this store; of number 0, none does.
 #[derive(Clone, Copy)]
@@ -63,38 +62,13 @@ fn open_fails(alloc: Global, failure: Failure) -> Result<bool, Fail> {
     }
 }
 
-// An editor over the volume.
-fn opened(alloc: Global, failure: Failure) -> Result<Frail, Fail> {
-    let (data_store, hash_store) = over(volume_of(alloc, 16)?, failure);
-    opened_over(alloc, data_store, hash_store)
-}
-
-// Whether the edits are taken.
-fn is_edited<D: BlockStore, H: BlockStore>(editor: &mut Editor<D, H>) -> bool {
-    editor.write(3, &[9; 512]).is_ok() && editor.grow(17).is_ok()
-}
-
-// What came of a commit whose call failed: whether the editor broke, and what stands in both stores.
-#[derive(Drop)]
-struct Left {
-    broken: bool,
-    data_store: MemStore,
-    hash_store: MemStore,
-}
-
-fn left_by(editor: Frail) -> Left {
-    let broken = editor.broken();
-    let (data_store, hash_store) = editor.close();
-    Left {
-        broken,
-        data_store: data_store.into_inner(),
-        hash_store: hash_store.into_inner(),
-    }
-}
-
-// Whether the edits are taken, and their commit names the store that failed.
-fn is_refused<D: BlockStore, H: BlockStore>(editor: &mut Editor<D, H>, which: Which) -> bool {
-    is_edited(editor) && editor.commit().err() == Some(EditFault::Store(which))
+// Why the edits' commit is refused, where it is.
+fn fault_of_edits<D: BlockStore, H: BlockStore>(
+    editor: &mut Editor<D, H>,
+) -> Result<Option<EditFault>, Fail> {
+    editor.write(3, &[9; 512])?;
+    editor.grow(17)?;
+    Ok(editor.commit().err())
 }
 
 // Whether a broken editor answers E7 to every call but the getters and `close`, and another one commits.
@@ -110,14 +84,60 @@ fn goes_on<D: BlockStore, H: BlockStore>(editor: &mut Editor<D, H>) -> bool {
         && editor.commit().err() == Some(EditFault::Broken)
 }
 
+// What came of the edits' commit: why it was refused, whether the editor broke, whether it then went on, where that was asked
+// for, and both stores.
+#[derive(Drop)]
+struct Left<D, H> {
+    fault: Option<EditFault>,
+    broken: bool,
+    went_on: bool,
+    data_store: D,
+    hash_store: H,
+}
+
+// What an editor leaves that commits the edits to these stores, and then goes on, where that is asked for.
+fn left_in<D: BlockStore + Drop, H: BlockStore + Drop>(
+    alloc: Global,
+    data_store: D,
+    hash_store: H,
+    has_to_go_on: bool,
+) -> Result<Left<D, H>, Fail> {
+    let mut editor = opened_over(alloc, data_store, hash_store)?;
+    let fault = fault_of_edits(&mut editor)?;
+    let went_on = has_to_go_on && goes_on(&mut editor);
+    let broken = editor.broken();
+    let (data_store, hash_store) = editor.close();
+    Ok(Left {
+        fault,
+        broken,
+        went_on,
+        data_store,
+        hash_store,
+    })
+}
+
+// The same, over the volume.
+fn left_after(
+    alloc: Global,
+    failure: Failure,
+    has_to_go_on: bool,
+) -> Result<Left<Failing, Failing>, Fail> {
+    let (data_store, hash_store) = over(volume_of(alloc, 16)?, failure);
+    left_in(alloc, data_store, hash_store, has_to_go_on)
+}
+
 // Whether both stores hold what a successful commit leaves.
-fn is_whole(alloc: Global, left: &Left) -> Result<bool, Fail> {
-    Ok(is_same(&left.data_store, &left.hash_store, &edited_volume(alloc)?))
+fn is_whole(alloc: Global, data_store: &MemStore, hash_store: &MemStore) -> Result<bool, Fail> {
+    Ok(is_same(data_store, hash_store, &edited_volume(alloc)?))
 }
 
 // Both stores again, where they are opened, or refused since tree and data differ.
-fn opened_or_torn(alloc: Global, left: Left) -> Option<(MemStore, MemStore)> {
-    match Editor::open(alloc, left.data_store, left.hash_store) {
+fn opened_or_torn(
+    alloc: Global,
+    data_store: MemStore,
+    hash_store: MemStore,
+) -> Option<(MemStore, MemStore)> {
+    match Editor::open(alloc, data_store, hash_store) {
         Ok(editor) => Some(editor.close()),
         Err(refused) => match refused.fault {
             EditFault::Mismatch { .. } | EditFault::Superblock(_) | EditFault::DataLength => {
@@ -128,48 +148,66 @@ fn opened_or_torn(alloc: Global, left: Left) -> Option<(MemStore, MemStore)> {
     }
 }
 
+// The root hash of the volume in two stores, where they are opened.
+fn root_of(alloc: Global, data_store: MemStore, hash_store: MemStore) -> Option<Digest> {
+    match Editor::open(alloc, data_store, hash_store) {
+        Ok(editor) => Some(editor.root()),
+        Err(_) => None,
+    }
+}
+
 // Whether what a broken editor left is opened or torn, and a build over it makes a volume that opens.
-fn is_rebuilt(alloc: Global, left: Left) -> Result<bool, Fail> {
-    let Some((mut data_store, mut hash_store)) = opened_or_torn(alloc, left) else {
+fn is_rebuilt(alloc: Global, data_store: MemStore, hash_store: MemStore) -> Result<bool, Fail> {
+    let Some((mut data_store, mut hash_store)) = opened_or_torn(alloc, data_store, hash_store)
+    else {
         return Ok(false);
     };
     let root = build(alloc, &mut data_store, &mut hash_store, &params(alloc)?)?;
-    match Editor::open(alloc, data_store, hash_store) {
-        Ok(editor) => Ok(editor.root() == root),
-        Err(_) => Ok(false),
+    Ok(root_of(alloc, data_store, hash_store) == Some(root))
+}
+
+// Whether a broken editor's stores are built over again, and another one's hold what a successful commit leaves.
+fn stands(
+    alloc: Global,
+    broken: bool,
+    data_store: MemStore,
+    hash_store: MemStore,
+) -> Result<bool, Fail> {
+    if broken {
+        is_rebuilt(alloc, data_store, hash_store)
+    } else {
+        is_whole(alloc, &data_store, &hash_store)
     }
 }
 
 // Whether a commit whose call fails names the store, and goes on or is given up.
 fn commit_fails(alloc: Global, failure: Failure) -> Result<bool, Fail> {
-    let mut editor = opened(alloc, failure)?;
-    let is_refused = is_refused(&mut editor, failure.which) && goes_on(&mut editor);
-    let left = left_by(editor);
-    let stands = if left.broken {
-        is_rebuilt(alloc, left)?
-    } else {
-        is_whole(alloc, &left)?
-    };
-    Ok(is_refused && stands)
+    let left = left_after(alloc, failure, true)?;
+    let is_right = left.fault == Some(EditFault::Store(failure.which)) && left.went_on;
+    let stands = stands(
+        alloc,
+        left.broken,
+        left.data_store.into_inner(),
+        left.hash_store.into_inner(),
+    )?;
+    Ok(is_right && stands)
 }
 
 // Whether a commit of which a call fails breaks the editor, and whether both stores then hold what a successful one leaves.
 fn fate(alloc: Global, failure: Failure) -> Result<Option<(bool, bool)>, Fail> {
-    let mut editor = opened(alloc, failure)?;
-    let is_refused = is_refused(&mut editor, failure.which);
-    let left = left_by(editor);
-    let is_whole = is_whole(alloc, &left)?;
+    let left = left_after(alloc, failure, false)?;
+    let is_refused = left.fault == Some(EditFault::Store(failure.which));
+    let is_whole = is_whole(alloc, left.data_store.store(), left.hash_store.store())?;
     Ok(is_refused.then_some((left.broken, is_whole)))
 }
 
 // The calls at a store of `open` and a commit none of whose calls fails.
 fn calls(alloc: Global, which: Which) -> Result<u64, Fail> {
-    let mut editor = opened(alloc, Failure { which, call: 0 })?;
-    let is_done = is_edited(&mut editor) && editor.commit().is_ok();
+    let left = left_after(alloc, Failure { which, call: 0 }, false)?;
     Ok(match which {
-        _ if !is_done => 0,
-        Which::Data => editor.data_store().calls(),
-        Which::Hash => editor.hash_store().calls(),
+        _ if left.fault.is_some() => 0,
+        Which::Data => left.data_store.calls(),
+        Which::Hash => left.hash_store.calls(),
     })
 }
 

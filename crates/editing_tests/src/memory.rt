@@ -111,16 +111,36 @@ fn squeezed<D: BlockStore, H: BlockStore, A: Allocator + Copy>(
     Ok(fault)
 }
 
-// Whether nothing is edited by a refused write, and both stores are as before a refused commit, whose edits are still pending.
-fn stays<S: Allocator + Drop, A: Allocator + Copy>(
-    editor: Editor<MemStore<S>, MemStore<S>, A>,
+// An editor over the case's volume, of which a call had so little room in a heap, and why that was refused.
+fn squeezed_in<S: Allocator + Copy + Drop, A: Allocator + Copy>(
+    alloc: Global,
+    stores_in: S,
+    edits_in: A,
+    heap: &LocalHeap,
+    room: usize,
     call: Call,
     case: &Case,
-) -> bool {
-    match call {
+) -> Result<(Editor<MemStore<S>, MemStore<S>, A>, Option<EditFault>), Fail> {
+    let mut editor = opened_in(stores_in, edits_in, &case.old, SIZE)?;
+    let fault = squeezed(alloc, &mut editor, heap, room, call, case.count)?;
+    Ok((editor, fault))
+}
+
+// Whether a call was refused for memory, and nothing is edited by a refused write, and both stores are as before a refused commit,
+// whose edits are still pending. None where it wasn't refused.
+fn stays<S: Allocator + Drop, A: Allocator + Copy>(
+    editor: Editor<MemStore<S>, MemStore<S>, A>,
+    fault: Option<EditFault>,
+    call: Call,
+    case: &Case,
+) -> Option<bool> {
+    let is_memory = fault? == EditFault::NoMemory;
+    let is_pending = editor.blocks() == case.count;
+    let is_right = match call {
         Call::Write => commits_to(editor, &case.old),
-        Call::Commit => editor.blocks() == case.count && holds(editor, &case.old),
-    }
+        Call::Commit => holds(editor, &case.old) && is_pending,
+    };
+    Some(is_memory && is_right)
 }
 
 // Whether the refused call is done with ample room.
@@ -148,14 +168,12 @@ fn is_refused_well<S: Allocator + Copy + Drop, A: Allocator + Copy>(
     call: Call,
     case: &Case,
 ) -> Result<Option<bool>, Fail> {
-    let mut editor = opened_in(stores_in, edits_in, &case.old, SIZE)?;
-    let Some(fault) = squeezed(alloc, &mut editor, heap, room, call, case.count)? else {
+    let (editor, fault) = squeezed_in(alloc, stores_in, edits_in, heap, room, call, case)?;
+    let Some(stays) = stays(editor, fault, call, case) else {
         return Ok(None);
     };
-    let stays = fault == EditFault::NoMemory && stays(editor, call, case);
-    let mut editor = opened_in(stores_in, edits_in, &case.old, SIZE)?;
-    let _fault = squeezed(alloc, &mut editor, heap, room, call, case.count)?;
-    Ok(Some(stays && goes_on(editor, call, case)))
+    let (editor, _fault) = squeezed_in(alloc, stores_in, edits_in, heap, room, call, case)?;
+    Ok(Some(goes_on(editor, call, case) && stays))
 }
 
 // What takes memory of the heap with little room.

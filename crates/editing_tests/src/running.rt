@@ -85,16 +85,36 @@ fn fills_after(alloc: Global, replies: &[Reply]) -> Result<Option<Fills>, Fail> 
     Ok(Some(fills))
 }
 
+// What the commands came to: the editor, the replies, and what those with a reply leave.
+#[derive(Drop)]
+struct Ran<'a> {
+    editor: Bounded<'a>,
+    replies: Vec<Reply>,
+    fills: Fills,
+}
+
+// Does the commands over a volume of one zero block with so much room. None where a reply is wrong.
+fn run_all<'a>(alloc: Global, heap: &'a LocalHeap, room: usize) -> Result<Option<Ran<'a>>, Fail> {
+    let editor = opened_in(alloc, heap, &scratch(alloc, &[0])?, WIDE)?;
+    let (editor, replies) = run_in(alloc, heap, room, editor)?;
+    match fills_after(alloc, &replies)? {
+        Some(fills) => Ok(Some(Ran {
+            editor,
+            replies,
+            fills,
+        })),
+        None => Ok(None),
+    }
+}
+
 // The replies with so much room. None where the stores then don't hold what the commands with a reply committed.
 fn stands(alloc: Global, room: usize) -> Result<Option<Vec<Reply>>, Fail> {
     let heap = LocalHeap::new(alloc, AMPLE)?;
-    let editor = opened_in(alloc, &heap, &scratch(alloc, &[0])?, WIDE)?;
-    let (editor, replies) = run_in(alloc, &heap, room, editor)?;
-    let Some(fills) = fills_after(alloc, &replies)? else {
+    let Some(ran) = run_all(alloc, &heap, room)? else {
         return Ok(None);
     };
-    if holds(editor, &scratch(alloc, &fills.committed)?) {
-        Ok(Some(replies))
+    if holds(ran.editor, &scratch(alloc, &ran.fills.committed)?) {
+        Ok(Some(ran.replies))
     } else {
         Ok(None)
     }
@@ -103,13 +123,11 @@ fn stands(alloc: Global, room: usize) -> Result<Option<Vec<Reply>>, Fail> {
 // Whether a commit after the commands leaves what those with a reply made.
 fn goes_on(alloc: Global, room: usize) -> Result<bool, Fail> {
     let heap = LocalHeap::new(alloc, AMPLE)?;
-    let editor = opened_in(alloc, &heap, &scratch(alloc, &[0])?, WIDE)?;
-    let (editor, replies) = run_in(alloc, &heap, room, editor)?;
-    let Some(fills) = fills_after(alloc, &replies)? else {
+    let Some(ran) = run_all(alloc, &heap, room)? else {
         return Ok(false);
     };
-    let wanted = scratch(alloc, &fills.working)?;
-    let mut editor = editor;
+    let wanted = scratch(alloc, &ran.fills.working)?;
+    let mut editor = ran.editor;
     Ok(editor.commit().is_ok() && holds(editor, &wanted))
 }
 

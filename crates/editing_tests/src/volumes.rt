@@ -3,6 +3,7 @@
 use std::alloc::{Allocator, Global};
 use std::test::Fail;
 use test_volumes::{BuiltVolume, make_volume, numbered};
+use verity_digest::Digest;
 use verity_edit::Editor;
 use verity_store::{BlockStore, MemStore};
 
@@ -35,9 +36,18 @@ pub fn holds<S: Allocator, A: Allocator + Copy>(
     editor: Editor<MemStore<S>, MemStore<S>, A>,
     wanted: &BuiltVolume,
 ) -> bool {
-    let is_right = !editor.broken() && editor.root() == wanted.root;
-    let (data_store, hash_store) = editor.close();
+    let (is_right, data_store, hash_store) = closed(editor, wanted.root);
     is_right && is_same(&data_store, &hash_store, wanted)
+}
+
+// Whether an editor isn't broken and has a root hash, and both stores.
+fn closed<D: BlockStore, H: BlockStore, A: Allocator + Copy>(
+    editor: Editor<D, H, A>,
+    root: Digest,
+) -> (bool, D, H) {
+    let is_right = !editor.broken() && editor.root() == root;
+    let (data_store, hash_store) = editor.close();
+    (is_right, data_store, hash_store)
 }
 
 // Whether two stores hold a volume.

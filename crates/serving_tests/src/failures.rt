@@ -6,6 +6,7 @@ use std::alloc::Global;
 use std::test::Fail;
 use test_stores::FailStore;
 use test_volumes::image;
+use verity_store::BlockStore;
 
 /// Two READs one after the other: the blocks 4 to 6, and 14 to 16.
 const RANGES: [(u64, u32); 2] = [(2048, 1536), (7168, 1536)];
@@ -32,9 +33,19 @@ fn expected(alloc: Global, refused: [bool; 2]) -> Result<Vec<u8>, Fail> {
 fn said_with(alloc: Global, data_call: u64, hash_call: u64) -> Result<Vec<u8>, Fail> {
     let data = FailStore::at(data_17(alloc)?, data_call);
     let hash = FailStore::at(hash_17(alloc)?, hash_call);
-    let hub = hub_17(alloc, data, hash, 1)?;
+    said_over(alloc, data, hash)
+}
+
+/// What is said over these stores.
+fn said_over<D: BlockStore + Drop, H: BlockStore + Drop>(
+    alloc: Global,
+    data: D,
+    hash: H,
+) -> Result<Vec<u8>, Fail> {
+    let client = client(alloc, &RANGES)?;
     let mut said = Vec::new(alloc);
-    serve_once(hub, &client(alloc, &RANGES)?, &mut said)?;
+    let hub = hub_17(alloc, data, hash, 1)?;
+    serve_once(hub, &client, &mut said)?;
     Ok(said)
 }
 

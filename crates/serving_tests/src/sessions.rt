@@ -4,7 +4,7 @@ use crate::clients::*;
 use crate::volumes::*;
 use std::alloc::{AllocError, Global};
 use std::test::Fail;
-use verity_hub::{Event, Piece};
+use verity_hub::{Event, HubReply, Piece};
 
 /// 65 sessions are opened, one is ended, the next is opened, and the ended one is fed and ended again.
 fn crowd(alloc: Global) -> Result<Vec<Event>, AllocError> {
@@ -20,13 +20,18 @@ fn crowd(alloc: Global) -> Result<Vec<Event>, AllocError> {
     Ok(events)
 }
 
-#[test]
-fn a_65th_session_is_refused(rt: HostRuntime) -> Result<(), Fail> {
-    let alloc = rt.alloc();
+/// What a hub replies to them.
+fn replies_to_a_crowd(alloc: Global) -> Result<Vec<HubReply>, Fail> {
     let events = crowd(alloc)?;
     let mut replies = Vec::new(alloc);
     let hub = hub_17(alloc, data_17(alloc)?, hash_17(alloc)?, 1)?;
     run_once(hub, &events, &mut replies)?;
+    Ok(replies)
+}
+
+#[test]
+fn a_65th_session_is_refused(rt: HostRuntime) -> Result<(), Fail> {
+    let replies = replies_to_a_crowd(rt.alloc())?;
     assert_eq!(rt; replies.len(), 70);
     for (number, reply) in (0..64).zip(&replies) {
         assert_eq!(rt; kind(reply), ("opened", number));

@@ -16,17 +16,23 @@ fn expected(alloc: Global, error: u32, data: &[u8]) -> Result<Vec<u8>, AllocErro
     Ok(said)
 }
 
+/// GO and the READ of block 3.
+fn asked(alloc: Global) -> Result<Vec<u8>, AllocError> {
+    let mut input = Vec::from_slice(alloc, GO)?;
+    add_read(&mut input, 1536, 512)?;
+    Ok(input)
+}
+
 /// How the stream was left, and what was said, where the hub's memory has so much room and the verifier fits into it.
 fn served_within(
     alloc: Global,
     room: usize,
 ) -> Result<Option<(Option<ServeFault>, Vec<u8>)>, Fail> {
+    let input = asked(alloc)?;
     let heap = LocalHeap::new(alloc, room)?;
     let Some(hub) = hub_within(&heap, data_17(alloc)?, hash_17(alloc)?) else {
         return Ok(None);
     };
-    let mut input = Vec::from_slice(alloc, GO)?;
-    add_read(&mut input, 1536, 512)?;
     let mut said = Vec::new(alloc);
     let fault = serve_once(hub, &input, &mut said).err();
     Ok(Some((fault, said)))
