@@ -18,7 +18,7 @@ use std::io::{Eprint, IsTerminal, Write};
 use std::rt::Files;
 use std::time::Clock;
 use uuid::Uuid;
-use verity_build::{BuildParameters, build_at};
+use verity_build::{BuildFault, BuildParameters, build_at};
 use verity_digest::{Algorithm, Digest};
 use verity_files::{
     Command, Failure, Fault, Identity, Opened, VolumeStore, Word, algorithm, block_size,
@@ -132,21 +132,19 @@ fn make<R: Files<File = File> + Clock + Eprint + AllocGlobal>(
     let params = BuildParameters::new(salt(rt.alloc(), salt_bytes)?, shape.uuid, shape.algorithm);
     let (data_store, data) = open_data(rt, words.data_path, shape)?;
     check_gate(rt, words.hash_path)?;
-    let (mut hash_store, is_new) = open_hash(rt, words.hash_path, shape, data)?;
+    let (hash_store, is_new) = open_hash(rt, words.hash_path, shape, data)?;
     let hash_size = hash_store.block_size();
-    let progress = progress_of(rt, is_watched, &data_store);
-    let mut data_store = Watched::new(data_store, progress.as_ref());
-    let built = build_at(
-        rt.alloc(),
-        &mut data_store,
-        &mut hash_store,
+    let built = build_watched(
+        rt,
+        is_watched,
+        data_store,
+        hash_store,
         &params,
         shape.hash_offset,
     );
-    end_progress(progress.as_ref());
     match built {
-        Ok(root) => Ok(Made {
-            data_blocks: data_store.len(),
+        Ok((data_blocks, root)) => Ok(Made {
+            data_blocks,
             hash_start_block: tree_start(shape.hash_offset, hash_size)?,
             root,
         }),
@@ -157,6 +155,24 @@ fn make<R: Files<File = File> + Clock + Eprint + AllocGlobal>(
             Err(fault.into())
         }
     }
+}
+
+/// Builds the hash device of the image in a store, which is shown where someone looks on, and answers how many data blocks the image
+/// has, and the root hash.
+fn build_watched<R: Clock + Eprint + AllocGlobal>(
+    rt: &R,
+    is_watched: bool,
+    data_store: VolumeStore,
+    hash_store: VolumeStore,
+    params: &BuildParameters,
+    offset: u64,
+) -> Result<(u64, Digest), BuildFault> {
+    let progress = progress_of(rt, is_watched, &data_store);
+    let mut data_store = Watched::new(data_store, progress.as_ref());
+    let mut hash_store = hash_store;
+    let built = build_at(rt.alloc(), &mut data_store, &mut hash_store, params, offset);
+    end_progress(progress.as_ref());
+    Ok((data_store.len(), built?))
 }
 
 fn data_blocks(asked: Option<&str>) -> Result<Option<u64>, Failure>
