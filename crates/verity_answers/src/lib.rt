@@ -4,10 +4,11 @@
 //! What a commit is worth the contracts of the layers below say. Here a script is read whole (`read_script`), and each of its lines is
 //! done by one call of an editor, or is a commit, which reaches the volume's files as `Commits` has it. Over an output whose bytes are
 //! known, a script prints as many answers as it has lines that aren't empty, a line each, and its status is 0 exactly where none is a
-//! refusal (`run_script`); an update prints how many blocks were changed, and the table line of its commit (`print_update`). That each
-//! line is answered by what was done of it is shown by tests.
+//! refusal (`run_script`); a commit is the editor's, or is refused where a device has no room for it (`commit`); an update prints how
+//! many blocks were changed, and the table line of its commit (`print_update`). That each line is answered by what was done of it is
+//! shown by tests.
 //!
-//! The definitions stand in `specs/`: `Printed` (answers and their lines).
+//! The definitions stand in `specs/`: `Printed` (answers and their lines), `Room` (a device with too little of it).
 #![tactic(auto)]
 
 mod script;

@@ -1,7 +1,10 @@
 //! A script over a volume: read whole, then done line by line.
 
-ghost use Rattle.std.specs.Prelude.{◌≡◌, ◌==◌, ◌<◌, ◌+◌, ℕ, length, take, drop, IfOk, IfErr, IfSome, IsSome, Some, None};
+ghost use Rattle.std.specs.Prelude.{◌≡◌, ◌==◌, ◌<◌, ◌≤◌, ◌+◌, ◌↔◌, ℕ, false, length, take, drop};
+ghost use Rattle.std.specs.Prelude.{IfOk, IfErr, IfSome, IsSome, Some, None, Err};
 ghost use Rattle.std.specs.List.{position};
+ghost use Rattle.verity_profile.specs.Profile.{IsBlockCount};
+ghost use Rattle.verity_answers.specs.Room.{LacksRoom};
 ghost use Rattle.verity_answers.specs.Printed.{AreAnswers, EndsAnswers, answers_of, answers_to, told_status};
 
 use std::alloc::{AllocError, Global};
@@ -246,7 +249,13 @@ pub fn commit<V: Edits, C: Commits<V>>(
     editor: V,
     commits: &mut C,
     devices: Devices<'_>,
-) -> (V, Result<Committed, Fault>) {
+) -> (V, Result<Committed, Fault>)
+    ensures done { IfOk result.1 (λ committed. (begun : V) × C.stands_for editor begun × V.commits begun result.0 committed) }
+    ensures data_room { devices.entry.data_room < V.count editor → result ≡ (editor, Err (Fault.Edit (EditFault.Store Which.Data))) }
+    ensures hash_room { V.count editor ≤ devices.entry.data_room → IsBlockCount (V.count editor)
+        → LacksRoom devices.entry (V.volume editor) (V.count editor)
+        → result ≡ (editor, Err (Fault.Edit (EditFault.Store Which.Hash))) }
+{
     if editor.blocks() > devices.data_room {
         return (editor, Err(Fault::Edit(EditFault::Store(Which::Data))));
     }
@@ -257,7 +266,10 @@ pub fn commit<V: Edits, C: Commits<V>>(
 }
 
 /// Whether HASH can hold the tree of the working image.
-fn has_room<V: Edits>(editor: &V, devices: Devices<'_>) -> bool {
+fn has_room<V: Edits>(editor: &V, devices: Devices<'_>) -> bool
+    ensures { (result ≡ false) ↔ (IsBlockCount (V.count editor.now)
+        × LacksRoom devices.entry (V.volume editor.now) (V.count editor.now)) }
+{
     let blocks = editor.blocks();
     if !is_block_count(blocks) {
         return true;

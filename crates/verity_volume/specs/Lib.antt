@@ -1,3 +1,4 @@
 pub mod Journals
 pub mod Lines
+pub mod Opening
 pub mod Refusals

@@ -1,4 +1,5 @@
 //! How the commits of an editor reach a volume's files.
+ghost use Rattle.std.specs.Prelude.{◌≡◌, ◌⊎◌, Bool, IfOk};
 
 use crate::edits::Edits;
 use crate::journal::{FileKeeper, fault_of_disks, make_journal, remove_journal};
@@ -11,12 +12,20 @@ use verity_files::{Fault, Opened};
 use verity_store::StoreFault;
 
 /// How the commits of an editor of the type `V` reach a volume's files.
-pub trait Commits<V> {
+pub trait Commits<V: Edits> {
+    /// Whether no commit is made any more, though the editor isn't broken.
+    ghost stopped: { Self → Bool };
+
+    /// An editor and what stands for it in a commit.
+    ghost stands_for: { V → V → Type 0 };
+
     /// Commits, and brings what was committed to the files. The editor comes back.
-    fn commit(&mut self, editor: V) -> (V, Result<Committed, Fault>);
+    fn commit(&mut self, editor: V) -> (V, Result<Committed, Fault>)
+        ensures { IfOk result.1 (λ committed. (begun : V) × stands_for editor begun × V.commits begun result.0 committed) };
 
     /// Whether no commit is made any more, though the editor isn't broken.
-    fn is_broken(&self) -> bool;
+    fn is_broken(&self) -> bool
+        ensures { result ≡ stopped self.now };
 }
 
 /// The stores are the files: what was committed is there.
@@ -24,6 +33,12 @@ pub trait Commits<V> {
 pub struct Direct;
 
 impl<V: Edits> Commits<V> for Direct {
+    ghost use Rattle.std.specs.Prelude.{◌≡◌, false};
+
+    ghost stopped = { λ _. false };
+
+    ghost stands_for = { λ editor begun. begun ≡ editor };
+
     fn commit(&mut self, editor: V) -> (V, Result<Committed, Fault>) {
         match editor.commit() {
             (editor, Ok(committed)) => (editor, Ok(committed)),
@@ -84,7 +99,9 @@ impl<'a, R: Files<File = File> + AllocGlobal> Journalled<'a, R> {
     }
 
     /// Makes ready for a commit: nothing is staged, and there is a journal.
-    fn begin<V: StagedEdits>(&mut self, editor: &mut V) -> Result<(), Fault> {
+    fn begin<V: StagedEdits>(&mut self, editor: &mut V) -> Result<(), Fault>
+        ensures { (editor.new ≡ editor.old) ⊎ V.restaged editor.old editor.new }
+    {
         if self.is_staged {
             editor.restage(self.rt.alloc(), self.data.again()?, self.hash.again()?)?;
             self.is_staged = false;
@@ -97,6 +114,12 @@ impl<'a, R: Files<File = File> + AllocGlobal> Journalled<'a, R> {
 }
 
 impl<'a, R: Files<File = File> + AllocGlobal, V: StagedEdits> Commits<V> for Journalled<'a, R> {
+    ghost use Rattle.std.specs.Prelude.{◌≡◌, ◌⊎◌};
+
+    ghost stopped = { λ c. c.is_broken };
+
+    ghost stands_for = { λ editor begun. (begun ≡ editor) ⊎ V.restaged editor begun };
+
     fn commit(&mut self, editor: V) -> (V, Result<Committed, Fault>) {
         let mut editor = editor;
         if let Err(fault) = self.begin(&mut editor) {

@@ -1,7 +1,10 @@
 //! A volume as the commands work on it: its two files and its journal, the stores over them, staged or not, the editors over
 //! these and how their commits are carried out, the lines that are printed of it, and how far a command is.
 //!
-//! What it prints and refuses is shown by tests. The work is done by the layers below, whose contracts say what it is worth.
+//! The sizes and stores that a volume is opened with are those of its table line, or of its superblock, in the files that were given
+//! (`open_volume`); an editor answers and commits as the one that it is (`Edits`), and a commit through a journal is its own
+//! (`Commits`). What the files hold, and which files their paths lead to, is shown by tests. The work is done by the layers below, whose
+//! contracts say what it is worth.
 #![tactic(auto)]
 
 mod commits;

@@ -1,7 +1,10 @@
 //! A volume's files, opened to be edited.
-ghost use Rattle.std.specs.Prelude.{◌≡◌, ◌≢◌, None, Ok, Err, IfSome, IfErr};
+ghost use Rattle.std.specs.Prelude.{◌≡◌, ◌≢◌, ◌-◌, ◌*◌, ◌/◌, ◌^◌, false, min, None, Ok, Err};
+ghost use Rattle.std.specs.Prelude.{IfSome, IfOk, IfErr, IsErr};
+ghost use Rattle.verity_files.specs.VolumeFiles.{LiesIn, room_in};
 ghost use Rattle.verity_files.specs.Words.{number_in};
 ghost use Rattle.verity_files.specs.declared.failure.Word.TheVariants as word;
+ghost use Rattle.verity_volume.specs.Opening.{AreAt, AreSizes};
 ghost use Rattle.verity_volume.specs.Refusals.{BlamesNone, BlamesAtMost};
 
 use crate::superblock::read_superblock;
@@ -13,7 +16,7 @@ use verity_files::{
     Command, Failure, Fault, Opened, VolumeStore, Word, check_apart, number, open_there, room_of,
     store_of_most, take_lock,
 };
-use verity_store::{StoreFault, Which};
+use verity_store::{BlockStore, StoreFault, Which};
 use verity_superblock::{SuperFault, Table};
 
 /// A volume's stores, and what they were opened with.
@@ -70,7 +73,8 @@ pub fn offset_of(table: Option<&str>, offset: Option<&str>) -> Result<u64, Failu
     }
 }
 
-/// Opens a volume's stores: of what a table line says; or else the superblock at an offset of HASH.
+/// Opens a volume's stores: of what a table line says; or else the superblock at an offset of HASH. Of a device its data store is as
+/// long as the volume's image, and its hash store as the device. There is no volume where there is no DATA.
 pub fn open_volume(
     alloc: Global,
     line: &Option<Table>,
@@ -78,7 +82,23 @@ pub fn open_volume(
     data: Result<Opened, StoreFault>,
     hash: Opened,
 ) -> Result<OpenedVolume, Failure>
-    ensures { IfErr result BlamesNone }
+    ensures sizes { IfOk result (λ volume. AreSizes line.now offset volume.sizes) }
+    ensures data_lies { IfOk result (λ volume. IfOk «data» (λ opened. LiesIn opened.identity opened.file false opened.len
+        (min volume.sizes.data_blocks (opened.len / volume.sizes.data_block_size) * volume.sizes.data_block_size)
+        volume.data_store.file)) }
+    ensures data_size { IfOk result (λ volume.
+        ⟦<VolumeStore as BlockStore>⟧.size volume.data_store ≡ volume.sizes.data_block_size) }
+    ensures data_room { IfOk result (λ volume. IfOk «data» (λ opened.
+        volume.sizes.data_room ≡ room_in opened.identity opened.len volume.sizes.data_block_size)) }
+    ensures hash_lies { IfOk result (λ volume. LiesIn hash.identity hash.file false hash.len
+        (min (2 ^ 64 - 1) (hash.len / volume.sizes.hash_block_size) * volume.sizes.hash_block_size) volume.hash_store.file) }
+    ensures hash_size { IfOk result (λ volume.
+        ⟦<VolumeStore as BlockStore>⟧.size volume.hash_store ≡ volume.sizes.hash_block_size) }
+    ensures hash_room { IfOk result (λ volume.
+        volume.sizes.hash_room ≡ room_in hash.identity hash.len volume.sizes.hash_block_size) }
+    ensures again { IfOk result (λ volume. (volume.again.identity ≡ hash.identity) × (volume.again.len ≡ hash.len)) }
+    ensures missing { IsErr «data» → IsErr result }
+    ensures refused { IfErr result BlamesNone }
 {
     let again = hash.again()?;
     let sizes = sizes_of(alloc, line, &hash, offset)?;
@@ -98,7 +118,9 @@ fn sizes_of(
     hash: &Opened,
     offset: u64,
 ) -> Result<Sizes, Failure>
-    ensures { IfErr result BlamesNone }
+    ensures sizes { IfOk result (AreSizes line.now offset) }
+    ensures hash_room { IfOk result (λ sizes. sizes.hash_room ≡ room_in hash.now.identity hash.now.len sizes.hash_block_size) }
+    ensures refused { IfErr result BlamesNone }
 {
     match line {
         Some(table) => Ok(Sizes {
@@ -115,7 +137,9 @@ fn sizes_of(
 
 /// What the superblock at an offset of HASH says of them.
 fn read_sizes(alloc: Global, hash: &Opened, offset: u64) -> Result<Sizes, Failure>
-    ensures { IfErr result BlamesNone }
+    ensures sizes { IfOk result (AreAt offset) }
+    ensures hash_room { IfOk result (λ sizes. sizes.hash_room ≡ room_in hash.now.identity hash.now.len sizes.hash_block_size) }
+    ensures refused { IfErr result BlamesNone }
 {
     match read_superblock(alloc, hash.again()?, offset) {
         Ok((superblock, hash_start_block)) => Ok(Sizes {
@@ -145,7 +169,17 @@ fn open_stores(
     hash: Opened,
     sizes: Sizes,
 ) -> Result<(VolumeStore, VolumeStore, Sizes), Failure>
-    ensures { IfErr result BlamesNone }
+    ensures sizes { IfOk result (λ opened. opened.2 ≡ record sizes { data_room = opened.2.data_room }) }
+    ensures data_lies { IfOk result (λ stores. IfOk «data» (λ opened. LiesIn opened.identity opened.file false opened.len
+        (min sizes.data_blocks (opened.len / sizes.data_block_size) * sizes.data_block_size) stores.0.file)) }
+    ensures data_size { IfOk result (λ stores. ⟦<VolumeStore as BlockStore>⟧.size stores.0 ≡ sizes.data_block_size) }
+    ensures data_room { IfOk result (λ stores. IfOk «data» (λ opened.
+        stores.2.data_room ≡ room_in opened.identity opened.len sizes.data_block_size)) }
+    ensures hash_lies { IfOk result (λ stores. LiesIn hash.identity hash.file false hash.len
+        (min (2 ^ 64 - 1) (hash.len / sizes.hash_block_size) * sizes.hash_block_size) stores.1.file) }
+    ensures hash_size { IfOk result (λ stores. ⟦<VolumeStore as BlockStore>⟧.size stores.1 ≡ sizes.hash_block_size) }
+    ensures missing { IsErr «data» → IsErr result }
+    ensures refused { IfErr result BlamesNone }
 {
     let mut sizes = sizes;
     let data = data?;

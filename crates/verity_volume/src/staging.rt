@@ -1,5 +1,5 @@
 //! The editors whose commits go through a journal: over stores whose changes are kept beside a volume's files until then.
-ghost use Rattle.std.specs.Prelude.{◌≡◌, false, length, IfOk, IfErr};
+ghost use Rattle.std.specs.Prelude.{◌≡◌, Bool, false, length, IfOk, IfErr, OnErr, OnOk};
 ghost use Rattle.verity_volume.specs.Refusals.{IsOfStore, IsOfStores};
 
 use crate::edits::Edits;
@@ -39,9 +39,18 @@ impl<'a, M: Meter> OverFile for Watched<'a, VolumeStore, M> {
 
 /// An editor over two staged stores.
 pub trait StagedEdits: Edits {
+    /// Whether memory for what is staged was refused.
+    ghost starved: { Self → Bool };
+
+    /// The same editor over two other stores.
+    ghost restaged: { Self → Self → Type 0 };
+
     /// Goes on over files that hold by now what its stores do, with nothing staged. E6 where one hasn't its store's length.
     fn restage(&mut self, alloc: Global, data: Opened, hash: Opened) -> Result<(), Fault>
-        ensures { IfErr result IsOfStores };
+        ensures same { OnOk result (restaged self.old self.new) }
+        ensures unchanged { OnErr result (self.new ≡ self.old) }
+        ensures fresh { OnOk result (starved self.new ≡ false) }
+        ensures refused { IfErr result IsOfStores };
 
     /// Commits, and brings what is staged through a journal, which has these names of the files, to them. The editor comes back.
     fn commit_through(
@@ -49,16 +58,25 @@ pub trait StagedEdits: Edits {
         alloc: Global,
         keeper: &mut FileKeeper,
         names: &[u8],
-    ) -> (Self, Result<Committed, CommitFault>);
+    ) -> (Self, Result<Committed, CommitFault>)
+        ensures { IfOk result.1 (Self.commits self result.0) };
 
     /// Whether a commit failed since memory for what is staged was refused.
-    fn is_starved(&self) -> bool;
+    fn is_starved(&self) -> bool
+        ensures { result ≡ starved self.now };
 }
 
 impl<D: OverFile, H: OverFile> StagedEdits for Editor<Staged<D>, Staged<H>> {
+    ghost use Rattle.std.specs.Prelude.{◌≡◌, ◌||◌};
+
+    ghost starved = { λ e. e.data_store.is_starved || e.hash_store.is_starved };
+
+    ghost restaged = { λ old new. new ≡ record old { data_store = new.data_store; hash_store = new.hash_store } };
+
     fn restage(&mut self, alloc: Global, data: Opened, hash: Opened) -> Result<(), Fault> {
-        let data = restaged(alloc, data, self.data_store(), Which::Data)?;
-        let hash = restaged(alloc, hash, self.hash_store(), Which::Hash)?;
+        let (old_data, old_hash) = stores_of(self);
+        let data = restaged(alloc, data, old_data, Which::Data)?;
+        let hash = restaged(alloc, hash, old_hash, Which::Hash)?;
         let _old = self.change_stores(data, hash);
         Ok(())
     }
@@ -75,14 +93,22 @@ impl<D: OverFile, H: OverFile> StagedEdits for Editor<Staged<D>, Staged<H>> {
     }
 
     fn is_starved(&self) -> bool {
-        self.data_store().is_starved() || self.hash_store().is_starved()
+        let (data_store, hash_store) = stores_of(self);
+        data_store.is_starved() || hash_store.is_starved()
     }
 }
 
 impl<D: OverFile, H: OverFile> StagedEdits for LineEditor<Staged<D>, Staged<H>> {
+    ghost use Rattle.std.specs.Prelude.{◌≡◌, ◌||◌};
+
+    ghost starved = { λ e. e.data_store.is_starved || e.hash_store.is_starved };
+
+    ghost restaged = { λ old new. new ≡ record old { data_store = new.data_store; hash_store = new.hash_store } };
+
     fn restage(&mut self, alloc: Global, data: Opened, hash: Opened) -> Result<(), Fault> {
-        let data = restaged(alloc, data, self.data_store(), Which::Data)?;
-        let hash = restaged(alloc, hash, self.hash_store(), Which::Hash)?;
+        let (old_data, old_hash) = stores_under(self);
+        let data = restaged(alloc, data, old_data, Which::Data)?;
+        let hash = restaged(alloc, hash, old_hash, Which::Hash)?;
         let _old = self.change_stores(data, hash);
         Ok(())
     }
@@ -97,8 +123,25 @@ impl<D: OverFile, H: OverFile> StagedEdits for LineEditor<Staged<D>, Staged<H>> 
     }
 
     fn is_starved(&self) -> bool {
-        self.data_store().is_starved() || self.hash_store().is_starved()
+        let (data_store, hash_store) = stores_under(self);
+        data_store.is_starved() || hash_store.is_starved()
     }
+}
+
+/// Both stores of an editor.
+fn stores_of<D: BlockStore, H: BlockStore>(editor: &Editor<D, H>) -> (&D, &H)
+    ensures data_store { result.0.now ≡ editor.now.data_store }
+    ensures hash_store { result.1.now ≡ editor.now.hash_store }
+{
+    (editor.data_store(), editor.hash_store())
+}
+
+/// Both stores of an editor under a table line.
+fn stores_under<D: BlockStore, H: BlockStore>(editor: &LineEditor<D, H>) -> (&D, &H)
+    ensures data_store { result.0.now ≡ editor.now.data_store }
+    ensures hash_store { result.1.now ≡ editor.now.hash_store }
+{
+    (editor.data_store(), editor.hash_store())
 }
 
 /// A store with nothing staged over a file that holds by now what a staged store does. E6 of this store where it hasn't its length, or
@@ -113,6 +156,7 @@ fn restaged<S: OverFile>(
     ensures len { IfOk result (λ s. length (⟦<Staged<S> as BlockStore>⟧.content s)
         ≡ length (⟦<Staged<S> as BlockStore>⟧.content old.now)) }
     ensures unknown { IfOk result (λ s. ⟦<Staged<S> as BlockStore>⟧.tells s ≡ false) }
+    ensures starved { IfOk result (λ s. s.is_starved ≡ false) }
     ensures refused { IfErr result (IsOfStore which) }
 {
     let size = old.block_size();

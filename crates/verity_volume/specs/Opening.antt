@@ -1,0 +1,22 @@
+-- What a volume's files are opened with.
+use Rattle.std.specs.Prelude.{◌≡◌, ℕ, Option, Some, None}
+use Rattle.verity_superblock.specs.Image.{CanBegin, start_behind}
+use Rattle.verity_superblock.specs.Line.{TableLine}
+use Rattle.verity_volume.specs.declared.opened_volume.Sizes.{Sizes}
+
+-- what a table line says
+pub record AreOf (table : TableLine) (sizes : Sizes) : Type 0 where
+  pub data_block_size : sizes.data_block_size ≡ table.data_block_size
+  pub hash_block_size : sizes.hash_block_size ≡ table.hash_block_size
+  pub data_blocks : sizes.data_blocks ≡ table.data_blocks
+  pub hash_start_block : sizes.hash_start_block ≡ table.hash_start_block
+
+-- what a superblock at a byte offset says: its tree begins behind it
+pub record AreAt (offset : ℕ) (sizes : Sizes) : Type 0 where
+  pub begins : CanBegin offset sizes.hash_block_size
+  pub start : sizes.hash_start_block ≡ start_behind offset sizes.hash_block_size
+
+-- a table line's, where there is one, else those of the superblock at a byte offset
+abbrev pub AreSizes : Option TableLine → ℕ → Sizes → Type 0
+AreSizes (Some table) offset sizes = AreOf table sizes
+AreSizes None offset sizes = AreAt offset sizes
