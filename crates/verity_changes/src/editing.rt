@@ -1,4 +1,6 @@
 //! The command `edit`: does a script's lines over a volume.
+ghost use Rattle.std.specs.Prelude.{IfOk};
+ghost use Rattle.verity_changes.specs.Printing.{IsDoneAt, IsEdited};
 
 use crate::over::{Words, Work, do_over};
 use std::fs::File;
@@ -21,7 +23,10 @@ pub fn edit<R: Files<File = File> + Clock + Eprint + AllocGlobal, W: Write, E: W
     words: &EditWords<'_>,
     output: &mut W,
     errors: &mut E,
-) -> Result<u8, Failure> {
+) -> Result<u8, Failure>
+    ensures { IfOk result (λ status. IsDoneAt IsEdited words.now.data_path.now words.now.hash_path.now (W.contents output.old)
+        (W.contents output.new) status) }
+{
     check_paths(words.data_path, words.hash_path)?;
     let over = Words {
         command: Command::Edit,
@@ -45,6 +50,10 @@ struct Lines<'a> {
 }
 
 impl<'a> Work for Lines<'a> {
+    ghost use Rattle.verity_changes.specs.Printing.{IsEdited};
+
+    ghost prints = { IsEdited };
+
     fn begin<R: Files<File = File> + AllocGlobal>(
         &mut self,
         _rt: &R,

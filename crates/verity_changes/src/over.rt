@@ -1,4 +1,7 @@
 //! What `edit` and `update` have in common: a volume, opened to be edited, and its journal.
+ghost use Rattle.std.specs.Prelude.{◌≡◌, ℕ, List, Option, IfOk};
+ghost use Rattle.verity_volume.specs.declared.lines.Devices.{Devices};
+ghost use Rattle.verity_changes.specs.Printing.{IsDoneAt};
 
 use std::alloc::Global;
 use std::fs::File;
@@ -34,6 +37,9 @@ pub struct Words<'a> {
 
 /// What is done over a volume.
 pub trait Work {
+    /// What it prints over a volume on these devices, and its status.
+    ghost prints: { Devices → Option (List ℕ) → Option (List ℕ) → ℕ → Type 0 };
+
     /// Opens what more is read, once both files are opened, of which DATA may be missing.
     fn begin<R: Files<File = File> + AllocGlobal>(
         &mut self,
@@ -61,7 +67,8 @@ pub trait Work {
         devices: Devices<'_>,
         output: &mut W,
         errors: &mut E,
-    ) -> Result<u8, Failure>;
+    ) -> Result<u8, Failure>
+        ensures { IfOk result (λ status. prints devices.entry (W.contents output.old) (W.contents output.new) status) };
 }
 
 /// Opens both files and tells them apart, makes whole what stands in the journal, opens the volume, and does the work.
@@ -71,7 +78,10 @@ pub fn do_over<R: Files<File = File> + Clock + Eprint + AllocGlobal, T: Work, W:
     work: &mut T,
     output: &mut W,
     errors: &mut E,
-) -> Result<u8, Failure> {
+) -> Result<u8, Failure>
+    ensures { IfOk result (λ status. IsDoneAt T.prints words.now.data_path.now words.now.hash_path.now (W.contents output.old)
+        (W.contents output.new) status) }
+{
     let line = match words.table {
         Some(text) => Some(Table::parse(rt.alloc(), text)?),
         None => None,
@@ -111,7 +121,10 @@ fn do_in_place<R: Files<File = File> + Clock + Eprint + AllocGlobal, T: Work, W:
     hash: Opened,
     output: &mut W,
     errors: &mut E,
-) -> Result<u8, Failure> {
+) -> Result<u8, Failure>
+    ensures { IfOk result (λ status. IsDoneAt T.prints words.now.data_path.now words.now.hash_path.now (W.contents output.old)
+        (W.contents output.new) status) }
+{
     let volume = open_volume(rt.alloc(), &line, words.offset, data, hash)?;
     work.see(volume.sizes.data_block_size)?;
     let rest = rest_of(words, volume.again, volume.sizes);
@@ -152,7 +165,10 @@ fn do_through<R: Files<File = File> + Clock + Eprint + AllocGlobal, T: Work, W: 
     hash: Opened,
     output: &mut W,
     errors: &mut E,
-) -> Result<u8, Failure> {
+) -> Result<u8, Failure>
+    ensures { IfOk result (λ status. IsDoneAt T.prints words.now.data_path.now words.now.hash_path.now (W.contents output.old)
+        (W.contents output.new) status) }
+{
     let Ok(data) = data else {
         return do_in_place(rt, words, line, work, data, hash, output, errors);
     };
@@ -207,7 +223,10 @@ fn do_staged<R: Files<File = File> + Clock + Eprint + AllocGlobal, T: Work, W: W
     commits: &mut Journalled<'_, R>,
     output: &mut W,
     errors: &mut E,
-) -> Result<u8, Failure> {
+) -> Result<u8, Failure>
+    ensures { IfOk result (λ status. IsDoneAt T.prints words.now.data_path.now words.now.hash_path.now (W.contents output.old)
+        (W.contents output.new) status) }
+{
     let (data, hash) = commits.files()?;
     let volume = open_volume(rt.alloc(), &line, words.offset, Ok(data), hash)?;
     work.see(volume.sizes.data_block_size)?;
@@ -257,7 +276,9 @@ fn run_staged<
     rest: Rest<'_>,
     output: &mut W,
     errors: &mut E,
-) -> Result<u8, Failure> {
+) -> Result<u8, Failure>
+    ensures { IfOk result (λ status. T.prints rest.entry.devices (W.contents output.old) (W.contents output.new) status) }
+{
     let data = Staged::new(rt.alloc(), data_store)?;
     let hash = Staged::new(rt.alloc(), hash_store)?;
     let opened = open_whole(rt.alloc(), data, hash, offset);
@@ -273,7 +294,10 @@ struct Rest<'a> {
     devices: Devices<'a>,
 }
 
-fn rest_of<'a>(words: &Words<'a>, again: Opened, sizes: Sizes) -> Rest<'a> {
+fn rest_of<'a>(words: &Words<'a>, again: Opened, sizes: Sizes) -> Rest<'a>
+    ensures data { result.devices.data_path.now ≡ words.now.data_path.now }
+    ensures hash { result.devices.hash_path.now ≡ words.now.hash_path.now }
+{
     Rest {
         again,
         devices: devices_of(words, sizes),
@@ -299,7 +323,9 @@ fn run_under<
     rest: Rest<'_>,
     output: &mut W,
     errors: &mut E,
-) -> Result<u8, Failure> {
+) -> Result<u8, Failure>
+    ensures { IfOk result (λ status. T.prints rest.entry.devices (W.contents output.old) (W.contents output.new) status) }
+{
     match LineEditor::open_under(rt.alloc(), data_store, hash_store, table) {
         Ok(editor) => work.run(
             rt,
@@ -331,7 +357,9 @@ fn run_whole<
     rest: Rest<'_>,
     output: &mut W,
     errors: &mut E,
-) -> Result<u8, Failure> {
+) -> Result<u8, Failure>
+    ensures { IfOk result (λ status. T.prints rest.entry.devices (W.contents output.old) (W.contents output.new) status) }
+{
     match opened {
         Ok(editor) => work.run(
             rt,
@@ -360,7 +388,10 @@ fn open_whole<D: BlockStore + Drop, H: BlockStore + Drop>(
 }
 
 /// Where the volume's devices are, and how far they can grow.
-fn devices_of<'a>(words: &Words<'a>, sizes: Sizes) -> Devices<'a> {
+fn devices_of<'a>(words: &Words<'a>, sizes: Sizes) -> Devices<'a>
+    ensures data { result.data_path.now ≡ words.now.data_path.now }
+    ensures hash { result.hash_path.now ≡ words.now.hash_path.now }
+{
     Devices {
         data_path: words.data_path,
         hash_path: words.hash_path,

@@ -1,4 +1,10 @@
 //! The run without words: a volume in memory, and a script over it.
+ghost use Rattle.std.specs.Prelude.{IfOk, OnOk};
+ghost use Rattle.std.specs.Io.KnownBytes.{Appends};
+ghost use Rattle.verity_superblock.specs.Line.{canonical};
+ghost use Rattle.verity_files.specs.Faults.{line};
+ghost use Rattle.verity_volume.specs.Lines.{volume_line};
+ghost use Rattle.verity_changes.specs.Printing.{IsEdited, IsScratch};
 
 use std::alloc::Global;
 use std::io::{Read, Write};
@@ -29,15 +35,31 @@ pub fn scratch<I: Read, W: Write, E: Write>(
     input: &mut I,
     output: &mut W,
     errors: &mut E,
-) -> Result<u8, Failure> {
+) -> Result<u8, Failure>
+    ensures { IfOk result (λ status. IsScratch (W.contents output.old) (W.contents output.new) status) }
+{
     let editor = zero_volume(alloc)?;
-    print_line(alloc, &editor, output)?;
+    print_line(alloc, &editor, DEVICES, output)?;
+    answer_all(alloc, editor, DEVICES, input, output, errors)
+}
+
+/// Does the input's lines over an editor.
+fn answer_all<I: Read, W: Write, E: Write>(
+    alloc: Global,
+    editor: Editor<MemStore, MemStore>,
+    devices: Devices<'_>,
+    input: &mut I,
+    output: &mut W,
+    errors: &mut E,
+) -> Result<u8, Failure>
+    ensures { IfOk result (λ status. IsEdited devices.entry (W.contents output.old) (W.contents output.new) status) }
+{
     let bytes = read_script(alloc, input)?;
     let script = Script {
         path: "standard input",
         bytes: &bytes,
     };
-    run_script(alloc, editor, &mut Direct, DEVICES, script, output, errors)
+    run_script(alloc, editor, &mut Direct, devices, script, output, errors)
 }
 
 fn zero_volume(alloc: Global) -> Result<Editor<MemStore, MemStore>, Failure> {
@@ -54,9 +76,13 @@ fn zero_volume(alloc: Global) -> Result<Editor<MemStore, MemStore>, Failure> {
 fn print_line<W: Write>(
     alloc: Global,
     editor: &Editor<MemStore, MemStore>,
+    devices: Devices<'_>,
     output: &mut W,
-) -> Result<(), Failure> {
-    let line = committed_line(alloc, DEVICES, editor.superblock(), editor.root())?;
+) -> Result<(), Failure>
+    ensures { OnOk result (Appends (W.contents output.old) (W.contents output.new)
+        (line (canonical (volume_line devices.entry editor.now.volume editor.now.root)))) }
+{
+    let line = committed_line(alloc, devices, editor.superblock(), editor.root())?;
     writeln!(output, "{line}")?;
     Ok(())
 }

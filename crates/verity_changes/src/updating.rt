@@ -1,4 +1,6 @@
 //! The command `update`: makes a volume that of another image.
+ghost use Rattle.std.specs.Prelude.{IfOk};
+ghost use Rattle.verity_changes.specs.Printing.{IsDoneAt, IsUpdated};
 
 use crate::over::{Words, Work, do_over};
 use std::alloc::Global;
@@ -31,7 +33,10 @@ pub fn update<
     R: Files<File = File> + Clock + Eprint + AllocGlobal,
     W: Write,
     E: Write + IsTerminal,
->(rt: &R, words: &UpdateWords<'_>, output: &mut W, errors: &mut E) -> Result<u8, Failure> {
+>(rt: &R, words: &UpdateWords<'_>, output: &mut W, errors: &mut E) -> Result<u8, Failure>
+    ensures { IfOk result (λ status. IsDoneAt IsUpdated words.now.data_path.now words.now.hash_path.now (W.contents output.old)
+        (W.contents output.new) status) }
+{
     check_paths(words.data_path, words.hash_path)?;
     let is_watched = is_watched(words.is_quiet, errors);
     let over = Words {
@@ -66,6 +71,10 @@ struct Taking<'a> {
 }
 
 impl<'a> Work for Taking<'a> {
+    ghost use Rattle.verity_changes.specs.Printing.{IsUpdated};
+
+    ghost prints = { IsUpdated };
+
     fn begin<R: Files<File = File> + AllocGlobal>(
         &mut self,
         rt: &R,

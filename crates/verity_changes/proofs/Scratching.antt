@@ -1,0 +1,17 @@
+-- The answers to a script over a small volume, behind the volume's table line.
+use Rattle.std.specs.Prelude.{ℕ, List, Option, Result, Ok, Err, IfOk}
+use Rattle.std.specs.Io.KnownBytes.{Appends}
+use Rattle.verity_superblock.specs.Line.{canonical}
+use Rattle.verity_superblock.specs.Superblock.{Volume}
+use Rattle.verity_files.specs.Faults.{line}
+use Rattle.verity_volume.specs.Lines.{volume_line}
+use Rattle.verity_volume.specs.declared.lines.Devices.{Devices}
+use Rattle.verity_changes.specs.Printing.{IsEdited, IsScratch}
+
+-- a table line, and then the answers
+pub behind_its_line : {E : Type 0} (devices : Devices) (volume : Volume) (root : List ℕ) (old between new : Option (List ℕ))
+    → Appends old between (line (canonical (volume_line devices volume root))) → (done : Result ℕ E)
+    → IfOk done (λ status. IsEdited devices between new status) → IfOk done (λ status. IsScratch old new status)
+behind_its_line devices volume root old between new printed (Ok status) answered =
+    (devices, volume, root, between, printed, answered)
+behind_its_line devices volume root old between new printed (Err e) answered = answered
