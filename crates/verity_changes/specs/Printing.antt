@@ -12,7 +12,7 @@ use Rattle.verity_answers.specs.Printed.{AreAnswers, answers_of, update_lines}
 abbrev pub IsEdited : Devices → Option (List ℕ) → Option (List ℕ) → ℕ → Type 0
 IsEdited devices old new status = (script : List ℕ) × AreAnswers devices old new (answers_of script) status
 
--- how many blocks of an image differ from those of a volume on these devices, and the table line of the commit
+-- a count of blocks, and the table line of a volume on these devices
 abbrev pub IsUpdated : Devices → Option (List ℕ) → Option (List ℕ) → ℕ → Type 0
 IsUpdated devices old new status = (changed : ℕ) × (volume : Volume) × (root : List ℕ)
     × (status ≡ 0) × Appends old new (update_lines changed (volume_line devices volume root))

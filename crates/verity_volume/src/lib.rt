@@ -2,7 +2,7 @@
 //! these and how their commits are carried out, the lines that are printed of it, and how far a command is.
 //!
 //! The sizes and stores that a volume is opened with are those of its table line, or of its superblock, in the files that were given
-//! (`open_volume`); an editor answers and commits as the one that it is (`Edits`), and a commit through a journal is its own
+//! (`open_volume`); an editor answers as the one that it is (`Edits`), and a commit that is answered is its own, through a journal too
 //! (`Commits`). What the files hold, and which files their paths lead to, is shown by tests. The work is done by the layers below, whose
 //! contracts say what it is worth.
 #![tactic(auto)]

@@ -73,8 +73,8 @@ pub fn offset_of(table: Option<&str>, offset: Option<&str>) -> Result<u64, Failu
     }
 }
 
-/// Opens a volume's stores: of what a table line says; or else the superblock at an offset of HASH. Of a device its data store is as
-/// long as the volume's image, and its hash store as the device. There is no volume where there is no DATA.
+/// Opens a volume's stores: of what a table line says; or else the superblock at an offset of HASH. Of a device the data store is the
+/// volume's image, as far as the device goes, and the hash store all whole blocks. There is no volume where there is no DATA.
 pub fn open_volume(
     alloc: Global,
     line: &Option<Table>,
