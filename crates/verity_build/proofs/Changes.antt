@@ -4,8 +4,8 @@ use Rattle.std.specs.Prelude.{Option, Some}
 use Rattle.std.proofs.Math.Numerals.{add-one}
 use Rattle.std.proofs.lemmas.List.{get_or-set_same, get_or-set_other, length-set}
 use Rattle.verity_digest.specs.Tree.{Hashing, hash_block}
-use Rattle.verity_build.specs.Open.{Open}
-use Rattle.verity_build.specs.Climb.{open_at, nothing_open, Comes, Closes}
+use Rattle.verity_tree.specs.Open.{Open}
+use Rattle.verity_tree.specs.Climb.{open_at, nothing_open, Comes, Closes}
 
 -- the level's next block is opened, and then the digest comes to the next level
 pub closes_by : (h : Hashing) (level : ℕ) (old new : List Open) (next : Open) (digest : List ℕ) (old_root new_root : Option (List ℕ))

@@ -7,8 +7,8 @@ use Rattle.verity_digest.specs.Shape.{row_len, level_len, blocks_of_levels}
 use Rattle.verity_digest.proofs.Counts.{blocks_of_levels-first, blocks_of_levels-none}
 use Rattle.verity_geometry.specs.Geometry.{Shape, IsShape, digests_per_block, levels_of, total_of}
 use Rattle.verity_geometry.proofs.Shapes.{wide}
-use Rattle.verity_build.specs.Open.{Open}
-use Rattle.verity_build.specs.Climb.{open_at, Comes, Closes}
+use Rattle.verity_tree.specs.Open.{Open}
+use Rattle.verity_tree.specs.Climb.{open_at, Comes, Closes}
 use Rattle.verity_build.specs.Progress.{closed, Growing, Grown, Settling}
 use Rattle.verity_build.proofs.Settles.{Reaches, came_most, index_below, settling_reaches, growing_reaches, grown_reaches, same_index}
 

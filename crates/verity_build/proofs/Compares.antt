@@ -12,8 +12,8 @@ use Rattle.verity_digest.proofs.Sized.{AllSized-tree}
 use Rattle.verity_profile.proofs.Bounds.{block_size_low}
 use Rattle.verity_geometry.specs.Geometry.{Shape, IsShape, IsOfShape, digests_per_block, levels_of, len_of, start_of, place_of, total_of}
 use Rattle.verity_geometry.proofs.OfShape.{IsOfShape-hashing, length-shape_tree}
-use Rattle.verity_build.specs.Open.{Open}
-use Rattle.verity_build.specs.Climb.{open_at, Closes}
+use Rattle.verity_tree.specs.Open.{Open}
+use Rattle.verity_tree.specs.Climb.{open_at, Closes}
 use Rattle.verity_build.specs.Differences.{ComesBefore, Found, AreCompared, earlier, BeginsWith, IsFirstDifference}
 use Rattle.verity_build.specs.declared.comparing.Place.{Place}
 use Rattle.verity_build.proofs.Writes.{closed_before}

@@ -18,8 +18,8 @@ use Rattle.verity_geometry.specs.Geometry.{Shape, IsShape, IsOfShape, digests_pe
 use Rattle.verity_geometry.proofs.OfShape.{IsOfShape-hashing, tree-shape_place, tree_by_shape_places, length-shape_tree}
 use Rattle.verity_geometry.proofs.Shapes.{wide, some}
 use Rattle.verity_store.specs.Blocks.{resized}
-use Rattle.verity_build.specs.Open.{Open}
-use Rattle.verity_build.specs.Climb.{open_at}
+use Rattle.verity_tree.specs.Open.{Open}
+use Rattle.verity_tree.specs.Climb.{open_at}
 use Rattle.verity_build.specs.Progress.{came, Grown, IsRight}
 use Rattle.verity_build.specs.Device.{AreStored}
 use Rattle.verity_build.proofs.Settles.{grown_all}

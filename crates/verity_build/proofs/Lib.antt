@@ -1,4 +1,3 @@
-pub mod SlotLemmas
 pub mod Changes
 pub mod Settles
 pub mod Rightly
@@ -7,8 +6,5 @@ pub mod Turns
 pub mod Finishes
 pub mod Compares
 pub mod Closings
-pub mod Ahead
-pub mod Comings
-pub mod Trees
 pub mod Refusals
 pub mod Offsets

@@ -10,8 +10,8 @@ use Rattle.verity_digest.specs.Rows.{row, block_at}
 use Rattle.verity_digest.specs.Shape.{row_len, level_len}
 use Rattle.verity_digest.proofs.Rows.{length-row, block_at-run}
 use Rattle.verity_digest.proofs.Counts.{row_len-zero}
-use Rattle.verity_build.specs.Open.{Open}
-use Rattle.verity_build.specs.Climb.{open_at, AreEmpty, Comes, Closes}
+use Rattle.verity_tree.specs.Open.{Open}
+use Rattle.verity_tree.specs.Climb.{open_at, AreEmpty, Comes, Closes}
 use Rattle.verity_build.specs.Progress.{came, InOrder, Growing, Settling, IsRight}
 use Rattle.verity_build.proofs.Settles.{index_below, settling_all}
 

@@ -10,8 +10,8 @@ use Rattle.verity_digest.specs.Tree.{Hashing, hash_block}
 use Rattle.verity_digest.specs.Shape.{row_len, level_len}
 use Rattle.verity_digest.proofs.Ceil.{IsCeil, IsCeil-div_ceil, same_ceil}
 use Rattle.verity_digest.proofs.Counts.{row_len-zero, row_len-suc}
-use Rattle.verity_build.specs.Open.{Open}
-use Rattle.verity_build.specs.Climb.{open_at, AreEmpty, Comes, Closes}
+use Rattle.verity_tree.specs.Open.{Open}
+use Rattle.verity_tree.specs.Climb.{open_at, AreEmpty, Comes, Closes}
 use Rattle.verity_build.specs.Progress.{came, InOrder, Rooted, Growing, Grown, Settling}
 
 -- where the indices below a level are the same, as many came to it

@@ -10,8 +10,8 @@ use Rattle.verity_digest.proofs.Rows.{level_block-row}
 use Rattle.verity_geometry.specs.Geometry.{Shape, IsShape, IsOfShape, digests_per_block, levels_of, len_of, place_of}
 use Rattle.verity_geometry.proofs.OfShape.{IsOfShape-hashing, same_per_block, tree-shape_place}
 use Rattle.verity_geometry.proofs.Shapes.{wide, some}
-use Rattle.verity_build.specs.Open.{Open}
-use Rattle.verity_build.specs.Climb.{open_at, Comes, Closes}
+use Rattle.verity_tree.specs.Open.{Open}
+use Rattle.verity_tree.specs.Climb.{open_at, Comes, Closes}
 use Rattle.verity_build.specs.Progress.{Growing, Settling, IsRight}
 use Rattle.verity_build.specs.Device.{AreStored}
 use Rattle.verity_build.proofs.Settles.{index_below, same_index}

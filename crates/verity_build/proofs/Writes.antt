@@ -9,8 +9,8 @@ use Rattle.verity_store.specs.Blocks.{ChangesAt}
 use Rattle.verity_store.specs.Stores.{IsLater}
 use Rattle.verity_store.proofs.StoreLemmas.{later_same, later_then}
 use Rattle.verity_store.specs.declared.store.BlockStore as store
-use Rattle.verity_build.specs.Open.{Open}
-use Rattle.verity_build.specs.Climb.{open_at, Closes}
+use Rattle.verity_tree.specs.Open.{Open}
+use Rattle.verity_tree.specs.Climb.{open_at, Closes}
 use Rattle.verity_build.specs.Device.{AreStored, WritesFrom}
 
 pub writes_none : {S : Type 0} (facts : store.Ghosts S) (start : ℕ) (s : S) → WritesFrom facts start s s

@@ -3,10 +3,10 @@ use Rattle.std.specs.Prelude.{◌≡◌, ℕ, ◌+◌, ◌^◌, ◌≤◌, List,
 use Rattle.verity_geometry.specs.Geometry.{total_of}
 use Rattle.verity_superblock.specs.Image.{start_behind}
 use Rattle.verity_superblock.specs.Superblock.{superblock}
-use Rattle.verity_build.specs.Climb.{AreEmpty}
-use Rattle.verity_build.specs.Opens.{opens}
+use Rattle.verity_tree.specs.Climb.{AreEmpty}
+use Rattle.verity_tree.specs.Opens.{opens}
 use Rattle.verity_build.specs.Parameters.{Parameters, salted_by, shape_over, volume}
-use Rattle.verity_build.specs.declared.open_tree.OpenTree.{OpenTree}
+use Rattle.verity_tree.specs.declared.open_tree.OpenTree.{OpenTree}
 use Rattle.verity_build.specs.declared.prepare.Building.{Building}
 use Rattle.verity_build.specs.declared.prepare.Comparing.{Comparing}
 

@@ -4,8 +4,8 @@ use Rattle.verity_digest.specs.Tree.{Hashing, tree}
 use Rattle.verity_geometry.specs.Geometry.{Shape, place_of}
 use Rattle.verity_store.specs.Stores.{IsLater}
 use Rattle.verity_store.specs.declared.store.BlockStore as store
-use Rattle.verity_build.specs.Open.{Open}
-use Rattle.verity_build.specs.Climb.{open_at}
+use Rattle.verity_tree.specs.Open.{Open}
+use Rattle.verity_tree.specs.Climb.{open_at}
 use Rattle.verity_build.specs.Progress.{IsRight}
 
 -- the blocks that were closed stand where the tree of this shape has them, from `start` on

@@ -4,8 +4,8 @@ use Rattle.std.specs.Prelude.{◌≡◌, ◌≢◌, ℕ, ◌+◌, ◌<◌, List,
 use Rattle.std.specs.Prelude.{None, Some, ⊤}
 use Rattle.verity_digest.specs.Tree.{Hashing, root, tree}
 use Rattle.verity_geometry.specs.Geometry.{Shape, levels_of, len_of, place_of}
-use Rattle.verity_build.specs.Open.{Open}
-use Rattle.verity_build.specs.Climb.{open_at}
+use Rattle.verity_tree.specs.Open.{Open}
+use Rattle.verity_tree.specs.Climb.{open_at}
 use Rattle.verity_build.specs.Progress.{IsRight}
 use Rattle.verity_build.specs.declared.compared.Compared.{Compared}
 use Rattle.verity_build.specs.declared.compared.Compared.TheVariants.{Same, Differs}

@@ -1,10 +1,3 @@
-pub mod Open
-pub mod Filled
-pub mod Climb
-pub mod Waits
-pub mod Kept
-pub mod Coming
-pub mod Opens
 pub mod Begins
 pub mod Progress
 pub mod Device
@@ -12,4 +5,3 @@ pub mod Parameters
 pub mod Faults
 pub mod Texts
 pub mod Differences
-pub mod Ahead

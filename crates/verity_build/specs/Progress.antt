@@ -4,8 +4,8 @@ use Rattle.std.specs.Prelude.{◌≡◌, ◌≢◌, ℕ, zero, suc, ◌+◌, ◌
 use Rattle.verity_digest.specs.Tree.{Hashing, per_block}
 use Rattle.verity_digest.specs.Rows.{row, block_at}
 use Rattle.verity_digest.proofs.Ceil.{IsCeil}
-use Rattle.verity_build.specs.Open.{Open}
-use Rattle.verity_build.specs.Climb.{open_at}
+use Rattle.verity_tree.specs.Open.{Open}
+use Rattle.verity_tree.specs.Climb.{open_at}
 
 -- how many digests have come to a level: those of the data blocks to level 0, and those of the blocks
 -- that were closed to the next level, above the top level too

@@ -12,19 +12,18 @@ ghost use Rattle.verity_superblock.specs.Image.{CanBegin, hash_image, hash_block
 ghost use Rattle.verity_superblock.specs.Superblock.{zero_filled};
 ghost use Rattle.verity_build.specs.Parameters.{salted_by, volume, front};
 ghost use Rattle.verity_build.specs.Faults.{CanBuild, Explains};
-ghost use Rattle.verity_build.specs.Climb.{AreEmpty};
+ghost use Rattle.verity_tree.specs.Climb.{AreEmpty};
 ghost use Rattle.verity_build.specs.Progress.{Growing, Grown, Settling, IsRight};
 ghost use Rattle.verity_build.specs.Device.{AreStored, StaysRight, StaysStored, WritesFrom};
-ghost use Rattle.verity_build.specs.Opens.{opens};
+ghost use Rattle.verity_tree.specs.Opens.{opens};
 
-use crate::leaves::Leaves;
-use crate::open_tree::OpenTree;
 use crate::prepare::prepare_build;
 use crate::{BuildFault, BuildParameters};
 use std::alloc::Allocator;
 use verity_digest::Digest;
 use verity_geometry::GeometryFault;
 use verity_store::{BlockStore, StoreFault, Which};
+use verity_tree::{Leaves, OpenTree};
 
 /// Writes each hash block that no digest will come to any more, after `blocks` data blocks have come:
 /// level by level those that are full, and at the end all that hold a digest.

@@ -9,19 +9,18 @@ ghost use Rattle.verity_superblock.specs.Image.{CanBegin, start_behind};
 ghost use Rattle.verity_profile.specs.Profile.{IsBlockCount};
 ghost use Rattle.verity_build.specs.Parameters.{salted_by, shape_over};
 ghost use Rattle.verity_build.specs.Faults.{CanBuild, Explains};
-ghost use Rattle.verity_build.specs.Climb.{AreEmpty};
+ghost use Rattle.verity_tree.specs.Climb.{AreEmpty};
 ghost use Rattle.verity_build.specs.Progress.{closed, Growing, Grown, Settling, IsRight};
 ghost use Rattle.verity_build.specs.Device.{StaysRight};
 ghost use Rattle.verity_build.specs.Differences as spec;
-ghost use Rattle.verity_build.specs.Opens.{opens};
+ghost use Rattle.verity_tree.specs.Opens.{opens};
 
-use crate::leaves::Leaves;
-use crate::open_tree::OpenTree;
 use crate::prepare::prepare_compare;
 use crate::{BuildFault, BuildParameters, Compared};
 use std::alloc::Allocator;
 use verity_geometry::GeometryFault;
 use verity_store::{BlockStore, StoreFault, Which};
+use verity_tree::{Leaves, OpenTree};
 
 /// Where a hash block stands in a tree.
 #[derive(Clone, Copy, Debug)]

@@ -3,11 +3,8 @@
 //! [`build_at`] writes, behind the blocks that stay in front, the superblock and the hash tree of the data
 //! store's blocks (cryptsetup's on-disk format of verity, "Verity hash table format" of the Linux dm-verity
 //! documentation); [`compare_at`] names the first hash block that isn't the tree's. [`build`] and
-//! [`compare`] are these with the superblock at byte 0. Both read the data blocks once, in their order, up to 128 at
-//! a time but none behind those whose digests fill a hash block, and hash them eight side by side (`Leaves`). They
-//! hold one open hash block a level (`OpenTree`): a data block's digest comes to level 0, a block that no digest will
-//! come to any more is written or compared at once, and its digest comes to the next level. That digest is made
-//! later: the block waits until eight of its level can be hashed side by side (`Waiting`), or its digest is needed.
+//! [`compare`] are these with the superblock at byte 0. Both read the data blocks once, in their order, and make the tree
+//! as these come (`verity_tree`): a hash block that no digest will come to any more is written or compared at once.
 //!
 //! The one contract that the layers above rely on: over stores that tell, a hash store that was built is
 //! `hash_blocks` of `verity_superblock`, all of it, and the answer is the image's root; `Same` is answered
@@ -17,9 +14,8 @@
 //! All memory is taken before the first change of a store.
 //!
 //! The definitions stand in `specs/`: `Parameters` (what is built, and from what), `Differences` (what a
-//! comparison finds), `Faults` (when which error comes), `Texts`; of the walk `Begins` (what it begins with), `Open`
-//! and `Climb` (the hash blocks that are being filled), `Waits`, `Coming` and `Opens` (those that wait for their digests),
-//! `Ahead` (digests that are made ahead of their turn), `Progress` (how far the digests have come), `Device` (what is written).
+//! comparison finds), `Faults` (when which error comes), `Texts`; of the walk `Begins` (what it begins with),
+//! `Progress` (how far the digests have come), `Device` (what is written).
 #![tactic(auto)]
 
 mod build_parameters;
@@ -27,11 +23,7 @@ mod building;
 mod compared;
 mod comparing;
 mod fault;
-mod leaves;
-mod open_block;
-mod open_tree;
 mod prepare;
-mod waiting;
 
 pub use build_parameters::BuildParameters;
 pub use building::{build, build_at};

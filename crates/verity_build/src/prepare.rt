@@ -6,14 +6,13 @@ ghost use Rattle.verity_build.specs.Begins.{Begins, CanRead, CanWrite};
 ghost use Rattle.verity_build.specs.Parameters.{volume};
 ghost use Rattle.verity_build.specs.Faults.{CanBuild, Explains};
 
-use crate::leaves::bytes_at_a_time;
-use crate::open_tree::OpenTree;
 use crate::{BuildFault, BuildParameters};
 use std::alloc::Allocator;
 use verity_digest::Hasher;
 use verity_geometry::Geometry;
 use verity_store::BlockStore;
 use verity_superblock::{Superblock, tree_start};
+use verity_tree::{OpenTree, bytes_at_a_time};
 
 /// What a build writes with: where the tree begins, its open blocks, the superblock, and a buffer for data blocks or a hash block.
 #[derive(Drop)]

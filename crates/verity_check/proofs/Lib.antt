@@ -7,5 +7,3 @@ pub mod RangeLemmas
 pub mod RangeRuns
 pub mod VerifierLemmas
 pub mod HoldsLaws
-pub mod RowCounts
-pub mod DescentLemmas

@@ -14,7 +14,7 @@ use Rattle.verity_chain.specs.Table.{Table, hashing_of}
 use Rattle.verity_chain.specs.Chain.{Given, Names, EndsChain, WrongAt}
 use Rattle.verity_check.specs.Range.{Served}
 use Rattle.verity_chain.specs.Stores.{Gave, hash_given}
-use Rattle.verity_check.specs.Stores.{Marks, given_in}
+use Rattle.verity_report.specs.Stores.{Marks, given_in}
 use Rattle.verity_chain.proofs.ChainLemmas.{Names-grows, chain_here, wrong_here}
 use Rattle.verity_check.proofs.WalkLemmas.{given_in-more}
 

@@ -1,11 +1,7 @@
-pub mod Finding
 pub mod Range
 pub mod Texts
 pub mod Cache
-pub mod Stores
 pub mod Refusal
 pub mod Run
 pub mod Verifier
 pub mod Holds
-pub mod Report
-pub mod Descent

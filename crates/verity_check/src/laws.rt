@@ -9,10 +9,10 @@ ghost use Rattle.verity_chain.specs.Table.{Table, IsTable};
 ghost use Rattle.verity_chain.specs.Chain.{AreSized, EndsChain, WrongAt};
 ghost use Rattle.verity_chain.specs.Right.{Fits, IsRight, AreRight, bytes_of};
 ghost use Rattle.verity_check.specs.Range.{ServesBytes, Wrong};
-ghost use Rattle.verity_check.specs.declared.finding.Finding.TheVariants.{Good};
-ghost use Rattle.verity_check.specs.Finding.{finding};
+ghost use Rattle.verity_report.specs.declared.finding.Finding.TheVariants.{Good};
+ghost use Rattle.verity_report.specs.Finding.{finding};
 ghost use Rattle.verity_chain.specs.Stores.{hash_given, IsHashStoreOf};
-ghost use Rattle.verity_check.specs.Stores.{Marks, given_in, held_in, BothTell, IsDataStoreOf};
+ghost use Rattle.verity_report.specs.Stores.{Marks, given_in, held_in, BothTell, IsDataStoreOf};
 ghost use Rattle.verity_check.specs.Holds.{Holds, IsLineOf};
 
 use verity_store::BlockStore;

@@ -15,30 +15,22 @@
 //!
 //! The errors are V1 to V5 of [`CheckFault`], and `AllocError` of a report.
 //!
-//! The tree of a table line, chains of given blocks, the image's own blocks and clashes are defined in `verity_chain`, below.
-//! The other definitions stand in `specs/`: `Range` (ranges of bytes), `Refusal` (why a read is refused), `Finding` and `Report`
-//! (what a report finds and lists), `Holds` (stores that hold an image), `Stores` and `Verifier` (what contracts see of both).
-//! `Cache` has the invariant of the cache, and `Descent` how far a report has come.
+//! The tree of a table line, chains of given blocks, the image's own blocks and clashes are defined in `verity_chain`, below, and what
+//! a report finds and lists in `verity_report`. The other definitions stand in `specs/`: `Range` (ranges of bytes), `Refusal` (why a
+//! read is refused), `Holds` (stores that hold an image), `Verifier` (what contracts see of one); `Cache` has the invariant of the cache.
 #![tactic(auto)]
 
-mod ahead;
 mod cache;
-mod descent;
 mod fault;
-mod finding;
 pub mod laws;
 mod range;
-mod report;
-mod row;
 mod run;
-mod siblings;
 mod since;
 mod verifier;
 mod walk;
 
 pub use cache::Key;
 pub use fault::CheckFault;
-pub use finding::{Finding, Verdict};
-pub use report::{Faults, Report};
 pub use verifier::Verifier;
 pub use verity_chain::Place;
+pub use verity_report::{Faults, Finding, Report, Verdict};

@@ -6,12 +6,11 @@ ghost use Rattle.verity_chain.specs.Table.{IsTable, height};
 ghost use Rattle.verity_chain.specs.Chain.{Names};
 ghost use Rattle.verity_check.specs.Range.{Served};
 ghost use Rattle.verity_chain.specs.Stores.{hash_given, IsHashStoreOf};
-ghost use Rattle.verity_check.specs.Stores.{given_in, IsDataStoreOf};
+ghost use Rattle.verity_report.specs.Stores.{given_in, IsDataStoreOf};
 ghost use Rattle.verity_check.specs.Cache.{IsChained};
 ghost use Rattle.verity_check.specs.Refusal.{Explains, RefusesOneOf};
 ghost use Rattle.verity_check.specs.Run.{IsCompared};
 
-use crate::ahead::{agreeing, read_ahead};
 use crate::cache::Cache;
 use crate::since::Since;
 use crate::walk::name;
@@ -19,6 +18,7 @@ use crate::{CheckFault, Place};
 use std::alloc::Allocator;
 use verity_chain::Tree;
 use verity_digest::Digest;
+use verity_report::{agreeing, read_ahead};
 use verity_store::{BlockStore, Which};
 
 /// The digests that the checked blocks above the data blocks from `n` on name for these: how many, and the fault that ended

@@ -13,7 +13,7 @@ pub(crate) struct Since {
 }
 
 impl Model for Since {
-    ghost use Rattle.verity_check.specs.Stores.{Marks};
+    ghost use Rattle.verity_report.specs.Stores.{Marks};
 
     ghost Value = { Marks };
 

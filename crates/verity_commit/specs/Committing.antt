@@ -7,7 +7,7 @@ use Rattle.verity_journal.specs.Journal.{Pair, pair_of, recovered_pair, IsNamed}
 use Rattle.verity_edit.specs.declared.command.Committed.{Committed}
 use Rattle.verity_edit.specs.Committing.{IsRefusal}
 use Rattle.verity_edit.specs.Editing.{Editing}
-use Rattle.verity_edit.specs.Line.{LineEditing, IsRefusalUnder}
+use Rattle.verity_line.specs.Line.{LineEditing, IsRefusalUnder}
 use Rattle.verity_commit.specs.declared.fault.CommitFault.{CommitFault}
 use Rattle.verity_commit.specs.declared.fault.CommitFault.TheVariants as fault
 

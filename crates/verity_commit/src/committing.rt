@@ -4,13 +4,14 @@ ghost use Rattle.std.specs.List.{concat};
 ghost use Rattle.verity_journal.specs.Disks.{LeavesOnly};
 ghost use Rattle.verity_journal.specs.Journal.{pair_of, recovered_pair};
 ghost use Rattle.verity_edit.specs.Editing.{Commits, Stays};
-ghost use Rattle.verity_edit.specs.Line.{CommitsUnder, editing_of};
+ghost use Rattle.verity_line.specs.Line.{CommitsUnder, editing_of};
 ghost use Rattle.verity_commit.specs.Committing.{IsEdit, ExplainsCommit, ExplainsEdit, Holds, IsOneOf};
 
 use crate::CommitFault;
 use std::alloc::Allocator;
-use verity_edit::{Committed, Editor, LineEditor};
+use verity_edit::{Committed, Editor};
 use verity_journal::{DiskFault, Disks, Keeper};
+use verity_line::LineEditor;
 use verity_stage::{Staged, commit_staged};
 use verity_store::BlockStore;
 

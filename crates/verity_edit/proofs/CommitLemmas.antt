@@ -3,7 +3,7 @@ use Rattle.std.proofs.Common.{◌≡◌, ℕ, List, Result, Ok, Err, arith, subs
 use Rattle.std.specs.Prelude.{OnOk}
 use Rattle.verity_store.specs.declared.store.BlockStore as store
 use Rattle.verity_superblock.specs.Superblock.{Volume}
-use Rattle.verity_plan.specs.Draft.{Draft, edits_of}
+use Rattle.verity_pending.specs.Draft.{Draft, edits_of}
 use Rattle.verity_edit.specs.Committing.{CanCommit, IsCarriedOut, MakesDevice}
 
 pub on_ok_both : {T E : Type 0} (r : Result T E) (P Q R : Type 0) → (P → Q → R) → OnOk r P → OnOk r Q → OnOk r R

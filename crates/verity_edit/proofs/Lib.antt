@@ -1,12 +1,5 @@
-mod Steps
-mod UnderLemmas
-mod PathLemmas
-mod DeviceLemmas
-mod CommitLemmas
+pub mod DeviceLemmas
+pub mod CommitLemmas
 mod OpeningLemmas
-mod AnswerLemmas
+pub mod AnswerLemmas
 mod RunLemmas
-mod LineLemmas
-mod LineCommits
-mod LineAnswers
-mod LineLaws

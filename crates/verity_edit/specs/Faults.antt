@@ -3,8 +3,8 @@ use Rattle.std.specs.Prelude.{◌≡◌, ℕ, ◌<◌, Result, Ok, Err}
 use Rattle.verity_store.specs.declared.fault.Which.{Which}
 use Rattle.verity_store.specs.declared.fault.Which.TheVariants as which
 use Rattle.verity_build.specs.Faults.{HasFailed}
-use Rattle.verity_plan.specs.declared.fault.EditFault.{EditFault}
-use Rattle.verity_plan.specs.declared.fault.EditFault.TheVariants.{NoMemory, Store}
+use Rattle.verity_pending.specs.declared.fault.EditFault.{EditFault}
+use Rattle.verity_pending.specs.declared.fault.EditFault.TheVariants.{NoMemory, Store}
 
 -- of a part that changes both stores
 abbrev pub NamesFailed : {T : Type 0} → Result T Which → ℕ → ℕ → ℕ → ℕ → Type 0

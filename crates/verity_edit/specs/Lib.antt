@@ -1,14 +1,11 @@
-pub use Rattle.verity_plan.specs.Draft
-pub use Rattle.verity_plan.specs.Edits
+pub use Rattle.verity_pending.specs.Draft
+pub use Rattle.verity_pending.specs.Edits
 pub use Rattle.verity_plan.specs.Planning
-pub use Rattle.verity_plan.specs.Texts
+pub use Rattle.verity_pending.specs.Texts
 pub mod After
 pub mod Faults
-pub mod Under
 pub mod Committing
 pub mod Editing
 pub mod Opening
 pub mod Running
 pub mod Exchange
-pub mod Line
-pub mod Lines

@@ -12,33 +12,28 @@
 //!
 //! Over any stores each reply of `answer` says what it means (`IsAnswered`), and `run` is the chain of such records.
 //!
-//! A [`LineEditor`] is opened under a trusted table line, and trusts nothing else that its stores hold: it reads the superblock's
-//! block alone, and a commit (`under`) checks each old hash block from the line's root down before it is used and before the first
-//! change. Over any stores the root that it answers is that of the edited image, for every image that fits the line, or the hash
-//! store gave a block that differs from the image's own and has its digest; [`laws`] has what that says of a chain of lines.
+//! What an editor under a trusted table line (`verity_line`) shares with this one is public for it alone: how a superblock is read
+//! and fits its stores (`opening`), how room is made and a plan carried out (`committing`), commands and their replies.
 //!
 //! The errors are those of [`EditFault`], E1 to E14. A refused call changes nothing, but for a commit of which a store failed
 //! after its first change: the editor is then broken, and all but the getters and `close` answers E7.
 //!
 //! The definitions stand in `specs/`: `After` (commands and replies), `Editing` (what a contract sees of an editor, and what a
-//! commit leaves), `Opening` (when a volume is opened), `Line` and `Lines` (the same under a table line, and chains of lines),
-//! `Faults` (what a failure of a store is answered by), `Running` (commands and lists of them), `Exchange` (stores that are put in the
-//! place of an editor's); the others are of the way to them: `Under` (a commit under a table line), `Committing` (what is changed).
-//! Images, edits and their plan are defined in `verity_plan`: `Edits`, `Touched`, `Draft`, `Planning`. What calls leave of a store is
-//! said once, by the records of `verity_store` `Stores`.
+//! commit leaves), `Opening` (when a volume is opened), `Faults` (what a failure of a store is answered by), `Running` (commands and
+//! lists of them), `Exchange` (stores that are put in the place of an editor's); `Committing` (what is changed) is of the way to them.
+//! Images and edits are defined in `verity_pending` (`Edits`, `Touched`, `Draft`), and the plan of a commit in `verity_plan`. What
+//! calls leave of a store is said once, by the records of `verity_store` `Stores`.
 #![tactic(auto)]
 
 mod command;
 mod committing;
 mod editor;
-pub mod laws;
-mod line;
-mod line_opening;
 mod opening;
 mod running;
-mod under;
 
 pub use command::{Command, Committed, Reply};
+pub use committing::{carry_out, reserve_both};
 pub use editor::{Editor, OpenRefused};
-pub use line::LineEditor;
+pub use opening::{check_stores, hasher_of, read_superblock};
+pub use running::reply_of;
 pub use verity_plan::{EditFault, geometry_over};

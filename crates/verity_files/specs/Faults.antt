@@ -8,7 +8,7 @@ use Rattle.verity_check.specs.declared.fault.CheckFault.TheVariants as check
 use Rattle.verity_check.specs.Texts.{check_text}
 use Rattle.verity_digest.specs.declared.salt.SaltFault.TheVariants as salt
 use Rattle.verity_digest.specs.Texts.{salt_text}
-use Rattle.verity_plan.specs.declared.fault.EditFault.TheVariants as edit
+use Rattle.verity_pending.specs.declared.fault.EditFault.TheVariants as edit
 use Rattle.verity_edit.specs.Texts.{edit_text}
 use Rattle.verity_geometry.specs.Texts.{geometry_text}
 use Rattle.verity_store.specs.declared.fault.StoreFault.TheVariants as store

@@ -9,7 +9,7 @@ use Rattle.verity_chain.specs.Table.{Table, hashing_of, height, path_index}
 use Rattle.verity_chain.specs.Right.{Fits, AreRight}
 use Rattle.verity_check.specs.Range.{ServesBytes, Wrong, touched}
 use Rattle.verity_check.specs.Refusal.{Refuses}
-use Rattle.verity_check.specs.Stores.{Marks, given_in}
+use Rattle.verity_report.specs.Stores.{Marks, given_in}
 use Rattle.verity_check.specs.Holds.{Holds}
 use Rattle.verity_check.specs.Verifier.{Verifying, given_to, IsOnlyReading, IsVerifier, DataFailed, HashFailed, MayServe, MayRefuse}
 use Rattle.verity_chain.proofs.ChainLemmas.{Grows, WrongAt-grows}

@@ -13,18 +13,18 @@ use Rattle.verity_digest.proofs.Counts.{level_within}
 use Rattle.verity_digest.proofs.Rows.{tree-place, level_block-row}
 use Rattle.verity_geometry.specs.Geometry.{levels_of, len_of, start_of, total_of}
 use Rattle.verity_plan.specs.declared.tree.Change.{Change}
-use Rattle.verity_plan.specs.Edits.{Edits}
-use Rattle.verity_plan.specs.Touched.{is_touched, touched}
-use Rattle.verity_plan.specs.Digests.{digests_of}
+use Rattle.verity_pending.specs.Edits.{Edits}
+use Rattle.verity_pending.specs.Touched.{is_touched, touched}
+use Rattle.verity_pending.specs.Digests.{digests_of}
 use Rattle.verity_plan.specs.Levels.{BothMoved}
-use Rattle.verity_plan.specs.Plan.{Planned, nothing_planned, planned_at, made_blocks}
-use Rattle.verity_plan.specs.Written.{AreWritten, OnlyPlanned}
+use Rattle.verity_pending.specs.Plan.{Planned, nothing_planned, planned_at, made_blocks}
+use Rattle.verity_pending.specs.Written.{AreWritten, OnlyPlanned}
 use Rattle.verity_plan.specs.Making.{touched_blocks}
 use Rattle.verity_plan.specs.Carried.{IsCarried}
 use Rattle.verity_plan.proofs.Kept.{keeps_untouched}
 use Rattle.verity_plan.proofs.Renewed.{touched_above_old}
 use Rattle.verity_plan.proofs.Trees.{tree_by_places, stands_at}
-use Rattle.verity_plan.proofs.ParentLemmas.{Has, filter_has, in_filter}
+use Rattle.verity_pending.proofs.ParentLemmas.{Has, filter_has, in_filter}
 
 no_more : (m : Planned) (plan : List Planned) (q c : ℕ) → c < length (m ∷ plan) → (m.at ≡ q → ⊥) →
     ((d : ℕ) → d < length plan → (planned_at plan d).at ≡ q → ⊥) → (planned_at (m ∷ plan) c).at ≡ q → ⊥

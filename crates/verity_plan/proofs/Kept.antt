@@ -8,12 +8,12 @@ use Rattle.std.proofs.lemmas.Bool.{cases_eq, cases_Bool, or_parts, and_from, eqb
 use Rattle.std.proofs.lemmas.List.{length-map, get_or-map}
 use Rattle.verity_digest.specs.Tree.{Hashing, per_block}
 use Rattle.verity_digest.specs.Shape.{row_len}
-use Rattle.verity_plan.specs.Digests.{digests_of}
+use Rattle.verity_pending.specs.Digests.{digests_of}
 use Rattle.verity_digest.proofs.Ceil.{div_ceil-div_ceil}
-use Rattle.verity_plan.specs.Edits.{Edits}
-use Rattle.verity_plan.specs.Touched.{changed_blocks, has_fallen, is_touched}
-use Rattle.verity_plan.specs.Kept.{KeepsUnchanged, KeepsUntouched}
-use Rattle.verity_plan.proofs.Untouched.{Untouched, SameDigests, same_block, SameDigests-next, length-level_digests}
+use Rattle.verity_pending.specs.Edits.{Edits}
+use Rattle.verity_pending.specs.Touched.{changed_blocks, has_fallen, is_touched}
+use Rattle.verity_pending.specs.Kept.{KeepsUnchanged, KeepsUntouched}
+use Rattle.verity_pending.proofs.Untouched.{Untouched, SameDigests, same_block, SameDigests-next, length-level_digests}
 
 -- no number that passes is in the range, where none is found
 none_among : (p q : ℕ → Bool) (n a m : ℕ) → list_any q (filter p (range_with_len a n)) ≡ false → a ≤ m → m < a + n → p m ≡ true →

@@ -9,15 +9,15 @@ use Rattle.verity_digest.specs.Tree.{Hashing, IsHashing, IsLevelCount, per_block
 use Rattle.verity_digest.specs.Shape.{level_count, level_len, place}
 use Rattle.verity_digest.proofs.Numbers.{IsLevelCount-level_count}
 use Rattle.verity_digest.proofs.Rows.{slot-row}
-use Rattle.verity_plan.specs.declared.child.Child.{Child}
-use Rattle.verity_plan.specs.Edits.{Edits}
-use Rattle.verity_plan.specs.Draft.{Draft, IsDraft, edits_of, is_changed, keeps_last}
-use Rattle.verity_plan.specs.Slots.{nobody, AreNamed}
-use Rattle.verity_plan.specs.Touched.{has_fallen, changed_blocks}
-use Rattle.verity_plan.specs.Parents.{is_edited, edited_blocks}
+use Rattle.verity_pending.specs.declared.child.Child.{Child}
+use Rattle.verity_pending.specs.Edits.{Edits}
+use Rattle.verity_pending.specs.Draft.{Draft, IsDraft, edits_of, is_changed, keeps_last}
+use Rattle.verity_pending.specs.Slots.{nobody, AreNamed}
+use Rattle.verity_pending.specs.Touched.{has_fallen, changed_blocks}
+use Rattle.verity_pending.specs.Parents.{is_edited, edited_blocks}
 use Rattle.verity_plan.specs.Standing.{BeginsWith}
-use Rattle.verity_plan.proofs.ParentLemmas.{Rising, Has, same_rising, Rising-filter, filter_has, in_filter}
-use Rattle.verity_plan.proofs.Drafts.{length-working, KeepsUnchanged-draft}
+use Rattle.verity_pending.proofs.ParentLemmas.{Rising, Has, same_rising, Rising-filter, filter_has, in_filter}
+use Rattle.verity_pending.proofs.Drafts.{length-working, KeepsUnchanged-draft}
 use Rattle.verity_plan.proofs.Trees.{stands_at}
 
 level_some_by : (k n L : ℕ) → 1 < n → IsLevelCount k n L → 0 < L

@@ -12,12 +12,12 @@ use Rattle.verity_digest.specs.declared.algorithm.Algorithm.TheVariants.{Sha256,
 use Rattle.verity_digest.specs.Hash.{size_of}
 use Rattle.verity_digest.proofs.Slots.{AreSized, slot-hash_block}
 use Rattle.verity_store.proofs.BlockLemmas.{get_or-cut}
-use Rattle.verity_plan.specs.declared.child.Child.{Child}
+use Rattle.verity_pending.specs.declared.child.Child.{Child}
 use Rattle.verity_plan.specs.declared.level.OldLevel.{OldLevel}
-use Rattle.verity_plan.specs.Slots.{slots}
+use Rattle.verity_pending.specs.Slots.{slots}
 use Rattle.verity_plan.specs.Remade.{CanRemake}
 use Rattle.verity_plan.specs.Level.{Holds, Renews}
-use Rattle.verity_plan.proofs.Untouched.{div_of}
+use Rattle.verity_pending.proofs.Untouched.{div_of}
 
 -- the slots of a hash block are its run of digests
 pub slot_of_run : (h : Hashing) (old : List (List ℕ)) (k i r : ℕ) →

@@ -1,15 +1,8 @@
-pub mod Frames
-pub mod Untouched
 pub mod Kept
-pub mod ParentLemmas
-pub mod ChildLemmas
 pub mod DedupLemmas
-pub mod Drafts
-pub mod Applied
 pub mod Rows
 pub mod SlotLemmas
 pub mod RemadeLemmas
-pub mod WriteLemmas
 pub mod SeenLemmas
 pub mod Pushes
 pub mod LevelMoves
@@ -18,7 +11,6 @@ pub mod MovedLemmas
 pub mod LevelLemmas
 pub mod Renewed
 pub mod Trees
-pub mod LeafLemmas
 pub mod MakingLemmas
 pub mod CarriedLemmas
 pub mod LastLemmas

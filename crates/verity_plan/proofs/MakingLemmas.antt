@@ -21,23 +21,23 @@ use Rattle.verity_digest.proofs.Rows.{length-row, root-row}
 use Rattle.verity_geometry.specs.Geometry.{Shape, IsShape, digests_per_block, levels_of}
 use Rattle.verity_geometry.proofs.Shapes.{branching, few, total_few}
 use Rattle.verity_digest.proofs.Growth.{level_count-mono}
-use Rattle.verity_plan.specs.declared.child.Child.{Child}
+use Rattle.verity_pending.specs.declared.child.Child.{Child}
 use Rattle.verity_plan.specs.declared.level.OldLevel.{OldLevel}
 use Rattle.verity_plan.specs.declared.tree.Change.{Change}
-use Rattle.verity_plan.specs.Edits.{Edits}
-use Rattle.verity_plan.specs.Touched.{has_fallen, is_touched, touched}
-use Rattle.verity_plan.specs.Parents.{is_edited, edited_blocks, parents}
-use Rattle.verity_plan.specs.Kept.{KeepsUnchanged}
-use Rattle.verity_plan.specs.Digests.{digests_of}
-use Rattle.verity_plan.specs.Slots.{nobody, child_at, AreNamed, AreWithin}
-use Rattle.verity_plan.specs.Plan.{Planned, numbers_of, made_blocks, made_digests}
+use Rattle.verity_pending.specs.Edits.{Edits}
+use Rattle.verity_pending.specs.Touched.{has_fallen, is_touched, touched}
+use Rattle.verity_pending.specs.Parents.{is_edited, edited_blocks, parents}
+use Rattle.verity_pending.specs.Kept.{KeepsUnchanged}
+use Rattle.verity_pending.specs.Digests.{digests_of}
+use Rattle.verity_pending.specs.Slots.{nobody, child_at, AreNamed, AreWithin}
+use Rattle.verity_pending.specs.Plan.{Planned, numbers_of, made_blocks, made_digests}
 use Rattle.verity_plan.specs.Level.{Holds, Renews, IsLevel}
 use Rattle.verity_plan.specs.Making.{old_level, level_of, IsChange, renewed, touched_below, touched_places, touched_blocks}
 use Rattle.verity_plan.specs.Making.{IsEdited, StandsFor}
 use Rattle.verity_plan.specs.Standing.{BeginsWith}
-use Rattle.verity_plan.proofs.ParentLemmas.{Rising, Has, Rising-filter, filter_has, parents_have, have_parents, touched-zero}
-use Rattle.verity_plan.proofs.ParentLemmas.{touched-suc, has_number, get_has}
-use Rattle.verity_plan.proofs.ChildLemmas.{rising_children}
+use Rattle.verity_pending.proofs.ParentLemmas.{Rising, Has, Rising-filter, filter_has, parents_have, have_parents, touched-zero}
+use Rattle.verity_pending.proofs.ParentLemmas.{touched-suc, has_number, get_has}
+use Rattle.verity_pending.proofs.ChildLemmas.{rising_children}
 use Rattle.verity_plan.proofs.Renewed.{renews_data, renews_level, renews_above}
 use Rattle.verity_plan.proofs.Trees.{holds_level, holds_root, holds_none}
 

@@ -9,13 +9,13 @@ use Rattle.std.proofs.lemmas.List.Filters.{length-filter_both}
 use Rattle.std.proofs.lemmas.List.Sums.{sum_by-le-sum_by}
 use Rattle.verity_digest.specs.Shape.{level_count, level_len, level_start, total, blocks_of_levels}
 use Rattle.verity_digest.proofs.Counts.{level_within}
-use Rattle.verity_plan.specs.Edits.{Edits}
-use Rattle.verity_plan.specs.Touched.{changed_blocks, is_touched, touched, touched_count}
-use Rattle.verity_plan.specs.Plan.{Planned, nothing_planned, places}
+use Rattle.verity_pending.specs.Edits.{Edits}
+use Rattle.verity_pending.specs.Touched.{changed_blocks, is_touched, touched, touched_count}
+use Rattle.verity_pending.specs.Plan.{Planned, nothing_planned, places}
 use Rattle.verity_plan.specs.Making.{touched_below, touched_places}
 use Rattle.verity_plan.specs.Carried.{AreInTree}
 use Rattle.verity_plan.proofs.MakingLemmas.{touched_below-more}
-use Rattle.verity_plan.proofs.ParentLemmas.{Has, in_filter}
+use Rattle.verity_pending.proofs.ParentLemmas.{Has, in_filter}
 
 abbrev InTree : ℕ → ℕ → List ℕ → Type 0
 InTree first all ps = (c : ℕ) → c < length ps → (first ≤ get_or ps c 0) × (get_or ps c 0 < first + all)

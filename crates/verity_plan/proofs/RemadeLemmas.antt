@@ -11,11 +11,11 @@ use Rattle.verity_digest.specs.Tree.{Hashing, hash_block}
 use Rattle.verity_digest.proofs.Slots.{AreSized}
 use Rattle.verity_store.specs.Blocks.{cut}
 use Rattle.verity_store.proofs.BlockLemmas.{length-cut, get_or-cut, concat-cut}
-use Rattle.verity_plan.specs.declared.child.Child.{Child}
+use Rattle.verity_pending.specs.declared.child.Child.{Child}
 use Rattle.std.specs.List.Sorted.{IsPartitionPoint}
 use Rattle.verity_plan.specs.Remade.{CanRemake}
-use Rattle.verity_plan.proofs.Untouched.{div_of}
-use Rattle.verity_plan.specs.Slots.{slots, nobody, child_at, AreNamed, FillsSlots}
+use Rattle.verity_pending.proofs.Untouched.{div_of}
+use Rattle.verity_pending.specs.Slots.{slots, nobody, child_at, AreNamed, FillsSlots}
 
 -- the remainder of a number in a block
 mod_of : (i k r : ℕ) → r < k → (i * k + r) % k ≡ r

@@ -9,17 +9,17 @@ use Rattle.std.proofs.lemmas.List.{length-map, get_or-map}
 use Rattle.verity_digest.specs.Tree.{Hashing, per_block, IsHashing}
 use Rattle.verity_digest.specs.Shape.{row_len, level_len}
 use Rattle.verity_digest.specs.Rows.{row}
-use Rattle.verity_plan.specs.Digests.{digests_of}
-use Rattle.verity_plan.specs.Plan.{numbers_of}
-use Rattle.verity_plan.specs.declared.child.Child.{Child}
-use Rattle.verity_plan.specs.Edits.{Edits}
-use Rattle.verity_plan.specs.Touched.{has_fallen, is_touched, touched}
-use Rattle.verity_plan.specs.Parents.{is_edited, edited_blocks}
-use Rattle.verity_plan.specs.Slots.{child_at, AreNamed}
+use Rattle.verity_pending.specs.Digests.{digests_of}
+use Rattle.verity_pending.specs.Plan.{numbers_of}
+use Rattle.verity_pending.specs.declared.child.Child.{Child}
+use Rattle.verity_pending.specs.Edits.{Edits}
+use Rattle.verity_pending.specs.Touched.{has_fallen, is_touched, touched}
+use Rattle.verity_pending.specs.Parents.{is_edited, edited_blocks}
+use Rattle.verity_pending.specs.Slots.{child_at, AreNamed}
 use Rattle.verity_plan.specs.Level.{Renews}
-use Rattle.verity_plan.specs.Kept.{KeepsUnchanged}
-use Rattle.verity_plan.proofs.Untouched.{Untouched, begins, length-level_digests}
-use Rattle.verity_plan.proofs.ParentLemmas.{Has, AboveEdited, above_touched, filter_has}
+use Rattle.verity_pending.specs.Kept.{KeepsUnchanged}
+use Rattle.verity_pending.proofs.Untouched.{Untouched, begins, length-level_digests}
+use Rattle.verity_pending.proofs.ParentLemmas.{Has, AboveEdited, above_touched, filter_has}
 use Rattle.verity_plan.proofs.Kept.{keeps_untouched, all_digests, Untouched-from}
 
 -- every block of a level that the committed image's tree doesn't have is touched

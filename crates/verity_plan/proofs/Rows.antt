@@ -1,9 +1,9 @@
 -- Worked rows, computed.
 use Rattle.std.proofs.Common.{◌≡◌, ℕ, [], ◌∷◌, replicate, Some, None, refl}
-use Rattle.verity_plan.specs.declared.fault.EditFault.TheVariants.{TooSmall, TooLarge}
+use Rattle.verity_pending.specs.declared.fault.EditFault.TheVariants.{TooSmall, TooLarge}
 use Rattle.verity_digest.specs.Shape.{level_count, least_level, row_len}
-use Rattle.verity_plan.specs.Edits.{Edits, unedited, with_write, with_growth, with_shrink, grow_rule, shrink_rule}
-use Rattle.verity_plan.specs.Touched.{bound}
+use Rattle.verity_pending.specs.Edits.{Edits, unedited, with_write, with_growth, with_shrink, grow_rule, shrink_rule}
+use Rattle.verity_pending.specs.Touched.{bound}
 
 abbrev unedited_blocks : ℕ → Edits
 unedited_blocks n = unedited (replicate n [])

@@ -7,8 +7,8 @@ use Rattle.std.proofs.lemmas.List.{length-append, length-take, drop-drop, get_or
 use Rattle.std.proofs.lemmas.List.{append_assoc}
 use Rattle.verity_store.specs.Blocks.{cut}
 use Rattle.verity_store.proofs.BlockLemmas.{cut-put}
-use Rattle.verity_plan.specs.declared.child.Child.{Child}
-use Rattle.verity_plan.specs.Slots.{slots, child_at, FillsSlots}
+use Rattle.verity_pending.specs.declared.child.Child.{Child}
+use Rattle.verity_pending.specs.Slots.{slots, child_at, FillsSlots}
 
 -- a block that is written at a place
 abbrev pub written_over : ℕ → List ℕ → List ℕ → List ℕ

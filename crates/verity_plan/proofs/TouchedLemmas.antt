@@ -9,14 +9,14 @@ use Rattle.verity_digest.specs.Shape.{level_count, level_len, place, above}
 use Rattle.verity_digest.proofs.Growth.{above_within, above-zero, above-suc}
 use Rattle.verity_geometry.specs.Geometry.{digests_per_block}
 use Rattle.verity_geometry.proofs.Shapes.{branching, some}
-use Rattle.verity_plan.specs.Edits.{Edits}
-use Rattle.verity_plan.specs.Touched.{changed_blocks, has_fallen, is_touched, touched}
+use Rattle.verity_pending.specs.Edits.{Edits}
+use Rattle.verity_pending.specs.Touched.{changed_blocks, has_fallen, is_touched, touched}
 use Rattle.verity_plan.specs.Level.{IsOldOf}
 use Rattle.verity_plan.specs.Making.{old_level, level_of, IsChange, IsTouchedPlace}
 use Rattle.verity_plan.specs.Last.{IsAboveLast}
 use Rattle.verity_plan.specs.declared.tree.Change.{Change}
 use Rattle.verity_plan.specs.declared.level.OldLevel.{OldLevel}
-use Rattle.verity_plan.proofs.ParentLemmas.{Has, any_has, has_any, in_filter, touched_above, above_touched}
+use Rattle.verity_pending.proofs.ParentLemmas.{Has, any_has, has_any, in_filter, touched_above, above_touched}
 use Rattle.verity_plan.proofs.MakingLemmas.{old-there, old-top, old-above}
 use Rattle.verity_plan.proofs.LastLemmas.{level_some}
 

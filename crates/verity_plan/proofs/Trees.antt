@@ -11,13 +11,13 @@ use Rattle.verity_digest.specs.Rows.{row, block_at}
 use Rattle.verity_digest.proofs.Numbers.{IsLevelCount-level_count, level_below}
 use Rattle.verity_digest.proofs.Counts.{blocks_of_levels-first, blocks_of_levels-none, level_within, row_len-suc, row_len_top}
 use Rattle.verity_digest.proofs.Rows.{length-row, length-tree, tree-place, level_block-row, block_at-run, root-row}
-use Rattle.verity_plan.specs.Edits.{Edits}
-use Rattle.verity_plan.specs.Touched.{is_touched}
-use Rattle.verity_plan.specs.Kept.{KeepsUnchanged}
-use Rattle.verity_plan.specs.Digests.{digests_of}
+use Rattle.verity_pending.specs.Edits.{Edits}
+use Rattle.verity_pending.specs.Touched.{is_touched}
+use Rattle.verity_pending.specs.Kept.{KeepsUnchanged}
+use Rattle.verity_pending.specs.Digests.{digests_of}
 use Rattle.verity_plan.specs.Level.{Holds}
 use Rattle.verity_plan.specs.Standing.{BeginsWith}
-use Rattle.verity_plan.proofs.Untouched.{begun}
+use Rattle.verity_pending.proofs.Untouched.{begun}
 use Rattle.verity_plan.proofs.Kept.{keeps_untouched}
 use Rattle.verity_plan.proofs.Renewed.{touched_above_old}
 

@@ -3,9 +3,9 @@ use Rattle.std.specs.Prelude.{◌≡◌, ℕ, ◌+◌, ◌<◌, ◌≤◌, List,
 use Rattle.verity_digest.specs.Tree.{Hashing, per_block, tree}
 use Rattle.verity_geometry.specs.Geometry.{digests_per_block, levels_of}
 use Rattle.verity_plan.specs.declared.tree.Change.{Change}
-use Rattle.verity_plan.specs.Edits.{Edits}
-use Rattle.verity_plan.specs.Kept.{KeepsUnchanged}
-use Rattle.verity_plan.specs.Plan.{Planned, planned_at}
+use Rattle.verity_pending.specs.Edits.{Edits}
+use Rattle.verity_pending.specs.Kept.{KeepsUnchanged}
+use Rattle.verity_pending.specs.Plan.{Planned, planned_at}
 use Rattle.verity_plan.specs.Making.{touched_blocks}
 use Rattle.verity_plan.specs.Standing.{BeginsWith}
 

@@ -1,8 +1,8 @@
 -- Why a plan fails: the hash store's failure is answered by its name, and none is passed over.
 use Rattle.std.specs.Prelude.{◌≡◌, ℕ, ◌<◌, Result, Ok, Err}
 use Rattle.verity_store.specs.declared.fault.Which.TheVariants as which
-use Rattle.verity_plan.specs.declared.fault.EditFault.{EditFault}
-use Rattle.verity_plan.specs.declared.fault.EditFault.TheVariants.{NoMemory, Store}
+use Rattle.verity_pending.specs.declared.fault.EditFault.{EditFault}
+use Rattle.verity_pending.specs.declared.fault.EditFault.TheVariants.{NoMemory, Store}
 
 -- of a part that reads the hash store alone, whose failures are counted before and after it
 abbrev pub PlansOrFails : {T : Type 0} → Result T EditFault → ℕ → ℕ → Type 0

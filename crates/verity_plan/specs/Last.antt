@@ -3,13 +3,13 @@ use Rattle.std.specs.Prelude.{◌≡◌, ℕ, ◌+◌, ◌-◌, ◌/◌, ◌<◌
 use Rattle.verity_digest.specs.Tree.{Hashing, IsHashing, tree}
 use Rattle.verity_digest.specs.Shape.{place}
 use Rattle.verity_geometry.specs.Geometry.{digests_per_block}
-use Rattle.verity_plan.specs.declared.child.Child.{Child}
+use Rattle.verity_pending.specs.declared.child.Child.{Child}
 use Rattle.verity_plan.specs.declared.tree.Change.{Change}
-use Rattle.verity_plan.specs.Draft.{Draft, edits_of}
-use Rattle.verity_plan.specs.Touched.{changed_blocks}
-use Rattle.verity_plan.specs.Parents.{edited_blocks}
-use Rattle.verity_plan.specs.Slots.{AreNamed}
-use Rattle.verity_plan.specs.Plan.{AddsChild, numbers_of}
+use Rattle.verity_pending.specs.Draft.{Draft, edits_of}
+use Rattle.verity_pending.specs.Touched.{changed_blocks}
+use Rattle.verity_pending.specs.Parents.{edited_blocks}
+use Rattle.verity_pending.specs.Slots.{AreNamed}
+use Rattle.verity_pending.specs.Plan.{AddsChild, numbers_of}
 use Rattle.verity_plan.specs.Standing.{BeginsWith}
 
 -- a child of this number is added, whose digest has `size` bytes

@@ -3,10 +3,10 @@ use Rattle.std.specs.Prelude.{◌≡◌, ℕ, ◌+◌, ◌*◌, ◌/◌, ◌^◌
 use Rattle.std.specs.Fork.{slice_chunk}
 use Rattle.std.specs.List.Sorted.{IsNonDecreasingBy}
 use Rattle.verity_digest.specs.Tree.{Hashing, hash_block, per_block}
-use Rattle.verity_plan.specs.declared.child.Child.{Child}
+use Rattle.verity_pending.specs.declared.child.Child.{Child}
 use Rattle.verity_plan.specs.declared.level.OldLevel.{OldLevel}
 use Rattle.verity_plan.specs.declared.level.Level.{Level}
-use Rattle.verity_plan.specs.Slots.{child_at, AreNamed, AreSized, AreWithin}
+use Rattle.verity_pending.specs.Slots.{child_at, AreNamed, AreSized, AreWithin}
 
 -- these hash blocks of a store hold the digests `old`, of which the first may be kept elsewhere
 pub record Holds (h : Hashing) (old : List (List ℕ)) (level : OldLevel) (content : List (List ℕ)) : Type 0 where

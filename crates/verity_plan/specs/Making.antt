@@ -4,18 +4,18 @@ use Rattle.std.specs.Prelude.{[], ◌++◌, length, map, drop, sum_by, slice_ind
 use Rattle.std.specs.List.{range_with_len}
 use Rattle.verity_digest.specs.Tree.{Hashing, per_block, root, tree}
 use Rattle.verity_digest.specs.Shape.{level_count, row_len, level_len, level_start, place}
-use Rattle.verity_plan.specs.declared.child.Child.{Child}
+use Rattle.verity_pending.specs.declared.child.Child.{Child}
 use Rattle.verity_geometry.specs.Geometry.{IsShape, digests_per_block, start_of, total_of, levels_of}
 use Rattle.verity_plan.specs.declared.level.OldLevel.{OldLevel}
 use Rattle.verity_plan.specs.declared.level.Level.{Level}
 use Rattle.verity_plan.specs.declared.tree.Change.{Change}
-use Rattle.verity_plan.specs.Edits.{Edits}
-use Rattle.verity_plan.specs.Touched.{touched, is_touched}
-use Rattle.verity_plan.specs.Parents.{edited_blocks}
-use Rattle.verity_plan.specs.Kept.{KeepsUnchanged}
-use Rattle.verity_plan.specs.Digests.{digests_of}
-use Rattle.verity_plan.specs.Slots.{AreNamed}
-use Rattle.verity_plan.specs.Plan.{Planned, numbers_of, made_blocks}
+use Rattle.verity_pending.specs.Edits.{Edits}
+use Rattle.verity_pending.specs.Touched.{touched, is_touched}
+use Rattle.verity_pending.specs.Parents.{edited_blocks}
+use Rattle.verity_pending.specs.Kept.{KeepsUnchanged}
+use Rattle.verity_pending.specs.Digests.{digests_of}
+use Rattle.verity_pending.specs.Slots.{AreNamed}
+use Rattle.verity_pending.specs.Plan.{Planned, numbers_of, made_blocks}
 use Rattle.verity_plan.specs.Standing.{BeginsWith}
 
 -- what stood at level l of a tree of n data blocks that begins at block `first`: its blocks, or above it the root alone

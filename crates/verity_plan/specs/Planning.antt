@@ -8,11 +8,11 @@ use Rattle.verity_superblock.specs.Superblock.{Params, Volume, salted}
 use Rattle.verity_superblock.specs.Image.{superblock_block}
 use Rattle.verity_plan.specs.declared.tree.Change.{Change}
 use Rattle.verity_plan.specs.declared.planning.CommitPlan.{CommitPlan}
-use Rattle.verity_plan.specs.Draft.{Draft, edits_of}
-use Rattle.verity_plan.specs.Touched.{touched_count, old_touched_count}
-use Rattle.verity_plan.specs.Leaves.{hashes}
+use Rattle.verity_pending.specs.Draft.{Draft, edits_of}
+use Rattle.verity_pending.specs.Touched.{touched_count, old_touched_count}
+use Rattle.verity_pending.specs.Leaves.{hashes}
 use Rattle.verity_plan.specs.Levels.{moved_blocks}
-use Rattle.verity_plan.specs.Plan.{ArePlanned}
+use Rattle.verity_pending.specs.Plan.{ArePlanned}
 use Rattle.verity_plan.specs.Seen.{GivesAt}
 use Rattle.verity_plan.specs.Making.{IsTouchedPlace, touched_blocks}
 use Rattle.verity_plan.specs.Carried.{AreInTree}

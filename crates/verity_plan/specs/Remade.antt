@@ -3,8 +3,8 @@ use Rattle.std.specs.Prelude.{◌≡◌, ℕ, ◌+◌, ◌*◌, ◌<◌, List, [
 use Rattle.std.specs.Fork.{slice_chunk}
 use Rattle.std.specs.List.Sorted.{IsNonDecreasingBy}
 use Rattle.verity_digest.specs.Tree.{Hashing, hash_block}
-use Rattle.verity_plan.specs.declared.child.Child.{Child}
-use Rattle.verity_plan.specs.Slots.{slots, child_at, AreNamed}
+use Rattle.verity_pending.specs.declared.child.Child.{Child}
+use Rattle.verity_pending.specs.Slots.{slots, child_at, AreNamed}
 
 -- these children have the digests that stand at their numbers in `new`, and each slot of block i that none of them names
 -- holds the digest that stands there in `new`

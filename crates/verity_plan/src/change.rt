@@ -3,17 +3,16 @@ ghost use Rattle.std.specs.Prelude.{◌≡◌, ◌+◌, ◌-◌, ◌^◌, ◌≤
 ghost use Rattle.verity_digest.specs.Tree.{Hashing, tree};
 ghost use Rattle.verity_geometry.specs.Geometry.{total_of};
 ghost use Rattle.verity_store.specs.Stores.{StaysStore, TellsFailure};
-ghost use Rattle.verity_plan.specs.Edits.{Edits};
+ghost use Rattle.verity_pending.specs.Edits.{Edits};
 ghost use Rattle.verity_plan.specs.Levels.{KeepsFront, moved_blocks};
-ghost use Rattle.verity_plan.specs.Plan.{ArePlanned};
+ghost use Rattle.verity_pending.specs.Plan.{ArePlanned};
 ghost use Rattle.verity_plan.specs.Carried.{IsCarried, AreInTree};
 
 use crate::StoreFailed;
 use crate::levels::move_tree;
-use crate::made::Made;
 use crate::tree::Change;
-use crate::writes::write_made;
 use std::alloc::Allocator;
+use verity_pending::{Made, write_made};
 use verity_store::BlockStore;
 
 /// Gives the hash store the length of the new tree, moves the levels that both trees have, writes the blocks of the plan

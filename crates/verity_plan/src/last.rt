@@ -4,17 +4,15 @@ ghost use Rattle.verity_digest.specs.Hash.{size_of};
 ghost use Rattle.verity_store.specs.Stores.{IsOnlyRead};
 ghost use Rattle.verity_plan.specs.Faults.{PlansOrFails};
 ghost use Rattle.verity_plan.specs.Seen.{GivesAt, Shows};
-ghost use Rattle.verity_plan.specs.Slots.{AreSized, AreWithin};
+ghost use Rattle.verity_pending.specs.Slots.{AreSized, AreWithin};
 ghost use Rattle.verity_plan.specs.Making.{IsChange};
 ghost use Rattle.verity_plan.specs.Last.{AddsLast, NamesLast, IsAboveLast, AreChanged, AreEdited, NamesEdited};
 
 use crate::EditFault;
-use crate::child::Child;
-use crate::children::Children;
-use crate::pending::Pending;
 use crate::tree::Change;
 use std::alloc::Allocator;
 use verity_digest::{Algorithm, Digest};
+use verity_pending::{Child, Children, Pending};
 use verity_store::{BlockStore, Which};
 
 /// Adds the last data block of the new count to the leaves, with the digest that level 0 of the committed tree holds. It

@@ -6,16 +6,14 @@ ghost use Rattle.verity_digest.specs.Hash.{hashing, size_of};
 ghost use Rattle.verity_store.specs.Stores.{IsOnlyRead, TellsFailure};
 ghost use Rattle.verity_plan.specs.Faults.{PlansOrFails};
 ghost use Rattle.verity_plan.specs.Seen.{GivesAt, Shows};
-ghost use Rattle.verity_plan.specs.Slots.{slots, AreSized};
-ghost use Rattle.verity_plan.specs.Plan.{numbers_of, places, ArePlanned, AddsPlanned, AddsChild, made_blocks, made_digests};
+ghost use Rattle.verity_pending.specs.Slots.{slots, AreSized};
+ghost use Rattle.verity_pending.specs.Plan.{numbers_of, places, ArePlanned, AddsPlanned, AddsChild, made_blocks, made_digests};
 
-use crate::child::Child;
-use crate::children::Children;
-use crate::made::Made;
 use crate::plan::{remake, set_slot};
 use crate::{EditFault, StoreFailed};
 use std::alloc::Allocator;
 use verity_digest::{Digest, Hasher};
+use verity_pending::{Child, Children, Made};
 use verity_store::{BlockStore, Which};
 
 /// Where the hash blocks of a level of the committed tree stand, and its first digest where no block holds it.

@@ -1,12 +1,12 @@
 //! What a commit makes again: the numbers of the blocks, and one hash block from what it held.
 ghost use Rattle.std.specs.Prelude.{◌≡◌, ◌≢◌, ℕ, ◌+◌, ◌-◌, ◌*◌, ◌/◌, ◌^◌, ◌<◌, ◌≤◌, true, false, [], length, map, drop};
 ghost use Rattle.std.specs.Prelude.{slice_index_or, slice_set, IfOk};
-ghost use Rattle.verity_plan.specs.Parents.{parents};
-ghost use Rattle.verity_plan.specs.Slots.{slots, child_at, AreSized, FillsSlots};
+ghost use Rattle.verity_pending.specs.Parents.{parents};
+ghost use Rattle.verity_pending.specs.Slots.{slots, child_at, AreSized, FillsSlots};
 ghost use Rattle.verity_plan.specs.Remade.{IsRemade};
 
-use crate::children::Children;
 use std::alloc::{AllocError, Allocator};
+use verity_pending::Children;
 
 /// Whether the last of these numbers is this one.
 fn is_last(numbers: &[u64], number: u64) -> bool

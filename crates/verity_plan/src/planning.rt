@@ -9,23 +9,22 @@ ghost use Rattle.verity_superblock.specs.Image.{superblock_block};
 ghost use Rattle.verity_store.specs.Stores.{IsOnlyRead};
 ghost use Rattle.verity_plan.specs.Faults.{PlansOrFails};
 ghost use Rattle.verity_plan.specs.Seen.{GivesAt, Shows};
-ghost use Rattle.verity_plan.specs.Draft.{edits_of};
-ghost use Rattle.verity_plan.specs.Leaves.{hashes};
-ghost use Rattle.verity_plan.specs.Touched.{touched_count};
-ghost use Rattle.verity_plan.specs.Plan.{ArePlanned};
+ghost use Rattle.verity_pending.specs.Draft.{edits_of};
+ghost use Rattle.verity_pending.specs.Leaves.{hashes};
+ghost use Rattle.verity_pending.specs.Touched.{touched_count};
+ghost use Rattle.verity_pending.specs.Plan.{ArePlanned};
 ghost use Rattle.verity_plan.specs.Making.{IsChange, IsTouchedPlace, touched_blocks};
 ghost use Rattle.verity_plan.specs.Carried.{AreInTree};
 ghost use Rattle.verity_plan.specs.Standing.{BeginsWith};
 
 use crate::EditFault;
 use crate::last::add_fallen;
-use crate::made::Made;
-use crate::pending::Pending;
 use crate::rooms::{most_made, rooms_for};
 use crate::tree::{Change, make_tree};
 use std::alloc::Allocator;
 use verity_digest::{Digest, Hasher};
 use verity_geometry::Geometry;
+use verity_pending::{Made, Pending};
 use verity_store::{BlockStore, Which};
 use verity_superblock::Superblock;
 

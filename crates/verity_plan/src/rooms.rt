@@ -3,10 +3,10 @@
 ghost use Rattle.std.specs.Prelude.{◌≡◌, ◌<◌, [], IfOk};
 ghost use Rattle.verity_geometry.specs.Geometry.{levels_of};
 
-use crate::children::Children;
 use std::alloc::{AllocError, Allocator};
 use std::marker::Model;
 use verity_geometry::Geometry;
+use verity_pending::Children;
 
 /// The room for the lists of a level: the numbers of the blocks that are made again, and their digests. Nothing stands in it.
 #[derive(Drop)]
@@ -16,7 +16,7 @@ pub struct Room<A: Allocator> {
 }
 
 impl<A: Allocator> Model for Room<A> {
-    ghost use Rattle.verity_plan.specs.Children.{Listed};
+    ghost use Rattle.verity_pending.specs.Children.{Listed};
 
     ghost Value = { Listed };
 

@@ -7,23 +7,22 @@ ghost use Rattle.verity_geometry.specs.Geometry.{digests_per_block, levels_of, s
 ghost use Rattle.verity_store.specs.Stores.{IsOnlyRead};
 ghost use Rattle.verity_plan.specs.Faults.{PlansOrFails};
 ghost use Rattle.verity_plan.specs.Seen.{GivesAt, Shows};
-ghost use Rattle.verity_plan.specs.Parents.{parents};
+ghost use Rattle.verity_pending.specs.Parents.{parents};
 ghost use Rattle.verity_plan.specs.Level.{Holds, Renews, IsOldOf};
-ghost use Rattle.verity_plan.specs.Edits.{Edits};
-ghost use Rattle.verity_plan.specs.Touched.{touched_count};
-ghost use Rattle.verity_plan.specs.Slots.{child_at, AreSized, AreWithin};
-ghost use Rattle.verity_plan.specs.Plan.{numbers_of, places, ArePlanned, made_blocks, made_digests};
+ghost use Rattle.verity_pending.specs.Edits.{Edits};
+ghost use Rattle.verity_pending.specs.Touched.{touched_count};
+ghost use Rattle.verity_pending.specs.Slots.{child_at, AreSized, AreWithin};
+ghost use Rattle.verity_pending.specs.Plan.{numbers_of, places, ArePlanned, made_blocks, made_digests};
 ghost use Rattle.verity_plan.specs.Making.{old_level, touched_places, touched_blocks, IsEdited, IsTouchedPlace, StandsFor};
 
 use crate::EditFault;
-use crate::children::Children;
 use crate::level::{Level, OldLevel, make_level};
-use crate::made::Made;
 use crate::plan::parents;
 use crate::rooms::{Room, next_room};
 use std::alloc::Allocator;
 use verity_digest::{Digest, Hasher};
 use verity_geometry::Geometry;
+use verity_pending::{Children, Made};
 use verity_store::{BlockStore, Which};
 
 /// The committed tree, which begins at a hash block and has a root hash, and the tree that a commit makes in its place.

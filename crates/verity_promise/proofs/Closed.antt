@@ -17,7 +17,7 @@ use Rattle.verity_superblock.proofs.LineReads.{algorithm_of-sized}
 use Rattle.verity_edit.specs.declared.command.Command.{Command}
 use Rattle.verity_edit.specs.declared.command.Reply.{Reply}
 use Rattle.verity_edit.specs.declared.command.Reply.TheVariants.{Refused}
-use Rattle.verity_plan.specs.declared.fault.EditFault.TheVariants.{Store}
+use Rattle.verity_pending.specs.declared.fault.EditFault.TheVariants.{Store}
 use Rattle.verity_build.specs.Faults.{HasFailed}
 use Rattle.verity_store.specs.declared.fault.Which.{Which}
 use Rattle.verity_store.specs.declared.fault.Which.TheVariants as which
@@ -28,8 +28,8 @@ use Rattle.verity_edit.specs.Editing.{Editing, FitsStores, Stands, IsWhole, hash
 use Rattle.verity_edit.specs.Opening.{IsOpened}
 use Rattle.verity_edit.specs.Running.{AreAnswered, LeadsAll, IsNoFailure, IsUnfailed, is_commit}
 use Rattle.verity_edit.specs.Faults.{IsNotPassedOver}
-use Rattle.verity_plan.specs.declared.fault.EditFault.{EditFault}
-use Rattle.verity_plan.specs.declared.fault.EditFault.TheVariants as fault
+use Rattle.verity_pending.specs.declared.fault.EditFault.{EditFault}
+use Rattle.verity_pending.specs.declared.fault.EditFault.TheVariants as fault
 use Rattle.verity_chain.specs.Table.{hashing_of, tree_len}
 use Rattle.verity_check.specs.Holds.{Holds}
 use Rattle.verity_check.specs.Verifier.{AreStoresOf}

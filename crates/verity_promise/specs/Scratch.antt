@@ -10,7 +10,7 @@ use Rattle.verity_superblock.specs.Image.{hash_image}
 use Rattle.verity_edit.specs.declared.command.Command.{Command}
 use Rattle.verity_edit.specs.declared.command.Reply.{Reply}
 use Rattle.verity_edit.specs.declared.command.Reply.TheVariants.{Refused}
-use Rattle.verity_plan.specs.declared.fault.EditFault.TheVariants.{Store}
+use Rattle.verity_pending.specs.declared.fault.EditFault.TheVariants.{Store}
 use Rattle.verity_build.specs.Faults.{HasFailed}
 use Rattle.verity_edit.specs.Edits.{unedited}
 use Rattle.verity_edit.specs.After.{State, After}

@@ -10,8 +10,9 @@ use crate::edited::Edited;
 use nbd_session::ExportName;
 use std::alloc::{AllocError, Allocator, Global};
 use std::io::{Read, Write};
-use verity_edit::{Command, LineEditor, OpenRefused, Reply};
+use verity_edit::{Command, OpenRefused, Reply};
 use verity_hub::ServeFault;
+use verity_line::LineEditor;
 use verity_store::BlockStore;
 use verity_superblock::Table;
 

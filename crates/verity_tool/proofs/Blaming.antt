@@ -1,6 +1,6 @@
 -- Refusals, and the words that they blame.
-use Rattle.std.proofs.Common.{◌≡◌, Bool, true, false, ℕ, List, Option, Some, None, Result, Ok, Err, subst, sym, ap, ◌∙◌}
-use Rattle.std.specs.Prelude.{if◌then◌else◌, IfErr, ok_or}
+use Rattle.std.proofs.Common.{◌≡◌, Bool, true, false, ℕ, List, Option, Some, None, Ok, Err, subst, sym, ap, ◌∙◌}
+use Rattle.std.specs.Prelude.{if◌then◌else◌, ok_or}
 use Rattle.std.specs.Str.Parse.{digits_value}
 use Rattle.uuid.specs.Text.{parsed}
 use Rattle.verity_files.specs.Words.{is_decimal, number_in, uuid_in}
@@ -9,8 +9,7 @@ use Rattle.verity_files.specs.declared.failure.Failure.TheVariants as failure
 use Rattle.verity_files.specs.declared.failure.Word.{Word}
 use Rattle.verity_files.specs.declared.failure.Word.TheVariants as word
 use Rattle.verity_words.specs.declared.words.format.FormatWords.{FormatWords}
-use Rattle.verity_words.specs.declared.words.talk.TalkWords.{TalkWords}
-use Rattle.verity_tool.specs.Blamed.{FormatBlames, TalkBlames}
+use Rattle.verity_tool.specs.Blamed.{FormatBlames}
 
 only : (read : Bool) (n : ℕ) (known e : Failure) → (if read then Ok n else Err known) ≡ Err e → e ≡ known
 only true n known e is = absurd (cc is)
@@ -40,8 +39,3 @@ pub of_uuid : (words : FormatWords) (e : Failure) → uuid_in words.uuid.now ≡
 of_uuid words e is =
     let same = unread (parsed words.uuid.now) (failure.Word word.Uuid) e is in
     subst (FormatBlames words) (sym same) (is ∙ ap Err same)
-
--- want of memory blames none
-pub starved : {T : Type 0} (r : Result T Failure) (words : TalkWords) → IfErr r (λ e. e ≡ failure.NoMemory) → IfErr r (TalkBlames words)
-starved (Ok x) words is = tt
-starved (Err e) words is = subst (TalkBlames words) (sym is) tt

@@ -1,4 +1,2 @@
 pub mod Blaming
 pub mod Dumping
-pub mod Reporting
-pub mod Talking

@@ -1,4 +1,3 @@
 pub mod Blamed
 pub mod Formatting
 pub mod Printed
-pub mod Serving

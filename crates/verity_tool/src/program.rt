@@ -1,13 +1,9 @@
 //! The whole program.
 
 use crate::dump::dump;
-use crate::failing::fail;
 use crate::format::format;
 use crate::recover::recover;
-use crate::serve::serve;
-use crate::talk::talk;
 use crate::told::Told;
-use crate::verify::verify;
 use clap::Error;
 use clap::error::ErrorKind;
 use std::fs::File;
@@ -17,6 +13,7 @@ use std::rt::Files;
 use std::time::Clock;
 use verity_changes::{edit, scratch, update};
 use verity_files::{DONE, Failure, NOT_UNDERSTOOD, REFUSED};
+use verity_serving::{fail, serve, talk, verify};
 use verity_words::{Request, explain, explain_corrupt, explain_usage, explain_words, read_words};
 
 /// Does what the words ask for, of which the first is the program's own name, and answers the status that the process

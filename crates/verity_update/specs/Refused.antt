@@ -10,9 +10,9 @@ use Rattle.verity_chain.specs.Right.{Fits, Clash}
 use Rattle.verity_chain.specs.Stores.{hash_given}
 use Rattle.verity_chain.specs.declared.notes.ReadRefused.{ReadRefused}
 use Rattle.verity_chain.specs.declared.notes.ReadRefused.TheVariants as refused
-use Rattle.verity_plan.specs.declared.fault.EditFault.{EditFault}
-use Rattle.verity_plan.specs.declared.fault.EditFault.TheVariants.{WrongLength, TooSmall, TooLarge, NoMemory, Store, Broken}
-use Rattle.verity_plan.specs.declared.fault.EditFault.TheVariants.{StoreSize, Line, Untrusted}
+use Rattle.verity_pending.specs.declared.fault.EditFault.{EditFault}
+use Rattle.verity_pending.specs.declared.fault.EditFault.TheVariants.{WrongLength, TooSmall, TooLarge, NoMemory, Store, Broken}
+use Rattle.verity_pending.specs.declared.fault.EditFault.TheVariants.{StoreSize, Line, Untrusted}
 use Rattle.verity_update.specs.declared.edited.Edited as editor
 use Rattle.verity_update.specs.declared.fault.UpdateFault.{UpdateFault}
 use Rattle.verity_update.specs.declared.fault.UpdateFault.TheVariants.{New, Edit}

@@ -5,8 +5,8 @@ use Rattle.verity_store.specs.declared.store.BlockStore as store
 use Rattle.verity_chain.specs.Table.{Table, hashing_of}
 use Rattle.verity_chain.specs.Chain.{Given, Names}
 use Rattle.verity_chain.specs.Right.{Fits, Clash}
-use Rattle.verity_plan.specs.declared.fault.EditFault.{EditFault}
-use Rattle.verity_plan.specs.declared.fault.EditFault.TheVariants.{TooSmall, TooLarge}
+use Rattle.verity_pending.specs.declared.fault.EditFault.{EditFault}
+use Rattle.verity_pending.specs.declared.fault.EditFault.TheVariants.{TooSmall, TooLarge}
 use Rattle.verity_update.specs.Update.{GaveAll}
 
 -- the working image has the blocks of the committed one where both have one

@@ -6,7 +6,8 @@ ghost use Rattle.verity_edit.specs.Committing.{RefusesEdit};
 ghost use Rattle.verity_edit.specs.Edits.{grow_rule, shrink_rule, write_rule};
 
 use std::alloc::Allocator;
-use verity_edit::{EditFault, Editor, LineEditor};
+use verity_edit::{EditFault, Editor};
+use verity_line::LineEditor;
 use verity_store::BlockStore;
 
 /// What an update edits: an editor, whichever way it was opened.

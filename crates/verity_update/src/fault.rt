@@ -29,7 +29,7 @@ impl From<EditFault> for UpdateFault {
 impl From<AllocError> for UpdateFault {
     ghost use Rattle.std.specs.Prelude.{◌≡◌};
     ghost use Rattle.verity_update.specs.declared.fault.UpdateFault.TheVariants.{Edit};
-    ghost use Rattle.verity_plan.specs.declared.fault.EditFault.TheVariants as fault;
+    ghost use Rattle.verity_pending.specs.declared.fault.EditFault.TheVariants as fault;
 
     ghost from_gives = { λ _ f. f ≡ Edit fault.NoMemory };
 

@@ -9,7 +9,7 @@ use Rattle.verity_journal.specs.declared.disks.Device.{Device}
 use Rattle.verity_journal.specs.declared.disks.Device.TheVariants as device
 use Rattle.verity_journal.specs.declared.disks.DiskFault.{DiskFault}
 use Rattle.verity_journal.specs.declared.disks.DiskFault.TheVariants as disk
-use Rattle.verity_plan.specs.declared.fault.EditFault.TheVariants as edit
+use Rattle.verity_pending.specs.declared.fault.EditFault.TheVariants as edit
 use Rattle.verity_store.specs.declared.fault.StoreFault.TheVariants as store
 use Rattle.verity_store.specs.declared.fault.Which.TheVariants as which
 

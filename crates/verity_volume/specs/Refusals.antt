@@ -7,7 +7,7 @@ use Rattle.verity_files.specs.declared.failure.Failure.TheVariants as failure
 use Rattle.verity_files.specs.declared.failure.Word.{Word}
 use Rattle.verity_files.specs.declared.fault.Fault.{Fault}
 use Rattle.verity_files.specs.declared.fault.Fault.TheVariants as fault
-use Rattle.verity_plan.specs.declared.fault.EditFault.TheVariants as edit
+use Rattle.verity_pending.specs.declared.fault.EditFault.TheVariants as edit
 
 -- no word of the command is blamed
 abbrev pub BlamesNone : Failure → Type 0

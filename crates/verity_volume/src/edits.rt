@@ -7,7 +7,8 @@ ghost use Rattle.verity_edit.specs.declared.command.Committed.{Committed};
 ghost use Rattle.verity_edit.specs.declared.command.Reply.{Reply};
 
 use verity_digest::Digest;
-use verity_edit::{Command, Committed, EditFault, Editor, LineEditor, Reply};
+use verity_edit::{Command, Committed, EditFault, Editor, Reply};
+use verity_line::LineEditor;
 use verity_store::BlockStore;
 use verity_superblock::Superblock;
 
@@ -102,7 +103,7 @@ impl<D: BlockStore + Drop, H: BlockStore + Drop> Edits for Editor<D, H> {
 }
 
 impl<D: BlockStore + Drop, H: BlockStore + Drop> Edits for LineEditor<D, H> {
-    ghost use Rattle.verity_edit.specs.Line.{CommitsUnder, IsAnsweredUnder};
+    ghost use Rattle.verity_line.specs.Line.{CommitsUnder, IsAnsweredUnder};
 
     ghost count = { λ e. e.draft.working };
 

@@ -14,9 +14,9 @@ use Rattle.verity_digest.specs.Tree.{tree}
 use Rattle.verity_geometry.specs.Geometry.{Shape, levels_of, total_of}
 use Rattle.verity_store.specs.Blocks.{resized}
 use Rattle.verity_superblock.specs.Superblock.{zero_filled}
-use Rattle.verity_build.specs.Opens.{opens}
-use Rattle.verity_build.proofs.Trees.{levels_of_opens}
-use Rattle.verity_build.specs.Open.{Open}
+use Rattle.verity_tree.specs.Opens.{opens}
+use Rattle.verity_tree.proofs.Trees.{levels_of_opens}
+use Rattle.verity_tree.specs.Open.{Open}
 use Rattle.verity_build.specs.Device.{AreStored}
 use Rattle.verity_build.proofs.Finishes.{root_known, root_right, holds_tree, length-resized, get_or-resized_old, device_is, stored_behind}
 use Rattle.verity_build.proofs.building.write_device.Goals as goal

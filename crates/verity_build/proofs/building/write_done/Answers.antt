@@ -7,10 +7,10 @@ use Rattle.verity_digest.specs.Tree.{Hashing, hash_block, tree}
 use Rattle.verity_geometry.specs.Geometry.{Shape, digests_per_block, levels_of, len_of, place_of, total_of}
 use Rattle.verity_geometry.proofs.Shapes.{wide}
 use Rattle.verity_store.specs.Stores.{IsLater}
-use Rattle.verity_build.specs.Opens.{hashing_of, opens}
-use Rattle.verity_build.proofs.Trees.{levels_of_opens, closes_as}
-use Rattle.verity_build.specs.Open.{Open}
-use Rattle.verity_build.specs.Climb.{open_at, Closes}
+use Rattle.verity_tree.specs.Opens.{hashing_of, opens}
+use Rattle.verity_tree.proofs.Trees.{levels_of_opens, closes_as}
+use Rattle.verity_tree.specs.Open.{Open}
+use Rattle.verity_tree.specs.Climb.{open_at, Closes}
 use Rattle.verity_build.specs.Progress.{Settling}
 use Rattle.verity_build.specs.Device.{AreStored}
 use Rattle.verity_build.proofs.Settles.{index_below, settling_next, growing_end, grown_end}

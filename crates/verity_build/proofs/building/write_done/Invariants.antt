@@ -1,7 +1,7 @@
 use Rattle.std.proofs.Common.{◌≡◌, true}
 use Rattle.verity_digest.specs.Hash.{hashing}
 use Rattle.verity_geometry.specs.Geometry.{digests_per_block}
-use Rattle.verity_build.specs.Opens.{opens}
+use Rattle.verity_tree.specs.Opens.{opens}
 use Rattle.verity_build.specs.Progress.{Settling}
 use Rattle.verity_build.specs.Device.{StaysRight, StaysStored, WritesFrom}
 use Rattle.verity_build.proofs.building.write_done.Given as goal

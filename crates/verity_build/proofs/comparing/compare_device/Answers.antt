@@ -3,8 +3,8 @@ use Rattle.std.proofs.lemmas.Result.{err_from_is_err_and}
 use Rattle.verity_digest.specs.Hash.{Salted, hashing}
 use Rattle.verity_digest.specs.Tree.{root, tree}
 use Rattle.verity_geometry.specs.Geometry.{Shape, levels_of}
-use Rattle.verity_build.specs.Opens.{opens}
-use Rattle.verity_build.proofs.Trees.{levels_of_opens}
+use Rattle.verity_tree.specs.Opens.{opens}
+use Rattle.verity_tree.proofs.Trees.{levels_of_opens}
 use Rattle.verity_build.specs.Differences.{AreCompared}
 use Rattle.verity_build.specs.declared.comparing.Place.{Place}
 use Rattle.verity_build.proofs.Refusals.{same_fault}

@@ -2,7 +2,7 @@ use Rattle.std.proofs.Common.{◌≡◌, ◌+◌, ◌≤◌, true}
 use Rattle.verity_digest.specs.Hash.{hashing}
 use Rattle.verity_geometry.specs.Geometry.{digests_per_block}
 use Rattle.verity_store.specs.Stores.{IsOnlyRead}
-use Rattle.verity_build.specs.Opens.{opens}
+use Rattle.verity_tree.specs.Opens.{opens}
 use Rattle.verity_build.specs.Progress.{closed, Settling}
 use Rattle.verity_build.specs.Device.{StaysRight}
 use Rattle.verity_build.specs.Differences.{StaysCompared}

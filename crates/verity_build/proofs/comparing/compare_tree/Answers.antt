@@ -7,16 +7,16 @@ use Rattle.verity_geometry.specs.Geometry.{Shape, digests_per_block, levels_of, 
 use Rattle.verity_geometry.proofs.Shapes.{wide, some}
 use Rattle.verity_store.specs.Stores.{IsOnlyRead}
 use Rattle.verity_store.proofs.StoreLemmas.{only_read_same, only_read_then}
-use Rattle.verity_build.specs.Opens.{opens}
-use Rattle.verity_build.proofs.Trees.{levels_of_opens}
-use Rattle.verity_build.specs.Open.{Open}
-use Rattle.verity_build.specs.Ahead.{AreAhead}
-use Rattle.verity_build.specs.Climb.{Comes}
+use Rattle.verity_tree.specs.Opens.{opens}
+use Rattle.verity_tree.proofs.Trees.{levels_of_opens}
+use Rattle.verity_tree.specs.Open.{Open}
+use Rattle.verity_tree.specs.Ahead.{AreAhead}
+use Rattle.verity_tree.specs.Climb.{Comes}
 use Rattle.verity_build.specs.Progress.{Growing, Grown, Settling, IsRight}
 use Rattle.verity_build.specs.Device.{StaysRight}
 use Rattle.verity_build.specs.Differences.{AreCompared, StaysCompared}
 use Rattle.verity_build.proofs.Refusals.{same_fault}
-use Rattle.verity_build.proofs.Ahead.{ahead_none, comes_now}
+use Rattle.verity_tree.proofs.Ahead.{ahead_none, comes_now}
 use Rattle.verity_build.proofs.Settles.{growing_empty, settling_from, same_index}
 use Rattle.verity_build.proofs.Rightly.{right_empty}
 use Rattle.verity_build.proofs.Turns.{come_right}

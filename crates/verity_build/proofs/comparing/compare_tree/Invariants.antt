@@ -3,8 +3,8 @@ use Rattle.verity_digest.specs.Hash.{hashing}
 use Rattle.verity_digest.specs.Tree.{tree}
 use Rattle.verity_geometry.specs.Geometry.{digests_per_block}
 use Rattle.verity_store.specs.Stores.{IsOnlyRead}
-use Rattle.verity_build.specs.Opens.{opens}
-use Rattle.verity_build.specs.Ahead.{AreAhead}
+use Rattle.verity_tree.specs.Opens.{opens}
+use Rattle.verity_tree.specs.Ahead.{AreAhead}
 use Rattle.verity_build.specs.Progress.{closed, Growing, Grown, IsRight}
 use Rattle.verity_build.specs.Differences.{AreCompared}
 use Rattle.verity_build.proofs.comparing.compare_tree.Given as goal

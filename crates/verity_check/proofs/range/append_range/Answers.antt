@@ -9,7 +9,7 @@ use Rattle.verity_store.specs.Blocks.{cut}
 use Rattle.verity_chain.specs.Table.{Table, height}
 use Rattle.verity_check.specs.Range.{Served, touched}
 use Rattle.verity_chain.specs.Stores.{hash_given}
-use Rattle.verity_check.specs.Stores.{given_in}
+use Rattle.verity_report.specs.Stores.{given_in}
 use Rattle.verity_check.specs.Cache.{IsChained}
 use Rattle.verity_check.specs.Refusal.{RefusesOneOf}
 use Rattle.verity_check.proofs.WalkLemmas.{given_in-grows}

@@ -8,7 +8,7 @@ use Rattle.verity_digest.proofs.Groups.{block_in_group}
 use Rattle.verity_store.specs.Given.{GaveSince}
 use Rattle.verity_chain.specs.Table.{Table, hashing_of}
 use Rattle.verity_chain.specs.Stores.{hash_given}
-use Rattle.verity_check.specs.Stores.{given_in}
+use Rattle.verity_report.specs.Stores.{given_in}
 use Rattle.verity_check.proofs.WalkLemmas.{given_in-more}
 use Rattle.verity_check.proofs.RangeLemmas.{Explains-more}
 use Rattle.verity_check.proofs.RunLemmas.{chunk_front, IsHashed, run_served, run_wrong}

@@ -4,7 +4,7 @@ use Rattle.verity_store.proofs.BlockLemmas.{length-cut}
 use Rattle.verity_chain.specs.Chain.{WrongAt}
 use Rattle.verity_check.specs.Range.{Served}
 use Rattle.verity_check.specs.Refusal.{Explains}
-use Rattle.verity_check.specs.Stores.{given_in}
+use Rattle.verity_report.specs.Stores.{given_in}
 use Rattle.verity_check.proofs.run.read_run.Goals as goal
 
 pub returns-then-good-read-clause-err : goal.returns-then-good-read-clause-err

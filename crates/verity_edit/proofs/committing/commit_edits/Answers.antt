@@ -1,7 +1,7 @@
 use Rattle.std.proofs.Common.{ℕ, List, arith, subst, sym, ap, ◌∙◌}
 use Rattle.verity_superblock.specs.Superblock.{Volume}
 use Rattle.verity_plan.specs.declared.tree.Change.{Change}
-use Rattle.verity_plan.specs.Draft.{Draft}
+use Rattle.verity_pending.specs.Draft.{Draft}
 use Rattle.verity_plan.specs.Planning.{IsPlan, IsRight}
 use Rattle.verity_edit.specs.Committing.{CanCommit, IsCarriedOut}
 use Rattle.verity_edit.proofs.CommitLemmas.{can_after, carried_before}

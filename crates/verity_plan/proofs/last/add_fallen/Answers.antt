@@ -1,9 +1,9 @@
 use Rattle.std.proofs.Common.{◌≡◌, ℕ, ◌-◌, [], ◌∷◌, ◌++◌, length, get_or, sym, ap, ◌∙◌}
 use Rattle.std.proofs.lemmas.List.{map-append}
-use Rattle.verity_plan.specs.declared.child.Child.{Child}
-use Rattle.verity_plan.specs.Draft.{Draft, edits_of}
-use Rattle.verity_plan.specs.Plan.{numbers_of}
-use Rattle.verity_plan.proofs.Drafts.{length-working}
+use Rattle.verity_pending.specs.declared.child.Child.{Child}
+use Rattle.verity_pending.specs.Draft.{Draft, edits_of}
+use Rattle.verity_pending.specs.Plan.{numbers_of}
+use Rattle.verity_pending.proofs.Drafts.{length-working}
 use Rattle.verity_plan.proofs.LevelMoves.{on_ok}
 use Rattle.verity_plan.proofs.LastLemmas.{keeps_last_edited, cut_last, AreNamed-last}
 use Rattle.verity_plan.proofs.last.add_fallen.Goals as goal

@@ -4,7 +4,7 @@ use Rattle.verity_digest.specs.Tree.{per_block}
 use Rattle.verity_digest.specs.Shape.{level_count, level_len, place}
 use Rattle.verity_geometry.specs.Geometry.{Shape, digests_per_block}
 use Rattle.verity_geometry.proofs.Shapes.{branching, some}
-use Rattle.verity_plan.specs.declared.child.Child.{Child}
+use Rattle.verity_pending.specs.declared.child.Child.{Child}
 use Rattle.verity_plan.specs.declared.tree.Change.{Change}
 use Rattle.verity_plan.specs.Last.{IsAboveLast}
 use Rattle.verity_plan.proofs.SeenLemmas.{shows_read, gives_read}

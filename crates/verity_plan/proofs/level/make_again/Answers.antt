@@ -7,8 +7,8 @@ use Rattle.verity_digest.specs.Hash.{hashing}
 use Rattle.verity_digest.proofs.Sha.{length-digest_of}
 use Rattle.verity_digest.proofs.Packing.{get_or-pack}
 use Rattle.verity_plan.specs.Level.{Renews}
-use Rattle.verity_plan.specs.Slots.{slots}
-use Rattle.verity_plan.proofs.Untouched.{begun}
+use Rattle.verity_pending.specs.Slots.{slots}
+use Rattle.verity_pending.proofs.Untouched.{begun}
 use Rattle.verity_plan.proofs.LevelLemmas.{can_remake}
 use Rattle.verity_plan.proofs.level.make_again.Goals as goal
 

@@ -1,8 +1,8 @@
 use Rattle.std.proofs.Common.{◌≡◌, ℕ, ◌+◌, ◌++◌, ◌∷◌, [], length, rules, ap, ◌∙◌}
 use Rattle.verity_digest.specs.Tree.{Hashing}
 use Rattle.verity_digest.specs.Hash.{hashing}
-use Rattle.verity_plan.specs.declared.child.Child.{Child}
-use Rattle.verity_plan.specs.Plan.{Planned}
+use Rattle.verity_pending.specs.declared.child.Child.{Child}
+use Rattle.verity_pending.specs.Plan.{Planned}
 use Rattle.verity_plan.proofs.level.make_block.Goals as goal
 
 pub returns-in-Ok-push-clause-made : goal.returns-in-Ok-push-clause-made

@@ -4,10 +4,10 @@ use Rattle.std.proofs.lemmas.List.Elements.{Contains-get_or}
 use Rattle.verity_digest.specs.Tree.{Hashing, pack}
 use Rattle.verity_digest.specs.Hash.{hashing, size_of}
 use Rattle.verity_store.proofs.StoreLemmas.{only_read_then}
-use Rattle.verity_plan.specs.declared.child.Child.{Child}
-use Rattle.verity_plan.specs.Slots.{AreSized, nobody}
+use Rattle.verity_pending.specs.declared.child.Child.{Child}
+use Rattle.verity_pending.specs.Slots.{AreSized, nobody}
 use Rattle.verity_plan.specs.Level.{Holds, IsLevel, IsOldBlock, IsOldOf}
-use Rattle.verity_plan.specs.Plan.{Planned, nothing_planned, numbers_of, places, ArePlanned, made_blocks, made_digests}
+use Rattle.verity_pending.specs.Plan.{Planned, nothing_planned, numbers_of, places, ArePlanned, made_blocks, made_digests}
 use Rattle.verity_plan.proofs.SeenLemmas.{shows_before, gives_then, gives_more}
 use Rattle.verity_plan.proofs.Pushes.{each_push, map_push}
 use Rattle.verity_plan.proofs.level.make_level.Goals as goal

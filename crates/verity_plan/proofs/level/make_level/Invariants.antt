@@ -2,9 +2,9 @@ use Rattle.std.proofs.Common.{◌≡◌, ℕ, ◌+◌, ◌≤◌, ◌++◌, List
 use Rattle.verity_digest.specs.Hash.{hashing}
 use Rattle.verity_store.specs.Stores.{IsOnlyRead}
 use Rattle.verity_plan.specs.Seen.{GivesAt, Shows}
-use Rattle.verity_plan.specs.Slots.{AreSized}
+use Rattle.verity_pending.specs.Slots.{AreSized}
 use Rattle.verity_plan.specs.Level.{Holds, Renews, IsOldOf}
-use Rattle.verity_plan.specs.Plan.{numbers_of, places, ArePlanned, made_blocks, made_digests}
+use Rattle.verity_pending.specs.Plan.{numbers_of, places, ArePlanned, made_blocks, made_digests}
 use Rattle.verity_plan.proofs.level.make_level.Given as goal
 
 abbrev pub invariant-loop-index : goal.invariant-loop-index

@@ -3,7 +3,7 @@ use Rattle.std.specs.Prelude.{IfSome}
 use Rattle.std.proofs.Math.Nat.{mul-le-mul_right}
 use Rattle.std.proofs.lemmas.List.{get_or-set_same}
 use Rattle.verity_store.proofs.BlockLemmas.{length-cut}
-use Rattle.verity_plan.specs.Slots.{slots}
+use Rattle.verity_pending.specs.Slots.{slots}
 use Rattle.verity_plan.specs.Level.{IsOldBlock}
 use Rattle.verity_plan.proofs.SeenLemmas.{shows_read, gives_read}
 use Rattle.verity_plan.proofs.level.read_old.Goals as goal

@@ -2,7 +2,7 @@ use Rattle.std.proofs.Common.{ℕ, ◌+◌, ◌<◌, ◌≤◌, min, refl, arith
 use Rattle.verity_geometry.specs.Geometry.{levels_of, len_of, start_of}
 use Rattle.verity_geometry.proofs.OfShape.{starts_rise}
 use Rattle.verity_store.specs.Moves.{IsMoved, ChangesWithin}
-use Rattle.verity_plan.proofs.Frames.{stays_then}
+use Rattle.verity_pending.proofs.Frames.{stays_then}
 use Rattle.verity_plan.proofs.LevelMoves.{moved_apart, rest_apart, KeepsFront-then, KeepsFront-within}
 use Rattle.verity_plan.proofs.MovedLemmas.{moved_below-more, moved_below-most, reads_level, moved_apart_all}
 use Rattle.verity_plan.proofs.levels.move_apart.Goals as goal

@@ -2,7 +2,7 @@ use Rattle.std.proofs.Common.{◌≡◌, ℕ, ◌+◌, ◌-◌, ◌<◌, ◌≤�
 use Rattle.verity_geometry.specs.Geometry.{levels_of, len_of, start_of}
 use Rattle.verity_geometry.proofs.OfShape.{starts_rise}
 use Rattle.verity_store.specs.Moves.{IsMoved, ChangesWithin}
-use Rattle.verity_plan.proofs.Frames.{stays_then}
+use Rattle.verity_pending.proofs.Frames.{stays_then}
 use Rattle.verity_plan.proofs.LevelMoves.{moved_together, rest_together, KeepsFront-then, KeepsFront-within}
 use Rattle.verity_plan.proofs.MovedLemmas.{moved_below-more, reads_level, moved_together_all}
 use Rattle.verity_plan.proofs.levels.move_together.Goals as goal

@@ -1,8 +1,8 @@
 use Rattle.std.proofs.Common.{◌≡◌, ◌*◌, ◌/◌, ◌%◌, ◌<◌, ◌≤◌, length, arith, rules, ◌∙◌, sym, ap, set, ⊎_elim}
 use Rattle.std.proofs.lemmas.Bool.{cases_lt}
 use Rattle.std.proofs.lemmas.Nat.{mod_below}
-use Rattle.verity_plan.specs.Slots.{slots, child_at}
-use Rattle.verity_plan.specs.declared.child.Child.{Child}
+use Rattle.verity_pending.specs.Slots.{slots, child_at}
+use Rattle.verity_pending.specs.declared.child.Child.{Child}
 use Rattle.verity_store.proofs.BlockLemmas.{length-cut}
 use Rattle.verity_plan.proofs.SlotLemmas.{FillsSlots-more}
 use Rattle.verity_plan.proofs.plan.fill.Goals as goal

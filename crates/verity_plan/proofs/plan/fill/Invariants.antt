@@ -1,5 +1,5 @@
 use Rattle.std.proofs.Common.{◌≡◌, ℕ, ◌*◌, ◌-◌, ◌/◌, ◌<◌, ◌≤◌, length, drop}
-use Rattle.verity_plan.specs.Slots.{slots, child_at, FillsSlots}
+use Rattle.verity_pending.specs.Slots.{slots, child_at, FillsSlots}
 use Rattle.verity_plan.proofs.plan.fill.Given as goal
 
 abbrev pub invariant-loop-at : goal.invariant-loop-at

@@ -3,8 +3,8 @@ use Rattle.std.proofs.Common.{arith, subst, sym, ap, ◌∙◌}
 use Rattle.std.specs.List.{dedup}
 use Rattle.std.proofs.lemmas.List.{map_more, take_all}
 use Rattle.std.proofs.lemmas.Simd.{map-map}
-use Rattle.verity_plan.specs.declared.child.Child.{Child}
-use Rattle.verity_plan.specs.Slots.{nobody}
+use Rattle.verity_pending.specs.declared.child.Child.{Child}
+use Rattle.verity_pending.specs.Slots.{nobody}
 use Rattle.verity_plan.proofs.DedupLemmas.{dedup_kept, dedup_pushed}
 use Rattle.verity_plan.proofs.plan.parents.Goals as goal
 use Rattle.verity_plan.proofs.plan.parents.Goals.{then-not-is_last+in_ok-push, else-not-is_last}

@@ -2,7 +2,7 @@ use Rattle.std.proofs.Common.{◌≡◌, ℕ, ◌+◌, ◌*◌, ◌-◌, ◌≤�
 use Rattle.std.proofs.Math.Nat.{mul-le-mul_right, add-mul}
 use Rattle.std.proofs.lemmas.Slice.{drop-put_mid}
 use Rattle.std.proofs.lemmas.List.{drop-drop}
-use Rattle.verity_plan.specs.Slots.{slots}
+use Rattle.verity_pending.specs.Slots.{slots}
 use Rattle.verity_plan.proofs.SlotLemmas.{slots-written_over}
 use Rattle.verity_plan.proofs.plan.set_slot.Goals as goal
 

@@ -4,10 +4,10 @@ use Rattle.verity_digest.specs.Tree.{Hashing, root, tree}
 use Rattle.verity_geometry.specs.Geometry.{Shape, digests_per_block, levels_of, total_of}
 use Rattle.verity_superblock.specs.Superblock.{Volume}
 use Rattle.verity_superblock.specs.Image.{superblock_block}
-use Rattle.verity_plan.specs.Draft.{Draft, edits_of}
-use Rattle.verity_plan.specs.Touched.{touched_count}
-use Rattle.verity_plan.specs.Leaves.{hashes}
-use Rattle.verity_plan.specs.Plan.{ArePlanned}
+use Rattle.verity_pending.specs.Draft.{Draft, edits_of}
+use Rattle.verity_pending.specs.Touched.{touched_count}
+use Rattle.verity_pending.specs.Leaves.{hashes}
+use Rattle.verity_pending.specs.Plan.{ArePlanned}
 use Rattle.verity_plan.specs.Seen.{GivesAt}
 use Rattle.verity_plan.specs.Making.{IsTouchedPlace, touched_blocks}
 use Rattle.verity_plan.specs.declared.tree.Change.{Change}

@@ -6,18 +6,18 @@ use Rattle.verity_profile.proofs.Bounds.{block_size_low}
 use Rattle.verity_geometry.specs.Geometry.{Shape, IsShape, digests_per_block, levels_of}
 use Rattle.verity_geometry.proofs.Shapes.{some}
 use Rattle.verity_store.proofs.StoreLemmas.{only_read_then}
-use Rattle.verity_plan.specs.declared.child.Child.{Child}
+use Rattle.verity_pending.specs.declared.child.Child.{Child}
 use Rattle.verity_plan.specs.declared.tree.Change.{Change}
-use Rattle.verity_plan.specs.Edits.{Edits}
-use Rattle.verity_plan.specs.Draft.{Draft, IsDraft, edits_of}
-use Rattle.verity_plan.specs.Slots.{AreNamed}
-use Rattle.verity_plan.specs.Plan.{ArePlanned}
+use Rattle.verity_pending.specs.Edits.{Edits}
+use Rattle.verity_pending.specs.Draft.{Draft, IsDraft, edits_of}
+use Rattle.verity_pending.specs.Slots.{AreNamed}
+use Rattle.verity_pending.specs.Plan.{ArePlanned}
 use Rattle.verity_plan.specs.Making.{IsChange, IsEdited, IsTouchedPlace, StandsFor, touched_blocks}
 use Rattle.verity_plan.specs.Last.{AreEdited, IsAboveLast}
 use Rattle.verity_plan.specs.Seen.{GivesAt}
 use Rattle.verity_plan.proofs.SeenLemmas.{shows_before, gives_then, gives_more}
 use Rattle.verity_plan.proofs.TouchedLemmas.{touched_last}
-use Rattle.verity_plan.proofs.Drafts.{length-working, KeepsUnchanged-draft}
+use Rattle.verity_pending.proofs.Drafts.{length-working, KeepsUnchanged-draft}
 use Rattle.verity_plan.proofs.PlanLemmas.{AreInTree-from, length-plan, some_image, length-some_image}
 use Rattle.verity_plan.proofs.planning.plan_tree.Goals as goal
 

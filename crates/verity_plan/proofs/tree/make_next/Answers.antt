@@ -7,13 +7,13 @@ use Rattle.verity_geometry.specs.Geometry.{digests_per_block}
 use Rattle.verity_geometry.proofs.Shapes.{branching}
 use Rattle.verity_plan.specs.declared.level.Level.{Level}
 use Rattle.verity_plan.specs.declared.tree.Change.{Change}
-use Rattle.verity_plan.specs.Slots.{AreSized}
-use Rattle.verity_plan.specs.Parents.{parents}
-use Rattle.verity_plan.specs.Plan.{numbers_of, places, made_blocks, made_digests}
+use Rattle.verity_pending.specs.Slots.{AreSized}
+use Rattle.verity_pending.specs.Parents.{parents}
+use Rattle.verity_pending.specs.Plan.{numbers_of, places, made_blocks, made_digests}
 use Rattle.verity_plan.specs.Level.{IsLevel, AreChildren, Holds, Renews, IsOldOf}
 use Rattle.verity_plan.specs.Seen.{GivesAt}
 use Rattle.verity_plan.specs.Making.{level_of}
-use Rattle.verity_plan.proofs.ParentLemmas.{parents_within}
+use Rattle.verity_pending.proofs.ParentLemmas.{parents_within}
 use Rattle.verity_plan.proofs.MakingLemmas.{IsLevel-change, next_within, if_ok}
 use Rattle.verity_plan.proofs.tree.make_next.Goals as goal
 

@@ -13,13 +13,13 @@ use Rattle.verity_profile.proofs.Bounds.{block_size_low}
 use Rattle.verity_geometry.specs.Geometry.{digests_per_block, levels_of, start_of}
 use Rattle.verity_geometry.proofs.Shapes.{branching}
 use Rattle.verity_store.proofs.StoreLemmas.{only_read_same, only_read_then}
-use Rattle.verity_plan.specs.declared.child.Child.{Child}
-use Rattle.verity_plan.specs.Edits.{Edits}
-use Rattle.verity_plan.specs.Touched.{touched}
-use Rattle.verity_plan.specs.Slots.{child_at, AreNamed, AreSized, AreWithin}
-use Rattle.verity_plan.specs.Parents.{parents}
-use Rattle.verity_plan.specs.Digests.{digests_of}
-use Rattle.verity_plan.specs.Plan.{numbers_of, places, ArePlanned, made_blocks, made_digests}
+use Rattle.verity_pending.specs.declared.child.Child.{Child}
+use Rattle.verity_pending.specs.Edits.{Edits}
+use Rattle.verity_pending.specs.Touched.{touched}
+use Rattle.verity_pending.specs.Slots.{child_at, AreNamed, AreSized, AreWithin}
+use Rattle.verity_pending.specs.Parents.{parents}
+use Rattle.verity_pending.specs.Digests.{digests_of}
+use Rattle.verity_pending.specs.Plan.{numbers_of, places, ArePlanned, made_blocks, made_digests}
 use Rattle.verity_plan.specs.Level.{Holds, Renews, IsOldOf}
 use Rattle.verity_plan.specs.Making.{IsChange, level_of, touched_below, touched_places, touched_blocks, IsEdited, IsTouchedPlace}
 use Rattle.verity_plan.proofs.SeenLemmas.{shows_before, gives_same, gives_then, gives_more}

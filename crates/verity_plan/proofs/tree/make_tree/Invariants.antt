@@ -3,11 +3,11 @@ use Rattle.verity_digest.specs.Hash.{hashing, size_of}
 use Rattle.verity_digest.specs.Shape.{row_len}
 use Rattle.verity_geometry.specs.Geometry.{digests_per_block}
 use Rattle.verity_store.specs.Stores.{IsOnlyRead}
-use Rattle.verity_plan.specs.Edits.{Edits}
-use Rattle.verity_plan.specs.Digests.{digests_of}
+use Rattle.verity_pending.specs.Edits.{Edits}
+use Rattle.verity_pending.specs.Digests.{digests_of}
 use Rattle.verity_plan.specs.Seen.{GivesAt, Shows}
-use Rattle.verity_plan.specs.Slots.{AreNamed, AreSized, AreWithin}
-use Rattle.verity_plan.specs.Plan.{numbers_of, places, ArePlanned}
+use Rattle.verity_pending.specs.Slots.{AreNamed, AreSized, AreWithin}
+use Rattle.verity_pending.specs.Plan.{numbers_of, places, ArePlanned}
 use Rattle.verity_plan.specs.Making.{renewed, touched_below, touched_places, touched_blocks, IsEdited, IsTouchedPlace, StandsFor}
 use Rattle.verity_plan.proofs.tree.make_tree.Given as goal
 

@@ -1,0 +1,6 @@
+mod UnderLemmas
+mod PathLemmas
+mod LineLemmas
+mod LineCommits
+mod LineAnswers
+mod LineLaws

@@ -1,0 +1,15 @@
+pub mod Edits
+pub mod Touched
+pub mod Digests
+pub mod Kept
+pub mod Draft
+pub mod Pend
+pub mod Parents
+pub mod Applied
+pub mod Texts
+pub mod Children
+pub mod Spread
+pub mod Slots
+pub mod Plan
+pub mod Written
+pub mod Leaves

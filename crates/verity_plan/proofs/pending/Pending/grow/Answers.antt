@@ -1,8 +1,0 @@
-use Rattle.std.proofs.Common.{arith}
-use Rattle.verity_plan.proofs.Drafts.{edits_grow}
-use Rattle.verity_plan.specs.Pend.{draft}
-use Rattle.verity_plan.proofs.pending.Pending.grow.Goals as goal
-
-pub returns-clause-done : goal.returns-clause-done
-returns-clause-done g c = λ image. rw (← c.self.view_is) (edits_grow image (draft c.self.inside) c.args.count c.self.invariant
-    (omega arith))

@@ -1,0 +1,4 @@
+pub mod Finding
+pub mod Stores
+pub mod Report
+pub mod Descent

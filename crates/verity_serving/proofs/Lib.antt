@@ -1,0 +1,3 @@
+mod Blaming
+mod Reporting
+mod Talks

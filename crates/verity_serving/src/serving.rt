@@ -1,0 +1,132 @@
+//! The command `serve`: serves a volume over NBD.
+
+ghost use Rattle.std.specs.Prelude.{◌≡◌, true, Ok, IfErr};
+ghost use Rattle.nbd_serve.specs.Lines.{IsServed};
+ghost use Rattle.verity_volume.specs.Refusals.{BlamesNone};
+ghost use Rattle.verity_serving.specs.Blamed.{ServeBlames};
+ghost use Rattle.verity_serving.specs.Printed.{IsServedAsAsked};
+
+use crate::failing::fail;
+use crate::opened::{FileHub, open_hub};
+use nbd_serve::{Door, Limits, Stop, Watched};
+use std::fs::File;
+use std::io::{ErrorKind, Write};
+use std::net::{Net, TcpListener, TcpStream};
+use std::os::unix::net::UnixListener;
+use std::rt::Files;
+use std::time::{Clock, Duration};
+use verity_files::{Command, DONE, Failure, Fault, REFUSED, Word, memory, number, sessions};
+use verity_hub::{Hub, serve_clients};
+use verity_store::BlockStore;
+use verity_words::ServeWords;
+
+/// What stands before the path of a Unix socket.
+const UNIX: &str = "unix:";
+
+/// The bytes of a mebibyte.
+const MEBIBYTE: u64 = 1 << 20;
+
+/// Serves the volume that a table line names to so many connections, and prints what [`serve_on`] says.
+///
+/// Faults are found in this order: the words, the line, the name, the two files (data first), the verifier, the listener.
+/// The file of a Unix socket, which is made here, is removed at the end.
+pub fn serve<
+    R: Files<File = File> + Net<Stream = TcpStream, Listener = TcpListener> + Clock + AllocGlobal,
+    W: Write,
+>(rt: &R, words: &ServeWords<'_>, output: &mut W) -> Result<u8, Failure>
+    ensures done { result ≡ Ok 0
+        → IsServedAsAsked words.now.sessions.now (W.contents output.old) (W.contents output.new) }
+    ensures blames { IfErr result (ServeBlames words.now) }
+{
+    let cache = number(Word::Cache, words.cache)? as usize;
+    let count = sessions(words.sessions)?;
+    let limits = limits(words)?;
+    let mut hub = open_hub(rt, words.table, words.name, cache, Command::Serve)?;
+    listen(rt, &mut hub, words.listen, limits, count, output)
+}
+
+/// Serves at an address.
+fn listen<
+    R: Files<File = File> + Net<Stream = TcpStream, Listener = TcpListener> + Clock + AllocGlobal,
+    W: Write,
+>(
+    rt: &R,
+    hub: &mut FileHub,
+    address: &str,
+    limits: Limits,
+    count: u64,
+    output: &mut W,
+) -> Result<u8, Failure>
+    ensures done { result ≡ Ok 0 → IsServed (W.contents output.old) (W.contents output.new) count true }
+    ensures blames { IfErr result BlamesNone }
+{
+    match address.strip_prefix(UNIX) {
+        // The system would find a name of its own for an empty path.
+        Some("") => Err(Fault::Socket.into()),
+        Some(path) => {
+            let door = UnixListener::bind(rt, path).map_err(socket)?;
+            let status = serve_on(hub, &watched(rt, door, limits), count, output);
+            let _ = rt.remove_file(path);
+            Ok(status)
+        }
+        None => {
+            let door = TcpListener::bind(rt, address).map_err(socket)?;
+            Ok(serve_on(hub, &watched(rt, door, limits), count, output))
+        }
+    }
+}
+
+fn limits(words: &ServeWords<'_>) -> Result<Limits, Failure>
+    ensures { IfErr result (ServeBlames words.now) }
+{
+    let mebibytes = memory(words.memory)?;
+    let seconds = number(Word::Idle, words.idle)?;
+    Ok(Limits {
+        pending: mebibytes * MEBIBYTE,
+        idle: if seconds == 0 {
+            None
+        } else {
+            Some(Duration::from_secs(seconds))
+        },
+    })
+}
+
+fn watched<'a, L: Door, R: Clock>(clock: &'a R, door: L, limits: Limits) -> Watched<'a, L, R> {
+    Watched {
+        door,
+        limits,
+        clock,
+    }
+}
+
+/// N6; or want of memory, where that is what it was.
+fn socket(error: std::io::Error) -> Failure
+    ensures { BlamesNone result }
+{
+    if error.kind() == ErrorKind::OutOfMemory {
+        Failure::NoMemory
+    } else {
+        Fault::Socket.into()
+    }
+}
+
+/// Prints `listening`, then serves this many connections, up to 64 at a time, and prints for each as it ends
+/// `session K ended`, or `session K ` and the fault's text; K counts them from 1 on as they are accepted. It answers the
+/// status: 0 where no line named a fault, 1 where one did, where connections can't be accepted (N6), and where the
+/// output can't be written; 3 for want of memory.
+pub fn serve_on<D: BlockStore, H: BlockStore, L: Door, W: Write>(
+    hub: &mut Hub<D, H>,
+    listener: &L,
+    sessions: u64,
+    output: &mut W,
+) -> u8
+    ensures done { result ≡ 0 → IsServed (W.contents output.old) (W.contents output.new) sessions true }
+{
+    match serve_clients(hub, listener, sessions, output) {
+        Ok(true) => DONE,
+        Ok(false) => REFUSED,
+        Err(Stop::Socket) => fail(Fault::Socket.into(), output),
+        Err(Stop::NoMemory) => fail(Failure::NoMemory, output),
+        Err(Stop::Output) => fail(Failure::Output, output),
+    }
+}

@@ -1,0 +1,58 @@
+//! The command `talk`: serves a volume to one NBD client, over standard input and output.
+
+ghost use Rattle.std.specs.Prelude.{◌≡◌, ◌↔◌, Ok, Err, IsOk, IfErr};
+ghost use Rattle.verity_serving.specs.Blamed.{TalkBlames};
+ghost use Rattle.verity_serving.specs.Serving.{IsTalked};
+
+use crate::opened::open_hub;
+use std::fs::File;
+use std::io::{Read, Write};
+use std::rt::Files;
+use verity_files::{Command, DONE, Failure, NO_MEMORY, REFUSED, VolumeStore, Word, number};
+use verity_hub::{HubFault, ServeFault, serve_stream};
+use verity_store::BlockStore;
+use verity_words::TalkWords;
+
+/// How many turns the session may take.
+const TURNS: u64 = 1 << 40;
+
+/// Serves the volume that a table line names to the client at the other end of `input` and `output`, for servers that
+/// are started for one connection. Nothing but the session's bytes is written once the greeting has begun.
+///
+/// Faults are found in this order: the words, the line, the name, the two files (data first), the verifier.
+pub fn talk<R: Files<File = File> + AllocGlobal, I: Read, W: Write>(
+    rt: &R,
+    words: &TalkWords<'_>,
+    input: &mut I,
+    output: &mut W,
+) -> Result<u8, Failure>
+    ensures done { result ≡ Ok 0
+        → IsTalked ⟦<VolumeStore as BlockStore>⟧ ⟦<VolumeStore as BlockStore>⟧ words.now (record {
+          reader = I.remaining input.old;
+          reader' = I.remaining input.new;
+          writer = W.contents output.old;
+          writer' = W.contents output.new;
+        }) }
+    ensures blames { IfErr result (TalkBlames words.now) }
+{
+    let cache = number(Word::Cache, words.cache)? as usize;
+    let mut hub = open_hub(rt, words.table, words.name, cache, Command::Talk)?;
+    let served = serve_stream(&mut hub, input, output, TURNS);
+    ended(served)
+}
+
+/// The status of a session that ended so.
+fn ended(served: Result<(), ServeFault>) -> Result<u8, Failure>
+    ensures done { (result ≡ Ok 0) ↔ IsOk served }
+    ensures starved { (result ≡ Ok 3) ↔ (served ≡ Err ServeFault.Starved) }
+    ensures refused { IfErr result (λ e. e ≡ Failure.NoMemory) }
+    ensures memory { (result ≡ Err Failure.NoMemory) ↔ (served ≡ Err (ServeFault.Hub HubFault.NoMemory)) }
+{
+    match served {
+        Ok(()) => Ok(DONE),
+        Err(ServeFault::Starved) => Ok(NO_MEMORY),
+        // The greeting hasn't begun.
+        Err(ServeFault::Hub(HubFault::NoMemory)) => Err(Failure::NoMemory),
+        Err(_) => Ok(REFUSED),
+    }
+}

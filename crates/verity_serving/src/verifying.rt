@@ -1,0 +1,100 @@
+//! The command `verify`: reports what is wrong in a volume.
+
+ghost use Rattle.std.specs.Prelude.{◌≡◌, ◌↔◌, [], OnOk, IfOk, IfErr};
+ghost use Rattle.std.specs.Io.KnownBytes.{Appends};
+ghost use Rattle.verity_volume.specs.Lines.{IsOfOutput};
+ghost use Rattle.verity_volume.specs.Refusals.{BlamesNone};
+ghost use Rattle.verity_serving.specs.Printed.{place_line, report_lines, IsReported};
+
+use crate::opened::open_stores;
+use std::alloc::Global;
+use std::fs::File;
+use std::io::{Eprint, IsTerminal, Write};
+use std::rt::Files;
+use std::time::Clock;
+use verity_check::{Place, Report, Verdict, Verifier};
+use verity_files::{Command, DONE, Failure, REFUSED};
+use verity_store::BlockStore;
+use verity_superblock::Table;
+use verity_volume::{end_progress, is_watched, progress_of};
+use verity_watch::Watched;
+use verity_words::VerifyWords;
+
+/// How many checked hash blocks the verifier may keep. A report keeps none.
+const CACHE: usize = 1024;
+
+/// Reads each block of the volume that a table line names, and prints which are bad or can't be read. Where `errors` is a
+/// terminal, it shows how much of the data device was read.
+pub fn verify<R: Files<File = File> + Clock + Eprint + AllocGlobal, W: Write, E: IsTerminal>(
+    rt: &R,
+    words: &VerifyWords<'_>,
+    output: &mut W,
+    errors: &E,
+) -> Result<u8, Failure>
+    ensures reported { IfOk result (λ status. IsReported status (W.contents output.old) (W.contents output.new)) }
+    ensures blames { IfErr result BlamesNone }
+{
+    let report = report_of(rt, words, errors)?;
+    print_report(&report, output)
+}
+
+fn report_of<R: Files<File = File> + Clock + Eprint + AllocGlobal, E: IsTerminal>(
+    rt: &R,
+    words: &VerifyWords<'_>,
+    errors: &E,
+) -> Result<Report, Failure>
+    ensures { IfErr result BlamesNone }
+{
+    let table = Table::parse(rt.alloc(), words.table)?;
+    let (data_store, hash_store) = open_stores(rt, &table, Command::Verify)?;
+    let progress = progress_of(rt, is_watched(words.is_quiet, errors), &data_store);
+    let watched = Watched::new(data_store, progress.as_ref());
+    let report = checked(rt.alloc(), table, watched, hash_store);
+    end_progress(progress.as_ref());
+    report
+}
+
+/// Checks each block of a volume.
+fn checked<D: BlockStore + Drop, H: BlockStore + Drop>(
+    alloc: Global,
+    table: Table,
+    data_store: D,
+    hash_store: H,
+) -> Result<Report, Failure>
+    ensures { IfErr result BlamesNone }
+{
+    let mut verifier = Verifier::new(alloc, table, data_store, hash_store, CACHE)?;
+    Ok(verifier.report()?)
+}
+
+/// Prints a report. The status is 0 where it names no block, 1 where it does.
+fn print_report<W: Write>(report: &Report, output: &mut W) -> Result<u8, Failure>
+    ensures printed { OnOk result (Appends (W.contents output.old) (W.contents output.new)
+        (report_lines report.now.faults report.now.unchecked)) }
+    ensures status { IfOk result (λ status. (status ≡ 0) ↔ (report.now.faults ≡ [])) }
+    ensures refused { IfErr result IsOfOutput }
+{
+    for (place, verdict) in report.faults.as_slice() {
+        print_place(*place, *verdict, output)?;
+    }
+    let unchecked = report.unchecked;
+    writeln!(output, "unchecked {unchecked}")?;
+    if report.faults.as_slice().is_empty() {
+        writeln!(output, "verified")?;
+        Ok(DONE)
+    } else {
+        writeln!(output, "corrupt")?;
+        Ok(REFUSED)
+    }
+}
+
+fn print_place<W: Write>(place: Place, verdict: Verdict, output: &mut W) -> Result<(), Failure>
+    ensures printed { OnOk result (Appends (W.contents output.old) (W.contents output.new) (place_line (place, verdict))) }
+    ensures refused { IfErr result IsOfOutput }
+{
+    match verdict {
+        Verdict::Bad => writeln!(output, "bad {place}")?,
+        Verdict::Unread => writeln!(output, "unread {place}")?,
+    }
+    Ok(())
+}

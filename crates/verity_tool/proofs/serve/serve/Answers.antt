@@ -1,9 +1,0 @@
-use Rattle.std.proofs.Common.{sym, ◌∙◌}
-use Rattle.verity_tool.proofs.serve.serve.Goals as goal
-
-pub returns-clause-done : goal.returns-clause-done
-returns-clause-done g c is = record {
-  sessions = c.in_ok-count.count;
-  asked = sym c.sessions.ensures ∙ c.in_ok-count.was;
-  served = c.listen.ensures.done is;
-}

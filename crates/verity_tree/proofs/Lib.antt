@@ -1,0 +1,4 @@
+pub mod SlotLemmas
+pub mod Ahead
+pub mod Comings
+pub mod Trees
