@@ -1,7 +1,7 @@
 //! Edits and commits of a volume: a data store, and the hash store with its superblock and hash tree.
 //!
 //! An [`Editor`] is opened over two stores whose hash store holds the data store's tree. Edits are pending (`Pending` of
-//! `verity_plan`). A commit plans first (`plan_commit`): it makes the new tree's touched hash blocks and its root, without changing
+//! `verity_pending`). A commit plans first (`plan_commit`): it makes the new tree's touched hash blocks and its root, without changing
 //! anything and without reading a data block. Then it makes room in both stores, and only then changes them (`committing`): the
 //! data blocks, the levels that stand elsewhere in the new tree, the blocks of the plan, the superblock. It syncs both last.
 //!
@@ -15,7 +15,7 @@
 //! What an editor under a trusted table line (`verity_line`) shares with this one is public for it alone: how a superblock is read
 //! and fits its stores (`opening`), how room is made and a plan carried out (`committing`), commands and their replies.
 //!
-//! The errors are those of [`EditFault`], E1 to E14. A refused call changes nothing, but for a commit of which a store failed
+//! The errors are E1 to E12 of [`EditFault`]. A refused call changes nothing, but for a commit of which a store failed
 //! after its first change: the editor is then broken, and all but the getters and `close` answers E7.
 //!
 //! The definitions stand in `specs/`: `After` (commands and replies), `Editing` (what a contract sees of an editor, and what a

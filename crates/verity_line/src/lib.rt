@@ -5,7 +5,7 @@
 //! change. Over any stores the root that it answers is that of the edited image, for every image that fits the line, or the hash
 //! store gave a block that differs from the image's own and has its digest; [`laws`] has what that says of a chain of lines.
 //!
-//! Over any stores each reply of `answer` says what it means (`IsAnsweredUnder`), and `run` is the chain of such records.
+//! Over any stores each reply of `answer` says what it means (`IsAnsweredUnder`).
 //!
 //! The errors are those of `EditFault` of `verity_pending`, as those of an `Editor` of `verity_edit`, and E13 and E14 of the line. A
 //! refused call changes nothing, but for a commit of which a store failed after its first change: the editor is then broken, and all

@@ -6,16 +6,18 @@
 //! [`Pending::apply`] changes the data store. [`Made`] is a hash block that a plan makes, and [`write_made`] writes it. Nothing here
 //! makes room in a store or syncs one.
 //!
-//! The one contract that the layer above relies on: the working image is the committed one after the edits (`draft_of`), whatever
-//! their order; an edit is refused by its rule alone, or by want of memory, and then changes nothing; and carried out over a store
-//! that tells, the data store is the working image.
+//! The one contract that the layer above relies on: a contract sees what is pending (`Draft`), and by it the edits of each committed
+//! image (`edits_of`); an edit is refused by its rule, or with E5, and then changes nothing; and carried out over a store that tells,
+//! the data store is the working image.
 //!
 //! The errors are those of [`EditFault`], which is that of a plan and of an editor too: an edit is refused with E1 to E5. Where a store
-//! fails while edits are carried out ([`StoreFailed`]), it may have been changed.
+//! fails while edits are carried out ([`StoreFailed`]), it may have been changed. How many leaves [`Pending::most_leaves`] answers, by
+//! which a plan takes room, no clause says.
 //!
 //! The definitions stand in `specs/`: `Edits` (images, edits and what refuses them), `Touched` (the touched hash blocks and their
 //! bound), `Draft` (pending edits), `Applied` and `Written` (what is changed), `Texts`; of the way to them: `Leaves`, `Children` and
-//! `Spread` (the blocks below a level), `Parents`, `Slots`, `Digests`, `Plan` (blocks by their index), `Pend` (the fields).
+//! `Spread` (the blocks below a level), `Parents`, `Slots`, `Digests`, `Plan` (blocks by their index), `Kept` (what stays),
+//! `Pend` (the fields).
 #![tactic(auto)]
 
 mod child;

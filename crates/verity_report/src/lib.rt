@@ -6,8 +6,8 @@
 //! digests are those that are named.
 //!
 //! The one contract that the layer above relies on: where both stores tell, a [`Report`] lists exactly the bad and unread places, the
-//! top level first, level 0, then the data blocks, each by rising index (`IsReportOf`); and over any stores the places that it counts
-//! as unchecked are those that weren't read.
+//! top level first, level 0, then the data blocks, each by rising index (`IsReportOf`); and over any stores it counts as unchecked
+//! as many places as weren't read.
 //!
 //! No error but `AllocError`.
 //!
