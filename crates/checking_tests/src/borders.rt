@@ -1,10 +1,10 @@
 //! Who gets a verifier, and the texts of faults.
 ghost use Rattle.std.specs.Prelude.{◌^◌, ◌≤◌};
 
-use crate::volumes::*;
 use std::alloc::Global;
 use std::process::Abort;
 use std::test::Fail;
+use test_verifiers::*;
 use verity_check::{CheckFault, Place, Verifier};
 use verity_digest::Digest;
 use verity_store::{MemStore, Which};

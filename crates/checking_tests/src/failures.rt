@@ -1,9 +1,9 @@
 //! Stores that fail at one call.
-use crate::volumes::*;
 use std::alloc::Global;
 use std::process::Abort;
 use std::test::Fail;
 use test_stores::FailStore;
+use test_verifiers::*;
 use verity_check::{CheckFault, Place, Verdict, Verifier};
 use verity_digest::Algorithm;
 use verity_store::{BlockStore, MemStore, Which};

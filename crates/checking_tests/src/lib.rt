@@ -1,5 +1,4 @@
-//! Reads and reports: values from outside, refusals, stores that fail or answer otherwise the second time,
-//! memory refused. Tests, and nothing else.
+//! Reads and reports: values from outside, refusals, stores that fail or answer otherwise the second time. Tests, and nothing else.
 #![tactic(auto)]
 
 #[cfg(test)]
@@ -9,12 +8,4 @@ mod failures;
 #[cfg(test)]
 mod lies;
 #[cfg(test)]
-mod memory;
-#[cfg(test)]
 mod reading;
-#[cfg(test)]
-mod refused;
-#[cfg(test)]
-mod salted;
-#[cfg(test)]
-mod volumes;

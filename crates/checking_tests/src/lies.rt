@@ -1,9 +1,9 @@
 //! Stores that answer otherwise the second time. No contract can see whether a mismatch is read again.
-use crate::volumes::*;
 use std::alloc::Global;
 use std::process::Abort;
 use std::test::Fail;
 use test_stores::{Answer, ScriptStore};
+use test_verifiers::*;
 use verity_check::{CheckFault, Place, Verifier};
 use verity_digest::Algorithm;
 use verity_store::{Block, BlockStore};

@@ -1,8 +1,8 @@
 //! What is read, and how often, when a volume is opened and committed.
 
-use crate::volumes::*;
 use std::alloc::Global;
 use std::test::Fail;
+use test_editors::*;
 use test_stores::FailStore;
 use test_volumes::{BuiltVolume, image, make_volume};
 use verity_edit::Editor;

@@ -1,8 +1,8 @@
 //! How many blocks are hashed where the count of data blocks changes. What such commits leave is in `tests/program`.
 
-use crate::volumes::*;
 use std::alloc::Global;
 use std::test::Fail;
+use test_editors::*;
 use verity_edit::Editor;
 use verity_store::BlockStore;
 

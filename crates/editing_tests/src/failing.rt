@@ -1,9 +1,9 @@
 //! Each call at one store fails in turn, over a volume of 16 blocks, of which block 3 is written and to which one is added.
 
-use crate::volumes::*;
 use std::alloc::Global;
 use std::process::Abort;
 use std::test::Fail;
+use test_editors::*;
 use test_stores::FailStore;
 use test_volumes::{BuiltVolume, make_volume, params};
 use verity_build::build;

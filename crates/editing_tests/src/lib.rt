@@ -1,4 +1,4 @@
-//! Volumes that are edited and committed, beside the same volumes made from scratch. Tests, and nothing else.
+//! Volumes that are edited and committed, beside the same volumes made from scratch, and stores that fail. Tests, and nothing else.
 #![tactic(auto)]
 
 #[cfg(test)]
@@ -8,16 +8,4 @@ mod counts;
 #[cfg(test)]
 mod failing;
 #[cfg(test)]
-mod heaps;
-#[cfg(test)]
-mod memory;
-#[cfg(test)]
 mod opening;
-#[cfg(test)]
-mod rooms;
-#[cfg(test)]
-mod running;
-#[cfg(test)]
-mod steps;
-#[cfg(test)]
-mod volumes;

@@ -1,8 +1,8 @@
 //! What is refused when a volume is opened, where the program can't ask for it.
 
-use crate::volumes::*;
 use std::alloc::Global;
 use std::test::Fail;
+use test_editors::*;
 use test_volumes::BuiltVolume;
 use verity_edit::{EditFault, Editor};
 use verity_store::{MemStore, Which};

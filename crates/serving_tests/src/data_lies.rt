@@ -1,9 +1,8 @@
 //! Data stores that lie.
 
-use crate::scripts::*;
-use crate::volumes::*;
 use std::alloc::Global;
 use std::test::Fail;
+use test_clients::{*, *};
 use test_volumes::image;
 
 /// Whether both sessions are told what they should where the data store lies.

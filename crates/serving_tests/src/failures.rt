@@ -1,9 +1,8 @@
 //! Each call of a store failing in turn.
 
-use crate::clients::*;
-use crate::volumes::*;
 use std::alloc::Global;
 use std::test::Fail;
+use test_clients::{*, *};
 use test_stores::FailStore;
 use test_volumes::image;
 use verity_store::BlockStore;

@@ -1,9 +1,6 @@
-//! NBD clients of volumes: sessions, streams that are left, stores that fail and lie, memory refused.
-//! Tests, and nothing else.
+//! NBD clients of volumes: sessions, streams that are left, stores that fail and lie. Tests, and nothing else.
 #![tactic(auto)]
 
-#[cfg(test)]
-mod clients;
 #[cfg(test)]
 mod data_lies;
 #[cfg(test)]
@@ -11,20 +8,6 @@ mod failures;
 #[cfg(test)]
 mod hash_lies;
 #[cfg(test)]
-mod hub_memory;
-#[cfg(test)]
-mod reply_memory;
-#[cfg(test)]
-mod scripts;
-#[cfg(test)]
-mod session_memory;
-#[cfg(test)]
 mod sessions;
 #[cfg(test)]
-mod stream_memory;
-#[cfg(test)]
 mod streams;
-#[cfg(test)]
-mod two_sessions;
-#[cfg(test)]
-mod volumes;

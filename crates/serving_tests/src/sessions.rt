@@ -1,9 +1,8 @@
 //! Which sessions are opened, and which are refused.
 
-use crate::clients::*;
-use crate::volumes::*;
 use std::alloc::{AllocError, Global};
 use std::test::Fail;
+use test_clients::{*, *};
 use verity_hub::{Event, HubReply, Piece};
 
 /// 65 sessions are opened, one is ended, the next is opened, and the ended one is fed and ended again.

@@ -1,10 +1,9 @@
 //! Streams that are left, and writers that take no more. Streams that end in the middle of a message are in `tests/program`.
 
-use crate::clients::*;
-use crate::volumes::*;
 use std::alloc::Global;
 use std::io::{self, Write};
 use std::test::Fail;
+use test_clients::{*, *};
 use verity_hub::{Hub, HubFault, ServeFault, serve_stream};
 use verity_store::BlockStore;
 

@@ -29,7 +29,9 @@ pub struct Script<'a> {
 }
 
 /// The bytes of a script. S1 where it can't be read, or is longer than 2^30 bytes.
-pub fn read_script<I: Read>(alloc: Global, input: &mut I) -> Result<Vec<u8>, Failure> {
+pub fn read_script<I: Read>(alloc: Global, input: &mut I) -> Result<Vec<u8>, Failure>
+    ensures { IfOk result (λ script. IfSome (I.remaining input.old) (λ bytes. script.items ≡ bytes)) }
+{
     let mut script = Vec::new(alloc);
     match input.take(MOST_BYTES + 1).read_to_end(&mut script) {
         Ok(_) => {}

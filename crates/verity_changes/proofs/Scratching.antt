@@ -9,9 +9,10 @@ use Rattle.verity_volume.specs.declared.lines.Devices.{Devices}
 use Rattle.verity_changes.specs.Printing.{IsEdited, IsScratch}
 
 -- a table line, and then the answers
-pub behind_its_line : {E : Type 0} (devices : Devices) (volume : Volume) (root : List ℕ) (old between new : Option (List ℕ))
+pub behind_its_line : {E : Type 0} (text : Option (List ℕ)) (devices : Devices) (volume : Volume) (root : List ℕ)
+    (old between new : Option (List ℕ))
     → Appends old between (line (canonical (volume_line devices volume root))) → (done : Result ℕ E)
-    → IfOk done (λ status. IsEdited devices between new status) → IfOk done (λ status. IsScratch old new status)
-behind_its_line devices volume root old between new printed (Ok status) answered =
+    → IfOk done (λ status. IsEdited text devices between new status) → IfOk done (λ status. IsScratch text old new status)
+behind_its_line text devices volume root old between new printed (Ok status) answered =
     (devices, volume, root, between, printed, answered)
-behind_its_line devices volume root old between new printed (Err e) answered = answered
+behind_its_line text devices volume root old between new printed (Err e) answered = answered

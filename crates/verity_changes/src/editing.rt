@@ -1,31 +1,30 @@
 //! The command `edit`: does a script's lines over a volume.
-ghost use Rattle.std.specs.Prelude.{IfOk};
-ghost use Rattle.verity_changes.specs.Printing.{IsDoneAt, IsEdited};
+ghost use Rattle.std.specs.Prelude.{◌≡◌, IfOk, IfSome};
+ghost use Rattle.verity_work.specs.Work.{IsDoneAt};
+ghost use Rattle.verity_changes.specs.Printing.{IsEdited};
 
-use crate::over::{Words, Work, do_over};
-use std::fs::File;
 use std::io::{Eprint, IsTerminal, Write};
-use std::rt::Files;
 use std::time::Clock;
 use verity_answers::{Script, read_script, run_script};
-use verity_files::{Command, Failure, Opened, check_paths, fault_of};
+use verity_files::{Command, Failure, Opened, Paths, check_paths, fault_of};
 use verity_update::Edited;
 use verity_volume::{Commits, Devices, Edits, is_watched, offset_of};
 use verity_words::EditWords;
+use verity_work::{Words, Work, do_over};
 
 /// Does the lines of SCRIPT over the volume in DATA and HASH, and prints their answers; why one wasn't done goes to `errors`.
 ///
 /// The words are read first, then both files opened and told apart, what stands in the journal is made whole, the superblock
 /// read, the volume opened, and the script read. Commits go through a journal, but where none is asked for, and where HASH is a
 /// device and none is named, which `errors` is told. Where `errors` is a terminal, the opening shows how much of DATA was read.
-pub fn edit<R: Files<File = File> + Clock + Eprint + AllocGlobal, W: Write, E: Write + IsTerminal>(
+pub fn edit<R: Paths + Clock + Eprint + AllocGlobal, W: Write, E: Write + IsTerminal>(
     rt: &R,
     words: &EditWords<'_>,
     output: &mut W,
     errors: &mut E,
 ) -> Result<u8, Failure>
-    ensures { IfOk result (λ status. IsDoneAt IsEdited words.now.data_path.now words.now.hash_path.now (W.contents output.old)
-        (W.contents output.new) status) }
+    ensures { IfOk result (λ status. IsDoneAt (IsEdited (R.text rt.now words.now.script_path.now)) words.now.data_path.now
+        words.now.hash_path.now (W.contents output.old) (W.contents output.new) status) }
 {
     check_paths(words.data_path, words.hash_path)?;
     let over = Words {
@@ -35,7 +34,7 @@ pub fn edit<R: Files<File = File> + Clock + Eprint + AllocGlobal, W: Write, E: W
         offset: offset_of(words.table, words.hash_offset)?,
         table: words.table,
         journal: words.journal,
-        is_watched: is_watched(words.is_quiet, errors),
+        is_watched: is_watched(words.is_quiet, errors.is_terminal()),
     };
     let mut lines = Lines {
         path: words.script_path,
@@ -52,9 +51,9 @@ struct Lines<'a> {
 impl<'a> Work for Lines<'a> {
     ghost use Rattle.verity_changes.specs.Printing.{IsEdited};
 
-    ghost prints = { IsEdited };
+    ghost prints = { λ lines text. IsEdited (text lines.path.now) };
 
-    fn begin<R: Files<File = File> + AllocGlobal>(
+    fn begin<R: Paths + AllocGlobal>(
         &mut self,
         _rt: &R,
         _data: Option<&Opened>,
@@ -68,7 +67,7 @@ impl<'a> Work for Lines<'a> {
     }
 
     fn run<
-        R: Files<File = File> + Clock + Eprint + AllocGlobal,
+        R: Paths + Clock + Eprint + AllocGlobal,
         V: Edits + Edited,
         C: Commits<V>,
         W: Write,
@@ -93,12 +92,14 @@ impl<'a> Work for Lines<'a> {
 }
 
 /// The bytes of the script at a path. S1 where it can't be opened or read, or is too long.
-fn script_bytes<R: Files<File = File> + AllocGlobal>(
-    rt: &R,
-    path: &str,
-) -> Result<Vec<u8>, Failure> {
-    match File::open(rt, path) {
-        Ok(file) => read_script(rt.alloc(), &mut &file),
+fn script_bytes<R: Paths + AllocGlobal>(rt: &R, path: &str) -> Result<Vec<u8>, Failure>
+    ensures { IfOk result (λ script. IfSome (R.text rt.now path.now) (λ bytes. script.items ≡ bytes)) }
+{
+    match rt.open_text(path) {
+        Ok(text) => {
+            let mut text = text;
+            read_script(rt.alloc(), &mut text)
+        }
         Err(error) => Err(fault_of(error).into()),
     }
 }

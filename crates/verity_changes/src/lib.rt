@@ -2,13 +2,12 @@
 //! [`scratch`], the run without words, makes a small one in memory and does a script over it.
 //!
 //! What a commit is worth the contracts of the layers below say, and what is printed of it those of `verity_answers`. Here a command
-//! reads its words, opens a volume and its journal (`over`), and has it done. Over an output whose bytes are known each says what it
-//! printed by then, on which devices, and its status (`specs/`: `Printing`). That the script and NEW are those at their paths, and what
-//! is refused before, is shown by tests.
+//! reads its words, and has a volume and its journal opened and its work done there (`verity_work`). Over an output whose bytes are known
+//! each says what it printed by then, on which devices, by which script, and its status (`specs/`: `Printing`). That NEW is that at its
+//! path, and what is refused before, is shown by tests.
 #![tactic(auto)]
 
 mod editing;
-mod over;
 mod scratch_volume;
 mod updating;
 

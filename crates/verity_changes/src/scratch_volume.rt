@@ -36,7 +36,7 @@ pub fn scratch<I: Read, W: Write, E: Write>(
     output: &mut W,
     errors: &mut E,
 ) -> Result<u8, Failure>
-    ensures { IfOk result (λ status. IsScratch (W.contents output.old) (W.contents output.new) status) }
+    ensures { IfOk result (λ status. IsScratch (I.remaining input.old) (W.contents output.old) (W.contents output.new) status) }
 {
     let editor = zero_volume(alloc)?;
     print_line(alloc, &editor, DEVICES, output)?;
@@ -52,7 +52,8 @@ fn answer_all<I: Read, W: Write, E: Write>(
     output: &mut W,
     errors: &mut E,
 ) -> Result<u8, Failure>
-    ensures { IfOk result (λ status. IsEdited devices.entry (W.contents output.old) (W.contents output.new) status) }
+    ensures { IfOk result (λ status. IsEdited (I.remaining input.old) devices.entry (W.contents output.old)
+        (W.contents output.new) status) }
 {
     let bytes = read_script(alloc, input)?;
     let script = Script {

@@ -1,18 +1,16 @@
 //! The command `update`: makes a volume that of another image.
 ghost use Rattle.std.specs.Prelude.{IfOk};
-ghost use Rattle.verity_changes.specs.Printing.{IsDoneAt, IsUpdated};
+ghost use Rattle.verity_work.specs.Work.{IsDoneAt};
+ghost use Rattle.verity_changes.specs.Printing.{IsUpdated};
 
-use crate::over::{Words, Work, do_over};
 use std::alloc::Global;
-use std::fs::File;
 use std::io::{Eprint, IsTerminal, Write};
-use std::rt::Files;
 use std::time::Clock;
 use verity_answers::{commit, print_update};
 use verity_chain::{Tree, geometry_of};
 use verity_edit::EditFault;
 use verity_files::{
-    Command, DONE, Failure, Fault, Opened, VolumeStore, Word, check_paths, open_there,
+    Command, DONE, Failure, Fault, Opened, Paths, VolumeStore, Word, check_paths, open_there,
     store_of_most, take_lock, whole_store,
 };
 use verity_store::{BlockStore, StoreFault, Which};
@@ -22,6 +20,7 @@ use verity_volume::{
 };
 use verity_watch::Watched;
 use verity_words::UpdateWords;
+use verity_work::{Words, Work, do_over};
 
 /// Makes the volume in DATA and HASH that of the image NEW, with one commit of what differs, and prints how many blocks that was and
 /// the new table line.
@@ -29,16 +28,17 @@ use verity_words::UpdateWords;
 /// The words are read first, then all three files opened and told apart, what stands in the journal is made whole, the superblock
 /// and NEW's length looked at, the volume opened, and then each block of NEW read. The journal is that of `edit`. Where `errors` is a
 /// terminal, the opening shows how much of DATA was read, and then it is shown how much of NEW was.
-pub fn update<
-    R: Files<File = File> + Clock + Eprint + AllocGlobal,
-    W: Write,
-    E: Write + IsTerminal,
->(rt: &R, words: &UpdateWords<'_>, output: &mut W, errors: &mut E) -> Result<u8, Failure>
+pub fn update<R: Paths + Clock + Eprint + AllocGlobal, W: Write, E: Write + IsTerminal>(
+    rt: &R,
+    words: &UpdateWords<'_>,
+    output: &mut W,
+    errors: &mut E,
+) -> Result<u8, Failure>
     ensures { IfOk result (λ status. IsDoneAt IsUpdated words.now.data_path.now words.now.hash_path.now (W.contents output.old)
         (W.contents output.new) status) }
 {
     check_paths(words.data_path, words.hash_path)?;
-    let is_watched = is_watched(words.is_quiet, errors);
+    let is_watched = is_watched(words.is_quiet, errors.is_terminal());
     let over = Words {
         command: Command::Update,
         data_path: words.data_path,
@@ -73,9 +73,9 @@ struct Taking<'a> {
 impl<'a> Work for Taking<'a> {
     ghost use Rattle.verity_changes.specs.Printing.{IsUpdated};
 
-    ghost prints = { IsUpdated };
+    ghost prints = { λ _ _. IsUpdated };
 
-    fn begin<R: Files<File = File> + AllocGlobal>(
+    fn begin<R: Paths + AllocGlobal>(
         &mut self,
         rt: &R,
         data: Option<&Opened>,
@@ -104,7 +104,7 @@ impl<'a> Work for Taking<'a> {
     }
 
     fn run<
-        R: Files<File = File> + Clock + Eprint + AllocGlobal,
+        R: Paths + Clock + Eprint + AllocGlobal,
         V: Edits + Edited,
         C: Commits<V>,
         W: Write,
@@ -141,7 +141,7 @@ impl<'a> Work for Taking<'a> {
 }
 
 /// Opens NEW to be read.
-fn open_new<R: Files<File = File>>(rt: &R, path: &str) -> Result<Opened, StoreFault> {
+fn open_new<R: Paths>(rt: &R, path: &str) -> Result<Opened, StoreFault> {
     open_there(rt, path, Command::Verify, Which::Data)
 }
 

@@ -8,6 +8,7 @@ mod fault;
 mod identity;
 mod locks;
 mod opening;
+mod paths;
 mod status;
 mod stores;
 mod values;
@@ -18,7 +19,8 @@ pub use failure::{Failure, Word, print_failure, status_after};
 pub use fault::Fault;
 pub use identity::{Identity, check_apart, file_identity};
 pub use locks::take_lock;
-pub use opening::{Opened, fault_of, open_locked, open_or_make, open_there, unmake};
+pub use opening::{Opened, fault_of, open_locked, open_there};
+pub use paths::Paths;
 pub use status::{DONE, NO_MEMORY, NOT_UNDERSTOOD, REFUSED};
 pub use stores::{
     VolumeStore, check_block_size, new_store, room_of, store_of_first, store_of_most, whole_file,

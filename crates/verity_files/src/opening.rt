@@ -2,11 +2,15 @@
 ghost use Rattle.std.specs.Prelude.{◌≡◌, IfOk, IfErr};
 ghost use Rattle.std.specs.IoError.{error_kind};
 ghost use Rattle.verity_files.specs.Errors.{IsOfLock, IsOfSystem, is_memory, store_fault_of};
+ghost use Rattle.verity_files.specs.declared.failure.Failure.TheVariants as failure;
 
 use crate::command::Command;
+use crate::failure::Failure;
 use crate::fault::Fault;
 use crate::identity::{Identity, file_identity};
 use crate::locks::take_lock;
+use crate::paths::Paths;
+use std::alloc::Global;
 use std::fs::{File, Metadata, OpenOptions};
 use std::io::{ErrorKind, Seek, SeekFrom};
 use std::rt::Files;
@@ -47,38 +51,51 @@ impl Opened {
 
 /// Opens one of a volume's files for a command. S1 where it isn't there, or is neither a file nor a block device, which is not
 /// waited for; S3 for want of memory.
-pub fn open_there<R: Files<File = File>>(
-    rt: &R,
+pub fn open_there<P: Paths>(
+    rt: &P,
     path: &str,
     command: Command,
     which: Which,
 ) -> Result<Opened, StoreFault>
-    ensures { IfErr result IsOfSystem }
+    ensures opened { IfOk result (P.opens rt.now path.now) }
+    ensures refused { IfErr result IsOfSystem }
 {
-    match fs::metadata(rt, path) {
-        Ok(metadata) => open_seen(rt, path, command.is_writing(which), &metadata),
-        Err(error) => Err(fault_of(error)),
-    }
+    rt.open(path, command.is_writing(which))
 }
 
 /// The same, and takes the command's lock: S5 where another program has one that shuts it out.
-pub fn open_locked<R: Files<File = File>>(
-    rt: &R,
+pub fn open_locked<P: Paths>(
+    rt: &P,
     path: &str,
     command: Command,
     which: Which,
 ) -> Result<Opened, Fault>
-    ensures { IfErr result (IsOfLock which) }
+    ensures opened { IfOk result (P.opens rt.now path.now) }
+    ensures refused { IfErr result (IsOfLock which) }
 {
     let opened = open_there(rt, path, command, which)?;
     take_lock(&opened.file, command.lock(), which)?;
     Ok(opened)
 }
 
-/// Opens a file or a block device to be written, and makes a file where there is nothing. It tells whether it did.
-/// Nothing is cut. S1 and S3 as in `open_there`.
-pub fn open_or_make<R: Files<File = File> + AllocGlobal>(
+/// Opens a file or a block device that stands at a path.
+pub(crate) fn open_at<R: Files<File = File>>(
     rt: &R,
+    path: &str,
+    is_written: bool,
+) -> Result<Opened, StoreFault>
+    ensures { IfErr result IsOfSystem }
+{
+    match fs::metadata(rt, path) {
+        Ok(metadata) => open_seen(rt, path, is_written, &metadata),
+        Err(error) => Err(fault_of(error)),
+    }
+}
+
+/// The same, to be written, or makes a file where there is nothing. It tells whether it did.
+pub(crate) fn make_or_open<R: Files<File = File>>(
+    rt: &R,
+    alloc: Global,
     path: &str,
 ) -> Result<(Opened, bool), StoreFault>
     ensures { IfErr result IsOfSystem }
@@ -89,7 +106,7 @@ pub fn open_or_make<R: Files<File = File> + AllocGlobal>(
             Err(fault) => Err(fault),
         },
         Err(error) => match error.kind() {
-            ErrorKind::NotFound => match make(rt, path) {
+            ErrorKind::NotFound => match make(rt, alloc, path) {
                 Ok(opened) => Ok((opened, true)),
                 Err(fault) => Err(fault),
             },
@@ -98,27 +115,53 @@ pub fn open_or_make<R: Files<File = File> + AllocGlobal>(
     }
 }
 
+/// The path of what a path leads to; the path itself where there is nothing, or the system doesn't say.
+pub(crate) fn path_led_to<R: Files>(rt: &R, alloc: Global, path: &str) -> Result<String, Failure>
+    ensures { IfErr result (λ e. e ≡ failure.NoMemory) }
+{
+    match rt.canonicalize(alloc, path) {
+        Ok(path) => Ok(String::from_str(alloc, path.as_str())?),
+        Err(error) => match error.kind() {
+            ErrorKind::OutOfMemory => Err(Failure::NoMemory),
+            _ => Ok(String::from_str(alloc, path)?),
+        },
+    }
+}
+
+/// Whether anything is seen at a path.
+pub(crate) fn stands_at<R: Files>(rt: &R, path: &str) -> Result<bool, StoreFault>
+    ensures { IfErr result (λ e. e ≡ StoreFault.NoMemory) }
+{
+    match fs::symlink_metadata(rt, path) {
+        Ok(_) => Ok(true),
+        Err(error) => match error.kind() {
+            ErrorKind::OutOfMemory => Err(StoreFault::NoMemory),
+            _ => Ok(false),
+        },
+    }
+}
+
 /// Removes a file that this program made, where nothing was written to it yet.
-pub fn unmake<R: Files<File = File> + AllocGlobal>(rt: &R, path: &str) {
+pub(crate) fn unmake_at<R: Files<File = File>>(rt: &R, alloc: Global, path: &str) {
     let Ok(metadata) = fs::metadata(rt, path) else {
         return;
     };
     if metadata.len() == 0 {
-        let _ = remove(rt, path);
+        let _ = remove_led_to(rt, alloc, path);
     }
 }
 
 /// Removes the file that a path leads to; of a link, the file that it names.
-fn remove<R: Files<File = File> + AllocGlobal>(rt: &R, path: &str) -> io::Result<()> {
+fn remove_led_to<R: Files<File = File>>(rt: &R, alloc: Global, path: &str) -> io::Result<()> {
     if fs::symlink_metadata(rt, path)?.is_symlink() {
-        let target = fs::canonicalize(rt, path)?;
+        let target = rt.canonicalize(alloc, path)?;
         fs::remove_file(rt, target.as_str())
     } else {
         fs::remove_file(rt, path)
     }
 }
 
-fn make<R: Files<File = File> + AllocGlobal>(rt: &R, path: &str) -> Result<Opened, StoreFault>
+fn make<R: Files<File = File>>(rt: &R, alloc: Global, path: &str) -> Result<Opened, StoreFault>
     ensures { IfErr result IsOfSystem }
 {
     let made = OpenOptions::new()
@@ -130,7 +173,7 @@ fn make<R: Files<File = File> + AllocGlobal>(rt: &R, path: &str) -> Result<Opene
         Ok(file) => match looked_at(file) {
             Ok(opened) => Ok(opened),
             Err(fault) => {
-                unmake(rt, path);
+                unmake_at(rt, alloc, path);
                 Err(fault)
             }
         },

@@ -11,8 +11,7 @@
 //! the data store is the working image.
 //!
 //! The errors are those of [`EditFault`], which is that of a plan and of an editor too: an edit is refused with E1 to E5. Where a store
-//! fails while edits are carried out ([`StoreFailed`]), it may have been changed. How many leaves [`Pending::most_leaves`] answers, by
-//! which a plan takes room, no clause says.
+//! fails while edits are carried out ([`StoreFailed`]), it may have been changed.
 //!
 //! The definitions stand in `specs/`: `Edits` (images, edits and what refuses them), `Touched` (the touched hash blocks and their
 //! bound), `Draft` (pending edits), `Applied` and `Written` (what is changed), `Texts`; of the way to them: `Leaves`, `Children` and

@@ -1,5 +1,5 @@
 //! The edits since the last commit.
-ghost use Rattle.std.specs.Prelude.{◌≡◌, ℕ, ◌+◌, ◌<◌, ◌≤◌, ◌^◌, true, List, [], length, slice_index_or};
+ghost use Rattle.std.specs.Prelude.{◌≡◌, ℕ, ◌+◌, ◌-◌, ◌<◌, ◌≤◌, ◌^◌, min, true, List, [], length, slice_index_or};
 ghost use Rattle.std.specs.Prelude.{Some, None, OnOk, OnErr, IfOk, IfErr, ◌⊎◌};
 ghost use Rattle.verity_profile.specs.Profile.{IsBlockCount, zero_block};
 ghost use Rattle.verity_store.specs.Stores.{IsOnlyWritten, TellsFailure};
@@ -183,7 +183,10 @@ impl<A: Allocator + Copy> Pending<A> {
     }
 
     /// How many leaves of written blocks a commit has at most, and how many others stand behind one another.
-    pub fn most_leaves(&self) -> (u64, u64) {
+    pub fn most_leaves(&self) -> (u64, u64)
+        ensures named { result.0 ≡ min (length self.now.written + 1) (2 ^ 64 - 1) }
+        ensures others { result.1 ≡ self.now.working - self.now.least }
+    {
         let named = self.written.len() as u64;
         (
             named.saturating_add(1),

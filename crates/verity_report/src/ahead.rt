@@ -1,5 +1,5 @@
 //! Runs of data blocks, which are read one after the other and hashed side by side.
-ghost use Rattle.std.specs.Prelude.{◌≡◌, ◌≢◌, ℕ, ◌+◌, ◌-◌, ◌*◌, ◌^◌, ◌<◌, ◌≤◌, min, true, [], length, slice_index_or};
+ghost use Rattle.std.specs.Prelude.{◌≡◌, ◌≢◌, ℕ, ◌+◌, ◌-◌, ◌*◌, ◌^◌, ◌<◌, ◌≤◌, min, max, true, [], length, slice_index_or};
 ghost use Rattle.std.specs.Fork.{slice_chunk};
 ghost use Rattle.verity_store.specs.Given.{GaveSince};
 ghost use Rattle.verity_store.specs.Stores.{IsOnlyRead};
@@ -15,7 +15,8 @@ const BYTES_AT_A_TIME: usize = 524_288;
 
 /// The bytes of the longest run: of eight data blocks, or of fewer where eight would be more than 512 KiB.
 pub fn longest_run(block_size: usize) -> usize
-    ensures { block_size ≤ result }
+    ensures one { block_size ≤ result }
+    ensures most { result ≡ max (min (block_size * 8) 524288) block_size }
 {
     block_size
         .saturating_mul(AT_A_TIME)

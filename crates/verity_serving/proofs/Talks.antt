@@ -11,7 +11,8 @@ use Rattle.verity_chain.specs.Right.{Fits}
 use Rattle.verity_check.specs.Verifier.{Verifying, IsOnlyReading}
 use Rattle.verity_hub.specs.Verdicts.{facts_of, SaysRight}
 use Rattle.verity_words.specs.declared.words.talk.TalkWords.{TalkWords}
-use Rattle.verity_serving.specs.Serving.{offered, most_turns, IsJustMade, IsTalked}
+use Rattle.verity_opening.specs.Opening.{offered, IsJustMade}
+use Rattle.verity_serving.specs.Serving.{most_turns, IsTalked}
 
 module _ {D H : Type 0} (data_facts : store.Ghosts D) (hash_facts : store.Ghosts H) where
   pub talked : (done : Result (Unit {0}) ServeFault) (words : TalkWords) (ends : Ends) (old : HubState × Verifying D H)

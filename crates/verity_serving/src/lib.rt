@@ -1,16 +1,16 @@
 //! The commands that open a volume under its table line, check each block that they read, and change nothing: `verify` reports what is
 //! wrong in it, `serve` serves it to NBD clients, and `talk` to the one at the other end of the standard input and output.
 //!
-//! The work is done by the layers below, whose contracts say what it is worth; here a command reads its words, opens a volume
-//! (`opened`), makes one call or a few, and prints lines. What `verify` prints, and where they are done what `serve` prints and `talk`
-//! reads and says, clauses say, over an input and an output whose bytes are known; all else that is printed and refused is shown by tests.
+//! The work is done by the layers below, whose contracts say what it is worth; here a command reads its words, has a volume opened
+//! (`verity_opening`), makes one call or a few, and prints lines. What `verify` prints, and where they are done what `serve` prints and
+//! `talk` reads and says, clauses say, over an input and an output whose bytes are known; all else that is printed and refused is shown by
+//! tests.
 //!
 //! The definitions stand in `specs/`: `Printed` (what `verify` and `serve` print), `Serving` (what `talk` serves), `Blamed` (which words
 //! a command blames).
 #![tactic(auto)]
 
 mod failing;
-mod opened;
 mod serving;
 mod talking;
 mod verifying;

@@ -2,12 +2,11 @@
 
 ghost use Rattle.std.specs.Prelude.{◌≡◌, true, Ok, IfErr};
 ghost use Rattle.nbd_serve.specs.Lines.{IsServed};
-ghost use Rattle.verity_volume.specs.Refusals.{BlamesNone};
+ghost use Rattle.verity_gate.specs.Refusals.{BlamesNone};
 ghost use Rattle.verity_serving.specs.Blamed.{ServeBlames};
 ghost use Rattle.verity_serving.specs.Printed.{IsServedAsAsked};
 
 use crate::failing::fail;
-use crate::opened::{FileHub, open_hub};
 use nbd_serve::{Door, Limits, Stop, Watched};
 use std::fs::File;
 use std::io::{ErrorKind, Write};
@@ -17,6 +16,7 @@ use std::rt::Files;
 use std::time::{Clock, Duration};
 use verity_files::{Command, DONE, Failure, Fault, REFUSED, Word, memory, number, sessions};
 use verity_hub::{Hub, serve_clients};
+use verity_opening::{FileHub, open_hub};
 use verity_store::BlockStore;
 use verity_words::ServeWords;
 

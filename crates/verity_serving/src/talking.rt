@@ -4,12 +4,10 @@ ghost use Rattle.std.specs.Prelude.{◌≡◌, ◌↔◌, Ok, Err, IsOk, IfErr};
 ghost use Rattle.verity_serving.specs.Blamed.{TalkBlames};
 ghost use Rattle.verity_serving.specs.Serving.{IsTalked};
 
-use crate::opened::open_hub;
-use std::fs::File;
 use std::io::{Read, Write};
-use std::rt::Files;
-use verity_files::{Command, DONE, Failure, NO_MEMORY, REFUSED, VolumeStore, Word, number};
+use verity_files::{Command, DONE, Failure, NO_MEMORY, Paths, REFUSED, VolumeStore, Word, number};
 use verity_hub::{HubFault, ServeFault, serve_stream};
+use verity_opening::open_hub;
 use verity_store::BlockStore;
 use verity_words::TalkWords;
 
@@ -20,7 +18,7 @@ const TURNS: u64 = 1 << 40;
 /// are started for one connection. Nothing but the session's bytes is written once the greeting has begun.
 ///
 /// Faults are found in this order: the words, the line, the name, the two files (data first), the verifier.
-pub fn talk<R: Files<File = File> + AllocGlobal, I: Read, W: Write>(
+pub fn talk<R: Paths + AllocGlobal, I: Read, W: Write>(
     rt: &R,
     words: &TalkWords<'_>,
     input: &mut I,

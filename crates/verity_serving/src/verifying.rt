@@ -3,17 +3,15 @@
 ghost use Rattle.std.specs.Prelude.{◌≡◌, ◌↔◌, [], OnOk, IfOk, IfErr};
 ghost use Rattle.std.specs.Io.KnownBytes.{Appends};
 ghost use Rattle.verity_volume.specs.Lines.{IsOfOutput};
-ghost use Rattle.verity_volume.specs.Refusals.{BlamesNone};
+ghost use Rattle.verity_gate.specs.Refusals.{BlamesNone};
 ghost use Rattle.verity_serving.specs.Printed.{place_line, report_lines, IsReported};
 
-use crate::opened::open_stores;
 use std::alloc::Global;
-use std::fs::File;
 use std::io::{Eprint, IsTerminal, Write};
-use std::rt::Files;
 use std::time::Clock;
 use verity_check::{Place, Report, Verdict, Verifier};
-use verity_files::{Command, DONE, Failure, REFUSED};
+use verity_files::{Command, DONE, Failure, Paths, REFUSED};
+use verity_opening::open_stores;
 use verity_store::BlockStore;
 use verity_superblock::Table;
 use verity_volume::{end_progress, is_watched, progress_of};
@@ -25,7 +23,7 @@ const CACHE: usize = 1024;
 
 /// Reads each block of the volume that a table line names, and prints which are bad or can't be read. Where `errors` is a
 /// terminal, it shows how much of the data device was read.
-pub fn verify<R: Files<File = File> + Clock + Eprint + AllocGlobal, W: Write, E: IsTerminal>(
+pub fn verify<R: Paths + Clock + Eprint + AllocGlobal, W: Write, E: IsTerminal>(
     rt: &R,
     words: &VerifyWords<'_>,
     output: &mut W,
@@ -38,7 +36,7 @@ pub fn verify<R: Files<File = File> + Clock + Eprint + AllocGlobal, W: Write, E:
     print_report(&report, output)
 }
 
-fn report_of<R: Files<File = File> + Clock + Eprint + AllocGlobal, E: IsTerminal>(
+fn report_of<R: Paths + Clock + Eprint + AllocGlobal, E: IsTerminal>(
     rt: &R,
     words: &VerifyWords<'_>,
     errors: &E,
@@ -47,7 +45,11 @@ fn report_of<R: Files<File = File> + Clock + Eprint + AllocGlobal, E: IsTerminal
 {
     let table = Table::parse(rt.alloc(), words.table)?;
     let (data_store, hash_store) = open_stores(rt, &table, Command::Verify)?;
-    let progress = progress_of(rt, is_watched(words.is_quiet, errors), &data_store);
+    let progress = progress_of(
+        rt,
+        is_watched(words.is_quiet, errors.is_terminal()),
+        &data_store,
+    );
     let watched = Watched::new(data_store, progress.as_ref());
     let report = checked(rt.alloc(), table, watched, hash_store);
     end_progress(progress.as_ref());

@@ -1,3 +1,2 @@
 pub mod Blamed
-pub mod Formatting
 pub mod Printed

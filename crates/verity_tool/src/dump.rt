@@ -4,16 +4,14 @@ ghost use Rattle.std.specs.Prelude.{OnOk, IfErr};
 ghost use Rattle.verity_tool.specs.Blamed.{DumpBlames};
 ghost use Rattle.verity_tool.specs.Printed.{IsDumped};
 
-use std::fs::File;
 use std::io::Write;
-use std::rt::Files;
-use verity_files::{Command, Failure, Word, number, open_locked};
+use verity_files::{Command, Failure, Paths, Word, number, open_locked};
 use verity_store::Which;
 use verity_volume::{print_superblock, read_superblock};
 use verity_words::DumpWords;
 
 /// Prints the superblock of HASH, a line for each field, and where the levels of its tree stand.
-pub fn dump<R: Files<File = File> + AllocGlobal, W: Write>(
+pub fn dump<R: Paths + AllocGlobal, W: Write>(
     rt: &R,
     words: &DumpWords<'_>,
     output: &mut W,

@@ -1,13 +1,12 @@
 //! The program, as a library: [`run`] takes the words, the input and the output, and answers the status.
 //!
 //! The work is done by the layers below, whose contracts say what it is worth; here a command reads its words, opens a volume
-//! (`verity_volume`), makes one call or a few, and prints lines. The commands that change a volume are those of `verity_changes`, and those
-//! that check and serve one those of `verity_serving`. What `format`, `dump` and `recover` print clauses say, over an output whose bytes
-//! are known; all else that is printed and refused is shown by tests.
+//! (`verity_volume`), makes one call or a few, and prints lines. The commands that change a volume are those of `verity_changes`, those
+//! that check and serve one those of `verity_serving`, and `format` is `verity_format`'s. What `dump` and `recover` print clauses say,
+//! over an output whose bytes are known; all else that is printed and refused is shown by tests.
 #![tactic(auto)]
 
 mod dump;
-mod format;
 mod program;
 mod recover;
 mod told;

@@ -1,7 +1,6 @@
 //! The whole program.
 
 use crate::dump::dump;
-use crate::format::format;
 use crate::recover::recover;
 use crate::told::Told;
 use clap::Error;
@@ -13,6 +12,7 @@ use std::rt::Files;
 use std::time::Clock;
 use verity_changes::{edit, scratch, update};
 use verity_files::{DONE, Failure, NOT_UNDERSTOOD, REFUSED};
+use verity_format::format;
 use verity_serving::{fail, serve, talk, verify};
 use verity_words::{Request, explain, explain_corrupt, explain_usage, explain_words, read_words};
 

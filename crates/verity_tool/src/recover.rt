@@ -5,16 +5,15 @@ ghost use Rattle.std.specs.Io.KnownBytes.{Appends};
 ghost use Rattle.verity_files.specs.Faults.{line};
 ghost use Rattle.verity_tool.specs.Blamed.{RecoverBlames};
 
-use std::fs::File;
 use std::io::Write;
-use std::rt::Files;
-use verity_files::{Command, Failure, Word, check_paths};
-use verity_volume::{journal_path, open_both, recover_files, remove_journal, volume_names};
+use verity_files::{Command, Failure, Paths, Word, check_paths};
+use verity_gate::{journal_path, recover_files, volume_names};
+use verity_volume::open_both;
 use verity_words::RecoverWords;
 
 /// Makes the changes that stand behind an open gate of the volume's journal, and removes the journal. It prints whether there
 /// were any.
-pub fn recover<R: Files<File = File> + AllocGlobal, W: Write>(
+pub fn recover<R: Paths + AllocGlobal, W: Write>(
     rt: &R,
     words: &RecoverWords<'_>,
     output: &mut W,
@@ -32,7 +31,7 @@ pub fn recover<R: Files<File = File> + AllocGlobal, W: Write>(
     let names = volume_names(rt, &data, words.data_path, &hash, words.hash_path)?;
     let is_recovered = match recover_files(rt, &path, &data, &hash, &names)? {
         Some(found) => {
-            remove_journal(rt, &path);
+            rt.remove(&path);
             found.is_recovered
         }
         None => false,

@@ -1,5 +1,5 @@
 -- Digests of data blocks that were made ahead of their turn.
-use Rattle.std.specs.Prelude.{◌≡◌, ℕ, ◌+◌, ◌-◌, ◌<◌, ◌≤◌, List, [], length, slice_index_or, true}
+use Rattle.std.specs.Prelude.{◌≡◌, ℕ, ◌+◌, ◌-◌, ◌*◌, ◌<◌, ◌≤◌, min, max, List, [], length, slice_index_or, true}
 use Rattle.verity_digest.specs.Hash.{Salted, size_of, salted_digest}
 use Rattle.verity_store.specs.declared.store.BlockStore as store
 
@@ -11,3 +11,8 @@ pub record AreAhead {S : Type 0} (facts : store.Ghosts S) (salted : Salted) (n :
   pub sized : (j : ℕ) → j < held - taken → length (slice_index_or digests (taken + j) []) ≡ size_of salted.algorithm
   pub right : facts.tells s ≡ true → (j : ℕ) → j < held - taken
       → slice_index_or digests (taken + j) [] ≡ salted_digest salted (slice_index_or (facts.content s) (n + j) [])
+
+-- the bytes of the data blocks of this size that are read at a time: of as many as 64 KiB hold or of eight, whichever is more, but of no
+-- more than a hash block has digests for, 128 or 512 KiB hold; and of one in any case
+abbrev pub most_at_a_time : ℕ → ℕ → ℕ
+most_at_a_time size per_block = max (min (min (size * min per_block 128) (max (size * 8) 65536)) 524288) size

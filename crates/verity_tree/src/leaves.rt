@@ -2,7 +2,8 @@
 ghost use Rattle.std.specs.Prelude.{◌≡◌, ◌+◌, ◌-◌, ◌%◌, ◌^◌, ◌<◌, ◌≤◌, [], true, length, slice_index_or, OnOk, OnErr, IfOk, IfErr};
 ghost use Rattle.verity_digest.specs.Hash.{size_of, salted_digest};
 ghost use Rattle.verity_store.specs.Stores.{IsOnlyRead};
-ghost use Rattle.verity_tree.specs.Ahead.{AreAhead};
+ghost use Rattle.verity_geometry.specs.Geometry.{digests_per_block};
+ghost use Rattle.verity_tree.specs.Ahead.{AreAhead, most_at_a_time};
 ghost use Rattle.verity_tree.specs.Opens.{opens};
 
 use crate::open_tree::OpenTree;
@@ -26,7 +27,8 @@ const LONGEST_RUN: usize = 524_288;
 /// The bytes of the data blocks that are read at a time: of as many as 64 KiB hold or of eight, whichever is more, but of no
 /// more than a hash block has digests for, 128 or 512 KiB hold. One is read in any case.
 pub fn bytes_at_a_time(geometry: &Geometry) -> usize
-    ensures { geometry.now.data_size ≤ result }
+    ensures one { geometry.now.data_size ≤ result }
+    ensures most { result ≡ most_at_a_time geometry.now.data_size (digests_per_block geometry.now) }
 {
     let size = geometry.data_size();
     size.saturating_mul(geometry.per_block().min(AT_A_TIME))

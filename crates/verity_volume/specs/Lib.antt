@@ -1,4 +1,3 @@
-pub mod Journals
 pub mod Lines
 pub mod Opening
 pub mod Refusals

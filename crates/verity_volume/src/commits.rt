@@ -2,13 +2,11 @@
 ghost use Rattle.std.specs.Prelude.{◌≡◌, ◌⊎◌, Bool, IfOk};
 
 use crate::edits::Edits;
-use crate::journal::{FileKeeper, fault_of_disks, make_journal, remove_journal};
 use crate::staging::StagedEdits;
-use std::fs::File;
-use std::rt::Files;
 use verity_commit::CommitFault;
 use verity_edit::{Committed, EditFault};
-use verity_files::{Fault, Opened};
+use verity_files::{Fault, Opened, Paths};
+use verity_gate::{FileKeeper, fault_of_disks, make_journal};
 use verity_store::StoreFault;
 
 /// How the commits of an editor of the type `V` reach a volume's files.
@@ -53,8 +51,8 @@ impl<V: Edits> Commits<V> for Direct {
 
 /// The stores are staged over the files: what was committed goes through a journal.
 #[derive(Drop)]
-pub struct Journalled<'a, R> {
-    rt: &'a R,
+pub struct Journalled<'a, P> {
+    rt: &'a P,
     path: &'a str,
     names: &'a str,
     data: Opened,
@@ -64,16 +62,16 @@ pub struct Journalled<'a, R> {
     is_broken: bool,
 }
 
-impl<'a, R: Files<File = File> + AllocGlobal> Journalled<'a, R> {
+impl<'a, P: Paths + AllocGlobal> Journalled<'a, P> {
     /// Over these files, and a journal at this path, which has these names of them: where it was there, with what was found.
     pub fn new(
-        rt: &'a R,
+        rt: &'a P,
         path: &'a str,
         names: &'a str,
         data: Opened,
         hash: Opened,
         keeper: Option<FileKeeper>,
-    ) -> Journalled<'a, R> {
+    ) -> Journalled<'a, P> {
         Journalled {
             rt,
             path,
@@ -94,7 +92,7 @@ impl<'a, R: Files<File = File> + AllocGlobal> Journalled<'a, R> {
     /// Removes the journal where its gate is closed.
     pub fn end(self) {
         if self.keeper.is_some() && !self.is_broken {
-            remove_journal(self.rt, self.path);
+            self.rt.remove(self.path);
         }
     }
 
@@ -113,7 +111,7 @@ impl<'a, R: Files<File = File> + AllocGlobal> Journalled<'a, R> {
     }
 }
 
-impl<'a, R: Files<File = File> + AllocGlobal, V: StagedEdits> Commits<V> for Journalled<'a, R> {
+impl<'a, P: Paths + AllocGlobal, V: StagedEdits> Commits<V> for Journalled<'a, P> {
     ghost use Rattle.std.specs.Prelude.{◌≡◌, ◌⊎◌};
 
     ghost stopped = { λ c. c.is_broken };

@@ -5,16 +5,14 @@ ghost use Rattle.verity_files.specs.VolumeFiles.{LiesIn, room_in};
 ghost use Rattle.verity_files.specs.Words.{number_in};
 ghost use Rattle.verity_files.specs.declared.failure.Word.TheVariants as word;
 ghost use Rattle.verity_volume.specs.Opening.{AreAt, AreSizes};
-ghost use Rattle.verity_volume.specs.Refusals.{BlamesNone, BlamesAtMost};
+ghost use Rattle.verity_gate.specs.Refusals.{BlamesNone, BlamesAtMost};
 
 use crate::superblock::read_superblock;
 use std::alloc::Global;
-use std::fs::File;
-use std::rt::Files;
 use verity_edit::EditFault;
 use verity_files::{
-    Command, Failure, Fault, Opened, VolumeStore, Word, check_apart, number, open_there, room_of,
-    store_of_most, take_lock,
+    Command, Failure, Fault, Opened, Paths, VolumeStore, Word, check_apart, number, open_there,
+    room_of, store_of_most, take_lock,
 };
 use verity_store::{BlockStore, StoreFault, Which};
 use verity_superblock::{SuperFault, Table};
@@ -41,13 +39,16 @@ pub struct Sizes {
 }
 
 /// Opens both files and takes their locks. That there is no DATA is told only once HASH was found to hold a superblock.
-pub fn open_both<R: Files<File = File>>(
-    rt: &R,
+pub fn open_both<P: Paths>(
+    rt: &P,
     data_path: &str,
     hash_path: &str,
     command: Command,
 ) -> Result<(Result<Opened, StoreFault>, Opened), Failure>
-    ensures { IfErr result (BlamesAtMost word.Hash) }
+    ensures data { IfOk result (λ both. IfOk both.0 (P.opens rt.now data_path.now)) }
+    ensures hash { IfOk result (λ both. P.opens rt.now hash_path.now both.1) }
+    ensures apart { IfOk result (λ both. IfOk both.0 (λ opened. opened.identity ≢ both.1.identity)) }
+    ensures refused { IfErr result (BlamesAtMost word.Hash) }
 {
     let hash = open_there(rt, hash_path, command, Which::Hash)?;
     let data = open_there(rt, data_path, command, Which::Data);

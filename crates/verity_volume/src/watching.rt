@@ -1,7 +1,7 @@
 //! A volume's files, as a person watches them being read.
-ghost use Rattle.std.specs.Prelude.{◌≡◌, ◌≢◌, true, false, None};
+ghost use Rattle.std.specs.Prelude.{◌≡◌, ◌≢◌, ◌&&◌, not, true, false, None};
 
-use std::io::{Eprint, IsTerminal};
+use std::io::Eprint;
 use std::time::Clock;
 use verity_files::VolumeStore;
 use verity_store::BlockStore;
@@ -11,10 +11,10 @@ use verity_watch::{Progress, Watched};
 pub type WatchedFile<'a, M> = Watched<'a, VolumeStore, M>;
 
 /// Whether someone looks on: standard error is a terminal, and nothing else was asked for.
-pub fn is_watched<E: IsTerminal>(is_quiet: bool, errors: &E) -> bool
-    ensures { is_quiet ≡ true → result ≡ false }
+pub fn is_watched(is_quiet: bool, is_terminal: bool) -> bool
+    ensures { result ≡ not is_quiet && is_terminal }
 {
-    !is_quiet && errors.is_terminal()
+    !is_quiet && is_terminal
 }
 
 /// A meter of the bytes of a store that is read whole, where someone looks on.

@@ -2,4 +2,6 @@ use Rattle.verity_changes.proofs.Scratching.{behind_its_line}
 use Rattle.verity_changes.proofs.scratch_volume.scratch.Goals as goal
 
 pub returns : goal.returns
-returns g c = behind_its_line _ c.in_ok-editor.editor.volume _ _ _ _ c.in_ok-print_line.ensures _ c.answer_all.ensures
+returns g c =
+    behind_its_line (g.I.Read.remaining c.args.input.now) _ c.in_ok-editor.editor.volume _ _ _ _ c.in_ok-print_line.ensures _
+    c.answer_all.ensures

@@ -1,0 +1,7 @@
+//! Verifiers, reads and reports that are refused memory. Tests, and nothing else.
+#![tactic(auto)]
+
+#[cfg(test)]
+mod memory;
+#[cfg(test)]
+mod refused;

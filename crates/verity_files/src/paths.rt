@@ -1,0 +1,158 @@
+//! What the program asks the system by a path.
+//!
+//! What stands at a path only the system knows. Here that has a name, for each question one, which a contract can say of any system: code
+//! that works over any [`Paths`] has no other way to such a fact than to ask by that very path. Of the system itself, whose calls have no
+//! clauses, nothing is known: that it answers so is trusted.
+ghost use Rattle.std.specs.Prelude.{◌≡◌, ℕ, true, false, List, Option, IfOk, IfErr, OnOk, string_bytes};
+ghost use Rattle.verity_files.specs.Errors.{IsOfSystem};
+ghost use Rattle.verity_files.specs.declared.failure.Failure.TheVariants as failure;
+ghost use Rattle.verity_files.specs.declared.opening.Opened.{Opened};
+
+use crate::failure::Failure;
+use crate::identity::{Identity, file_identity};
+use crate::opening::{Opened, make_or_open, open_at, path_led_to, stands_at, unmake_at};
+use std::alloc::Global;
+use std::fs::File;
+use std::io::Read;
+use std::rt::Files;
+use std::{fs, io};
+use verity_store::{RawFile, StoreFault};
+
+/// The files of a system, by their paths.
+pub trait Paths {
+    /// What was opened stood at this path.
+    ghost opens: { Self → List ℕ → Opened → Type 0 };
+
+    /// A path leads to the file whose own path this is, or has no other.
+    ghost leads: { Self → List ℕ → List ℕ → Type 0 };
+
+    /// Nothing is seen at this path.
+    ghost lacks: { Self → List ℕ → Type 0 };
+
+    /// A block device stands at this path.
+    ghost has_device: { Self → List ℕ → Type 0 };
+
+    /// What was opened begins with these bytes.
+    ghost begins: { Self → Opened → List ℕ → Type 0 };
+
+    /// The bytes that are read at this path, where they are known.
+    ghost text: { Self → List ℕ → Option (List ℕ) };
+
+    /// What is read from its first byte to its last.
+    type Text: Read + Drop;
+
+    /// Opens a file or a block device that stands at a path, to be written too where that is asked for. S1 where it isn't there, or is
+    /// neither, which is not waited for; S3 for want of memory.
+    fn open(&self, path: &str, is_written: bool) -> Result<Opened, StoreFault>
+        ensures opened { IfOk result (opens self.now path.now) }
+        ensures refused { IfErr result IsOfSystem };
+
+    /// Opens a file or a block device to be written, and makes a file where there is nothing. It tells whether it did. Nothing is cut.
+    /// S1 and S3 as in `open`.
+    fn open_or_make(&self, alloc: Global, path: &str) -> Result<(Opened, bool), StoreFault>
+        ensures opened { IfOk result (λ made. opens self.now path.now made.0) }
+        ensures refused { IfErr result IsOfSystem };
+
+    /// The path of what a path leads to; the path itself where there is nothing, or the system doesn't say. No error but want of memory.
+    fn real_path(&self, alloc: Global, path: &str) -> Result<String, Failure>
+        ensures leads { IfOk result (λ led. leads self.now path.now (string_bytes led)) }
+        ensures refused { IfErr result (λ e. e ≡ failure.NoMemory) };
+
+    /// Whether anything is seen at a path, be it a link that leads nowhere. No error but want of memory.
+    fn is_there(&self, path: &str) -> Result<bool, StoreFault>
+        ensures lacks { IfOk result (λ there. there ≡ false → lacks self.now path.now) }
+        ensures refused { IfErr result (λ e. e ≡ StoreFault.NoMemory) };
+
+    /// Whether a path leads to a block device; not where it can't be looked at.
+    fn is_device(&self, path: &str) -> bool
+        ensures { result ≡ true → has_device self.now path.now };
+
+    /// Reads the first bytes of what was opened, as many as `out` has.
+    fn read_first(&self, opened: &mut Opened, out: &mut [u8]) -> io::Result<()>
+        ensures { OnOk result (begins self.now opened.old out.new) };
+
+    /// Opens what stands at a path to be read, be it a pipe.
+    fn open_text(&self, path: &str) -> io::Result<Self::Text>
+        ensures { IfOk result (λ opened. Self.Text.remaining opened ≡ text self.now path.now) };
+
+    /// Asks for the entries of the folder to be kept in which a path stands.
+    fn sync_folder(&self, path: &str) -> io::Result<()>;
+
+    /// Removes a file that this program made, where nothing was written to it yet; of a link, the file that it names.
+    fn unmake(&self, alloc: Global, path: &str);
+
+    /// Removes a file, and asks for that to be kept. A file that comes back does no harm, so nothing is refused.
+    fn remove(&self, path: &str);
+}
+
+impl<R: Files<File = File>> Paths for R {
+    ghost use Rattle.std.specs.Prelude.{⊤, None};
+
+    ghost opens = { λ _ _ _. ⊤ };
+
+    ghost leads = { λ _ _ _. ⊤ };
+
+    ghost lacks = { λ _ _. ⊤ };
+
+    ghost has_device = { λ _ _. ⊤ };
+
+    ghost begins = { λ _ _ _. ⊤ };
+
+    ghost text = { λ _ _. None };
+
+    type Text = File;
+
+    fn open(&self, path: &str, is_written: bool) -> Result<Opened, StoreFault> {
+        open_at(self, path, is_written)
+    }
+
+    fn open_or_make(&self, alloc: Global, path: &str) -> Result<(Opened, bool), StoreFault> {
+        make_or_open(self, alloc, path)
+    }
+
+    fn real_path(&self, alloc: Global, path: &str) -> Result<String, Failure> {
+        path_led_to(self, alloc, path)
+    }
+
+    fn is_there(&self, path: &str) -> Result<bool, StoreFault> {
+        stands_at(self, path)
+    }
+
+    fn is_device(&self, path: &str) -> bool {
+        match fs::metadata(self, path) {
+            Ok(metadata) => matches!(file_identity(&metadata), Some(Identity::Device(_))),
+            Err(_) => false,
+        }
+    }
+
+    fn read_first(&self, opened: &mut Opened, out: &mut [u8]) -> io::Result<()> {
+        RawFile::read_exact_at(&mut opened.file, 0, out)
+    }
+
+    fn open_text(&self, path: &str) -> io::Result<File> {
+        File::open(self, path)
+    }
+
+    fn sync_folder(&self, path: &str) -> io::Result<()> {
+        File::open(self, folder_of(path))?.sync_all()
+    }
+
+    fn unmake(&self, alloc: Global, path: &str) {
+        unmake_at(self, alloc, path);
+    }
+
+    fn remove(&self, path: &str) {
+        if fs::remove_file(self, path).is_ok() {
+            let _ = self.sync_folder(path);
+        }
+    }
+}
+
+/// The folder in which a path stands.
+fn folder_of(path: &str) -> &str {
+    match path.rsplit_once('/') {
+        Some(("", _)) => "/",
+        Some((folder, _)) => folder,
+        None => ".",
+    }
+}

@@ -1,0 +1,3 @@
+pub mod Blamed
+pub mod Formatting
+pub mod Printed

@@ -1,0 +1,207 @@
+//! A journal's file, made or found, and the volume that it stands for.
+ghost use Rattle.std.specs.Prelude.{◌≡◌, None, [], length, is_some, IfSome, IfOk, IfErr, OnOk};
+ghost use Rattle.verity_files.specs.declared.failure.Word.TheVariants as word;
+ghost use Rattle.verity_journal.specs.Journal.{plan_of};
+ghost use Rattle.verity_journal.specs.Tearing.{read_of};
+ghost use Rattle.verity_gate.specs.Journals.{Recovers, Stands, Starts, laid_to};
+ghost use Rattle.verity_gate.specs.Refusals.{BlamesNone, BlamesAtMost, IsOfFile, IsOfJournal};
+
+use crate::gate::{open_journal, regular};
+use std::alloc::{AllocError, Global};
+use std::fs::File;
+use verity_edit::EditFault;
+use verity_files::{Command, Failure, Fault, Opened, Paths, VolumeFile, Word, whole_file};
+use verity_journal::{Device, DiskFault, Disks, FileDisks, Keeper, parse_journal};
+use verity_store::{RawFile, StoreFault, Which};
+
+/// Three files, kept between commits.
+pub type FileKeeper = Keeper<FileDisks<VolumeFile<File>>>;
+
+/// What was found in the files of a volume.
+#[derive(Drop)]
+pub struct Found {
+    /// The files, of which the journal's gate is closed by now.
+    pub keeper: FileKeeper,
+    /// Whether the gate was open, and the commit behind it was made again.
+    pub is_recovered: bool,
+}
+
+/// Makes the volume that its files stand for, where there is a journal.
+///
+/// S7 where the journal can't be used, is no journal, or has an open gate and other names than these, or keeps more of a file than
+/// there is; E6 with the file that failed. `--journal` isn't understood where it leads to DATA or HASH.
+pub fn recover_files<P: Paths + AllocGlobal>(
+    rt: &P,
+    path: &str,
+    data: &Opened,
+    hash: &Opened,
+    names: &str,
+) -> Result<Option<Found>, Failure>
+    ensures nothing { IfOk result (λ found. found ≡ None → P.lacks rt.now path.now) }
+    ensures found { IfOk result (λ found. IfSome found (λ found. Recovers P.Paths rt.now path.now data.now.len hash.now.len names.now
+        found.is_recovered (⟦<FileDisks<VolumeFile<File>> as Disks>⟧.seen found.keeper.disks))) }
+    ensures refused { IfErr result (BlamesAtMost word.Journal) }
+{
+    let Some(opened) = open_journal(rt, path, Command::Recover)? else {
+        return Ok(None);
+    };
+    if opened.identity == data.identity || opened.identity == hash.identity {
+        return Err(Failure::Word(Word::Journal));
+    }
+    let (opened, bytes) = bytes_of(rt, opened)?;
+    let is_recovered = has_open_gate(rt.alloc(), &bytes, names)?;
+    let keeper = started(rt.alloc(), data, hash, opened, bytes)?;
+    Ok(Some(Found {
+        keeper,
+        is_recovered,
+    }))
+}
+
+/// Whether a plan stands in a journal behind an open gate. S7 where it has other names than these, and where the bytes are no journal's.
+fn has_open_gate(alloc: Global, bytes: &[u8], names: &str) -> Result<bool, Failure>
+    ensures open { IfOk result (λ is_open. is_open ≡ is_some (plan_of bytes.now)) }
+    ensures named { OnOk result (IfSome (plan_of bytes.now) (λ plan. plan.names ≡ names.now)) }
+    ensures refused { IfErr result BlamesNone }
+{
+    match parse_journal(alloc, bytes)? {
+        Some(plan) if plan.names() != names.as_bytes() => Err(Fault::Journal.into()),
+        Some(_) => Ok(true),
+        None if is_foreign(bytes) => Err(Fault::Journal.into()),
+        None => Ok(false),
+    }
+}
+
+/// Whether bytes behind which no plan stands are no journal's. A stop leaves a gate that isn't closed alone, or before a plan.
+fn is_foreign(bytes: &[u8]) -> bool {
+    bytes.len() > 1 && bytes[0] != 0
+}
+
+/// All bytes of a journal.
+fn bytes_of<P: Paths + AllocGlobal>(rt: &P, journal: Opened) -> Result<(Opened, Vec<u8>), Failure>
+    ensures begins { IfOk result (λ read. P.begins rt.now journal read.1.items × (length read.1.items ≡ journal.len)) }
+    ensures refused { IfErr result BlamesNone }
+{
+    let mut journal = journal;
+    let mut bytes = vec![in rt.alloc(); 0; journal.len as usize]?;
+    match rt.read_first(&mut journal, &mut bytes) {
+        Ok(()) => Ok((journal, bytes)),
+        Err(_) => Err(Fault::Journal.into()),
+    }
+}
+
+/// Makes a journal where there is none, and its entry in its folder lasting. S7, or E6 with the file that failed, and then none
+/// is left.
+pub fn make_journal<P: Paths + AllocGlobal>(
+    rt: &P,
+    path: &str,
+    data: &Opened,
+    hash: &Opened,
+) -> Result<FileKeeper, Fault>
+    ensures made { OnOk result (Stands P.Paths rt.now path.now) }
+    ensures started { IfOk result (λ keeper. Starts data.now.len hash.now.len []
+        (⟦<FileDisks<VolumeFile<File>> as Disks>⟧.seen keeper.disks)) }
+    ensures refused { IfErr result IsOfJournal }
+{
+    let opened = match rt.open_or_make(rt.alloc(), path) {
+        Ok((opened, _)) => regular(Ok(opened))?,
+        Err(fault) => return Err(journal_fault(fault)),
+    };
+    match started_anew(rt, path, data, hash, opened) {
+        Ok(keeper) => Ok(keeper),
+        Err(fault) => {
+            rt.remove(path);
+            Err(fault)
+        }
+    }
+}
+
+/// The files, started with a journal that was made.
+fn started_anew<P: Paths + AllocGlobal>(
+    rt: &P,
+    path: &str,
+    data: &Opened,
+    hash: &Opened,
+    journal: Opened,
+) -> Result<FileKeeper, Fault>
+    ensures started { IfOk result (λ keeper. Starts data.now.len hash.now.len []
+        (⟦<FileDisks<VolumeFile<File>> as Disks>⟧.seen keeper.disks)) }
+    ensures refused { IfErr result IsOfJournal }
+{
+    if rt.sync_folder(path).is_err() {
+        return Err(Fault::Journal);
+    }
+    started(rt.alloc(), data, hash, journal, Vec::new(rt.alloc()))
+}
+
+/// S3 for want of memory, S7 for all else.
+fn journal_fault(fault: StoreFault) -> Fault
+    ensures { IsOfJournal result }
+{
+    match fault {
+        StoreFault::NoMemory => Fault::Store(StoreFault::NoMemory),
+        _ => Fault::Journal,
+    }
+}
+
+/// The three files, started.
+fn started(
+    alloc: Global,
+    data: &Opened,
+    hash: &Opened,
+    journal: Opened,
+    bytes: Vec<u8>,
+) -> Result<FileKeeper, Fault>
+    ensures started { IfOk result (λ keeper. Starts data.now.len hash.now.len bytes.items
+        (⟦<FileDisks<VolumeFile<File>> as Disks>⟧.seen keeper.disks)) }
+    ensures refused { IfErr result IsOfJournal }
+{
+    let on_data = sized(data)?;
+    let on_hash = sized(hash)?;
+    let mut keeper = Keeper::new(disks_of(on_data, on_hash, whole_file(journal), bytes));
+    match keeper.start(alloc) {
+        Ok(()) => Ok(keeper),
+        Err(fault) => Err(fault_of_disks(&keeper, fault)),
+    }
+}
+
+/// One of a volume's files, and how many bytes it has.
+fn sized(opened: &Opened) -> Result<(VolumeFile<File>, u64), Fault>
+    ensures unknown { IfOk result (λ file. ⟦<VolumeFile<File> as RawFile>⟧.bytes file.0 ≡ None) }
+    ensures len { IfOk result (λ file. file.1 ≡ opened.now.len) }
+    ensures refused { IfErr result IsOfFile }
+{
+    let again = opened.again()?;
+    let len = again.len;
+    Ok((whole_file(again), len))
+}
+
+/// Three files under one clock.
+fn disks_of(
+    on_data: (VolumeFile<File>, u64),
+    on_hash: (VolumeFile<File>, u64),
+    journal: VolumeFile<File>,
+    bytes: Vec<u8>,
+) -> FileDisks<VolumeFile<File>>
+    requires data_unknown { ⟦<VolumeFile<File> as RawFile>⟧.bytes on_data.0 ≡ None }
+    requires hash_unknown { ⟦<VolumeFile<File> as RawFile>⟧.bytes on_hash.0 ≡ None }
+    requires journal_unknown { ⟦<VolumeFile<File> as RawFile>⟧.bytes journal ≡ None }
+    ensures data_len { length (read_of result.files.on_data) ≡ on_data.1 }
+    ensures hash_len { length (read_of result.files.on_hash) ≡ on_hash.1 }
+    ensures journal { read_of result.files.on_journal ≡ bytes.items }
+{
+    let (data_file, data_len) = on_data;
+    let (hash_file, hash_len) = on_hash;
+    FileDisks::over(data_file, data_len, hash_file, hash_len, journal, bytes)
+}
+
+/// The fault of a journal or a store: S7, or E6 and the store.
+pub fn fault_of_disks(keeper: &FileKeeper, fault: DiskFault) -> Fault
+    ensures { result ≡ laid_to fault keeper.now.disks.last_failed }
+{
+    match (fault, keeper.disks().last_failed()) {
+        (DiskFault::NoMemory, _) => Fault::Store(StoreFault::NoMemory),
+        (DiskFault::Device, Some(Device::Data)) => Fault::Edit(EditFault::Store(Which::Data)),
+        (DiskFault::Device, Some(Device::Hash)) => Fault::Edit(EditFault::Store(Which::Hash)),
+        (DiskFault::Device, _) | (DiskFault::Foreign, _) => Fault::Journal,
+    }
+}

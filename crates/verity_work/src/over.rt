@@ -1,0 +1,114 @@
+//! A volume, opened to be edited, and its journal.
+ghost use Rattle.std.specs.Prelude.{◌≡◌, IfOk};
+ghost use Rattle.verity_work.specs.Work.{IsDoneAt};
+
+use crate::ways::{do_in_place, do_staged};
+use crate::work::{Words, Work};
+use std::io::{Eprint, Write};
+use std::time::Clock;
+use verity_files::{Failure, Opened, Paths};
+use verity_gate::{FileKeeper, check_other_gate, journal_path, recover_files, volume_names};
+use verity_store::StoreFault;
+use verity_superblock::Table;
+use verity_volume::{Journalled, open_both};
+use verity_words::{explain_no_journal, explain_recovered};
+
+/// Opens both files and tells them apart, makes whole what stands in the journal, opens the volume, and does the work.
+pub fn do_over<R: Paths + Clock + Eprint + AllocGlobal, T: Work, W: Write, E: Write>(
+    rt: &R,
+    words: &Words<'_>,
+    work: &mut T,
+    output: &mut W,
+    errors: &mut E,
+) -> Result<u8, Failure>
+    ensures { IfOk result (λ status. IsDoneAt (T.prints work.old (R.text rt.now)) words.now.data_path.now words.now.hash_path.now
+        (W.contents output.old) (W.contents output.new) status) }
+{
+    let line = match words.table {
+        Some(text) => Some(Table::parse(rt.alloc(), text)?),
+        None => None,
+    };
+    let (data, hash) = open_both(rt, words.data_path, words.hash_path, words.command)?;
+    work.begin(rt, data.as_ref().ok(), &hash)?;
+    match journal_of(rt, words, &hash)? {
+        Some(path) => do_through(rt, words, line, work, &path, data, hash, output, errors),
+        None => {
+            if words.journal.is_none() {
+                explain_no_journal(words.hash_path, errors);
+            }
+            do_in_place(rt, words, line, work, data, hash, output, errors)
+        }
+    }
+}
+
+/// The path of the journal, if there is to be one. S6 where one is named, and a commit is under way in another.
+fn journal_of<R: Paths + AllocGlobal>(
+    rt: &R,
+    words: &Words<'_>,
+    hash: &Opened,
+) -> Result<Option<String>, Failure> {
+    if let Some(named) = words.journal {
+        check_other_gate(rt, words.hash_path, named)?;
+    }
+    journal_path(rt, words.journal, hash.identity, words.hash_path)
+}
+
+/// Works through a journal, which is removed at the end where its gate is closed.
+fn do_through<R: Paths + Clock + Eprint + AllocGlobal, T: Work, W: Write, E: Write>(
+    rt: &R,
+    words: &Words<'_>,
+    line: Option<Table>,
+    work: &mut T,
+    path: &str,
+    data: Result<Opened, StoreFault>,
+    hash: Opened,
+    output: &mut W,
+    errors: &mut E,
+) -> Result<u8, Failure>
+    ensures { IfOk result (λ status. IsDoneAt (T.prints work.old (R.text rt.now)) words.now.data_path.now words.now.hash_path.now
+        (W.contents output.old) (W.contents output.new) status) }
+{
+    let Ok(data) = data else {
+        return do_in_place(rt, words, line, work, data, hash, output, errors);
+    };
+    let names = volume_names(rt, &data, words.data_path, &hash, words.hash_path)?;
+    let mut commits = journalled(rt, words, path, &names, &data, &hash, errors)?;
+    let done = do_staged(rt, words, line, work, &mut commits, output, errors);
+    commits.end();
+    done
+}
+
+/// The commits through a journal, once what stands in it is made whole.
+fn journalled<'a, R: Paths + AllocGlobal, E: Write>(
+    rt: &'a R,
+    words: &Words<'_>,
+    path: &'a str,
+    names: &'a str,
+    data: &Opened,
+    hash: &Opened,
+    errors: &mut E,
+) -> Result<Journalled<'a, R>, Failure> {
+    let keeper = make_whole(rt, words, path, data, hash, names, errors)?;
+    let data = data.seen_again()?;
+    let hash = hash.seen_again()?;
+    Ok(Journalled::new(rt, path, names, data, hash, keeper))
+}
+
+/// Makes whole what stands in the journal, which `errors` is told, and answers the journal where it is there.
+fn make_whole<R: Paths + AllocGlobal, E: Write>(
+    rt: &R,
+    words: &Words<'_>,
+    path: &str,
+    data: &Opened,
+    hash: &Opened,
+    names: &str,
+    errors: &mut E,
+) -> Result<Option<FileKeeper>, Failure> {
+    let Some(found) = recover_files(rt, path, data, hash, names)? else {
+        return Ok(None);
+    };
+    if found.is_recovered {
+        explain_recovered(words.hash_path, errors);
+    }
+    Ok(Some(found.keeper))
+}

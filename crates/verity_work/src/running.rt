@@ -1,0 +1,99 @@
+//! A work over an editor, of the volume whole or under a table line.
+ghost use Rattle.std.specs.Prelude.{◌≡◌, IfOk};
+
+use crate::rest::Rest;
+use crate::work::Work;
+use std::alloc::Global;
+use std::io::{Eprint, Write};
+use std::time::Clock;
+use verity_edit::{EditFault, Editor};
+use verity_files::{Failure, Paths};
+use verity_line::LineEditor;
+use verity_store::BlockStore;
+use verity_superblock::Table;
+use verity_volume::Commits;
+
+/// Does the work under a table line. The opening reads no data block.
+pub(crate) fn run_under<
+    R: Paths + Clock + Eprint + AllocGlobal,
+    T: Work,
+    D: BlockStore + Drop,
+    H: BlockStore + Drop,
+    C: Commits<LineEditor<D, H>>,
+    W: Write,
+    E: Write,
+>(
+    rt: &R,
+    work: &mut T,
+    table: Table,
+    data_store: D,
+    hash_store: H,
+    commits: &mut C,
+    rest: Rest<'_>,
+    output: &mut W,
+    errors: &mut E,
+) -> Result<u8, Failure>
+    ensures { IfOk result (λ status. T.prints work.old (R.text rt.now) rest.entry.devices
+        (W.contents output.old) (W.contents output.new) status) }
+{
+    match LineEditor::open_under(rt.alloc(), data_store, hash_store, table) {
+        Ok(editor) => work.run(
+            rt,
+            editor,
+            commits,
+            rest.again,
+            rest.devices,
+            output,
+            errors,
+        ),
+        Err(refused) => Err(refused.fault.into()),
+    }
+}
+
+/// Does the work over a volume that was read whole, where it was opened.
+pub(crate) fn run_whole<
+    R: Paths + Clock + Eprint + AllocGlobal,
+    T: Work,
+    D: BlockStore + Drop,
+    H: BlockStore + Drop,
+    C: Commits<Editor<D, H>>,
+    W: Write,
+    E: Write,
+>(
+    rt: &R,
+    work: &mut T,
+    opened: Result<Editor<D, H>, EditFault>,
+    commits: &mut C,
+    rest: Rest<'_>,
+    output: &mut W,
+    errors: &mut E,
+) -> Result<u8, Failure>
+    ensures { IfOk result (λ status. T.prints work.old (R.text rt.now) rest.entry.devices
+        (W.contents output.old) (W.contents output.new) status) }
+{
+    match opened {
+        Ok(editor) => work.run(
+            rt,
+            editor,
+            commits,
+            rest.again,
+            rest.devices,
+            output,
+            errors,
+        ),
+        Err(fault) => Err(fault.into()),
+    }
+}
+
+/// Opens the volume whose superblock stands at an offset, which reads it whole.
+pub(crate) fn open_whole<D: BlockStore + Drop, H: BlockStore + Drop>(
+    alloc: Global,
+    data_store: D,
+    hash_store: H,
+    offset: u64,
+) -> Result<Editor<D, H>, EditFault> {
+    match Editor::open_at(alloc, data_store, hash_store, offset) {
+        Ok(editor) => Ok(editor),
+        Err(refused) => Err(refused.fault),
+    }
+}

@@ -1,0 +1,61 @@
+//! What is done over a volume, and over which one.
+ghost use Rattle.std.specs.Prelude.{◌≡◌, IfOk};
+ghost use Rattle.verity_work.specs.Work.{Prints, PrintsAsBefore};
+
+use std::io::{Eprint, Write};
+use std::time::Clock;
+use verity_files::{Command, Failure, Opened, Paths};
+use verity_update::Edited;
+use verity_volume::{Commits, Devices, Edits};
+
+/// The words that say which volume, and how it is committed to.
+#[derive(Clone, Copy)]
+pub struct Words<'a> {
+    pub command: Command,
+    pub data_path: &'a str,
+    pub hash_path: &'a str,
+    pub offset: u64,
+    pub table: Option<&'a str>,
+    pub journal: Option<&'a str>,
+    /// Whether someone looks on.
+    pub is_watched: bool,
+}
+
+/// What is done over a volume.
+pub trait Work {
+    /// What it prints over a volume on these devices, and its status, by the bytes that are read at a path, where they are known.
+    ghost prints: { Prints Self };
+
+    /// Opens what more is read, once both files are opened, of which DATA may be missing.
+    fn begin<R: Paths + AllocGlobal>(
+        &mut self,
+        rt: &R,
+        data: Option<&Opened>,
+        hash: &Opened,
+    ) -> Result<(), Failure>
+        ensures { PrintsAsBefore prints self.old self.new };
+
+    /// Looks at it, once the size of a data block is known.
+    fn see(&mut self, data_block_size: usize) -> Result<(), Failure>
+        ensures { PrintsAsBefore prints self.old self.new };
+
+    /// Does it. `hash` is HASH, to be read once more.
+    fn run<
+        R: Paths + Clock + Eprint + AllocGlobal,
+        V: Edits + Edited,
+        C: Commits<V>,
+        W: Write,
+        E: Write,
+    >(
+        &mut self,
+        rt: &R,
+        editor: V,
+        commits: &mut C,
+        hash: Opened,
+        devices: Devices<'_>,
+        output: &mut W,
+        errors: &mut E,
+    ) -> Result<u8, Failure>
+        ensures { IfOk result (λ status. prints self.old (R.text rt.now) devices.entry
+            (W.contents output.old) (W.contents output.new) status) };
+}
