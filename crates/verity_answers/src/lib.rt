@@ -1,7 +1,7 @@
 //! What the commands that change a volume answer: a script's lines done over an editor and answered line by line, and the lines of an
 //! update.
 //!
-//! What a commit is worth the contracts of the layers below say. Here a script is read whole (`read_script`), and each of its lines is
+//! What a commit is worth the contracts of the layers below say. Here each line of a script is
 //! done by one call of an editor, or is a commit, which reaches the volume's files as `Commits` has it. Over an output whose bytes are
 //! known, a script prints as many answers as it has lines that aren't empty, a line each, and its status is 0 exactly where none is a
 //! refusal (`run_script`); a commit that is answered is the editor's, and none is where a device has no room for it (`commit`); an
@@ -14,5 +14,5 @@
 mod script;
 mod updated;
 
-pub use script::{Script, commit, read_script, run_script};
+pub use script::{Script, commit, run_script};
 pub use updated::print_update;

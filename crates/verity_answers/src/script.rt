@@ -1,4 +1,4 @@
-//! A script over a volume: read whole, then done line by line.
+//! A script over a volume, done line by line.
 
 ghost use Rattle.std.specs.Prelude.{◌≡◌, ◌==◌, ◌<◌, ◌≤◌, ◌+◌, ◌↔◌, ℕ, false, length, take, drop};
 ghost use Rattle.std.specs.Prelude.{IfOk, IfErr, IfSome, IsSome, Some, None, Err};
@@ -18,38 +18,11 @@ use verity_store::{Block, StoreFault, Which};
 use verity_volume::{Commits, Devices, Edits, committed_line};
 use verity_words::{Refusal, Where, explain_line};
 
-/// The most bytes of a script.
-const MOST_BYTES: u64 = 1 << 30;
-
 /// A script: its bytes, and the path that it is named by.
 #[derive(Clone, Copy)]
 pub struct Script<'a> {
     pub path: &'a str,
     pub bytes: &'a [u8],
-}
-
-/// The bytes of a script. S1 where it can't be read, or is longer than 2^30 bytes.
-pub fn read_script<I: Read>(alloc: Global, input: &mut I) -> Result<Vec<u8>, Failure>
-    ensures { IfOk result (λ script. IfSome (I.remaining input.old) (λ bytes. script.items ≡ bytes)) }
-{
-    let mut script = Vec::new(alloc);
-    match input.take(MOST_BYTES + 1).read_to_end(&mut script) {
-        Ok(_) => {}
-        Err(error) => return Err(unread(error)),
-    }
-    if script.len() as u64 > MOST_BYTES {
-        return Err(StoreFault::Device.into());
-    }
-    Ok(script)
-}
-
-/// S1; or want of memory, where that is what it was.
-fn unread(error: io::Error) -> Failure {
-    if error.kind() == ErrorKind::OutOfMemory {
-        Failure::NoMemory
-    } else {
-        StoreFault::Device.into()
-    }
 }
 
 /// Does the lines of a script in order and prints one answer line each, but for empty lines: `ok`, `committed ` and the new

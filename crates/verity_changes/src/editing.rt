@@ -1,12 +1,12 @@
 //! The command `edit`: does a script's lines over a volume.
-ghost use Rattle.std.specs.Prelude.{◌≡◌, IfOk, IfSome};
+ghost use Rattle.std.specs.Prelude.{IfOk};
 ghost use Rattle.verity_work.specs.Work.{IsDoneAt};
 ghost use Rattle.verity_changes.specs.Printing.{IsEdited};
 
 use std::io::{Eprint, IsTerminal, Write};
 use std::time::Clock;
-use verity_answers::{Script, read_script, run_script};
-use verity_files::{Command, Failure, Opened, Paths, check_paths, fault_of};
+use verity_answers::{Script, run_script};
+use verity_files::{Command, Failure, Opened, Paths, check_paths};
 use verity_update::Edited;
 use verity_volume::{Commits, Devices, Edits, is_watched, offset_of};
 use verity_words::EditWords;
@@ -82,24 +82,11 @@ impl<'a> Work for Lines<'a> {
         output: &mut W,
         errors: &mut E,
     ) -> Result<u8, Failure> {
-        let bytes = script_bytes(rt, self.path)?;
+        let bytes = rt.script_at(rt.alloc(), self.path)?;
         let script = Script {
             path: self.path,
             bytes: &bytes,
         };
         run_script(rt.alloc(), editor, commits, devices, script, output, errors)
-    }
-}
-
-/// The bytes of the script at a path. S1 where it can't be opened or read, or is too long.
-fn script_bytes<R: Paths + AllocGlobal>(rt: &R, path: &str) -> Result<Vec<u8>, Failure>
-    ensures { IfOk result (λ script. IfSome (R.text rt.now path.now) (λ bytes. script.items ≡ bytes)) }
-{
-    match rt.open_text(path) {
-        Ok(text) => {
-            let mut text = text;
-            read_script(rt.alloc(), &mut text)
-        }
-        Err(error) => Err(fault_of(error).into()),
     }
 }

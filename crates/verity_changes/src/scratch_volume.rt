@@ -9,11 +9,11 @@ ghost use Rattle.verity_changes.specs.Printing.{IsEdited, IsScratch};
 use std::alloc::Global;
 use std::io::{Read, Write};
 use uuid::Uuid;
-use verity_answers::{Script, read_script, run_script};
+use verity_answers::{Script, run_script};
 use verity_build::{BuildParameters, build};
 use verity_digest::Algorithm;
 use verity_edit::Editor;
-use verity_files::{Failure, salt};
+use verity_files::{Failure, read_script, salt};
 use verity_store::MemStore;
 use verity_volume::{Devices, Direct, committed_line};
 

@@ -2,5 +2,6 @@ pub mod Commands
 pub mod Errors
 pub mod Faults
 pub mod Identities
+pub mod Misread
 pub mod VolumeFiles
 pub mod Words

@@ -9,6 +9,7 @@ mod identity;
 mod locks;
 mod opening;
 mod paths;
+mod reading;
 mod status;
 mod stores;
 mod values;
@@ -21,6 +22,7 @@ pub use identity::{Identity, check_apart, file_identity};
 pub use locks::take_lock;
 pub use opening::{Opened, fault_of, open_locked, open_there};
 pub use paths::Paths;
+pub use reading::read_script;
 pub use status::{DONE, NO_MEMORY, NOT_UNDERSTOOD, REFUSED};
 pub use stores::{
     VolumeStore, check_block_size, new_store, room_of, store_of_first, store_of_most, whole_file,

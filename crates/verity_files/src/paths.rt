@@ -3,7 +3,7 @@
 //! What stands at a path only the system knows. Here that has a name, for each question one, which a contract can say of any system: code
 //! that works over any [`Paths`] has no other way to such a fact than to ask by that very path. Of the system itself, whose calls have no
 //! clauses, nothing is known: that it answers so is trusted.
-ghost use Rattle.std.specs.Prelude.{◌≡◌, ℕ, true, false, List, Option, IfOk, IfErr, OnOk, string_bytes};
+ghost use Rattle.std.specs.Prelude.{◌≡◌, ℕ, true, false, List, Option, IfOk, IfErr, IfSome, OnOk, string_bytes};
 ghost use Rattle.verity_files.specs.Errors.{IsOfSystem};
 ghost use Rattle.verity_files.specs.declared.failure.Failure.TheVariants as failure;
 ghost use Rattle.verity_files.specs.declared.opening.Opened.{Opened};
@@ -11,9 +11,9 @@ ghost use Rattle.verity_files.specs.declared.opening.Opened.{Opened};
 use crate::failure::Failure;
 use crate::identity::{Identity, file_identity};
 use crate::opening::{Opened, make_or_open, open_at, path_led_to, stands_at, unmake_at};
+use crate::reading::{read_script, unread};
 use std::alloc::Global;
 use std::fs::File;
-use std::io::Read;
 use std::rt::Files;
 use std::{fs, io};
 use verity_store::{RawFile, StoreFault};
@@ -37,9 +37,6 @@ pub trait Paths {
 
     /// The bytes that are read at this path, where they are known.
     ghost text: { Self → List ℕ → Option (List ℕ) };
-
-    /// What is read from its first byte to its last.
-    type Text: Read + Drop;
 
     /// Opens a file or a block device that stands at a path, to be written too where that is asked for. S1 where it isn't there, or is
     /// neither, which is not waited for; S3 for want of memory.
@@ -71,9 +68,9 @@ pub trait Paths {
     fn read_first(&self, opened: &mut Opened, out: &mut [u8]) -> io::Result<()>
         ensures { OnOk result (begins self.now opened.old out.new) };
 
-    /// Opens what stands at a path to be read, be it a pipe.
-    fn open_text(&self, path: &str) -> io::Result<Self::Text>
-        ensures { IfOk result (λ opened. Self.Text.remaining opened ≡ text self.now path.now) };
+    /// The bytes of the script at a path, be it a pipe. S1 where it can't be opened or read, or is longer than 2^30 bytes; want of memory.
+    fn script_at(&self, alloc: Global, path: &str) -> Result<Vec<u8>, Failure>
+        ensures { IfOk result (λ script. IfSome (text self.now path.now) (λ bytes. script.items ≡ bytes)) };
 
     /// Asks for the entries of the folder to be kept in which a path stands.
     fn sync_folder(&self, path: &str) -> io::Result<()>;
@@ -99,8 +96,6 @@ impl<R: Files<File = File>> Paths for R {
     ghost begins = { λ _ _ _. ⊤ };
 
     ghost text = { λ _ _. None };
-
-    type Text = File;
 
     fn open(&self, path: &str, is_written: bool) -> Result<Opened, StoreFault> {
         open_at(self, path, is_written)
@@ -129,8 +124,14 @@ impl<R: Files<File = File>> Paths for R {
         RawFile::read_exact_at(&mut opened.file, 0, out)
     }
 
-    fn open_text(&self, path: &str) -> io::Result<File> {
-        File::open(self, path)
+    fn script_at(&self, alloc: Global, path: &str) -> Result<Vec<u8>, Failure> {
+        match File::open(self, path) {
+            Ok(file) => {
+                let mut file = file;
+                read_script(alloc, &mut file)
+            }
+            Err(error) => Err(unread(error)),
+        }
     }
 
     fn sync_folder(&self, path: &str) -> io::Result<()> {

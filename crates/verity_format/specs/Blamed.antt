@@ -5,7 +5,7 @@ use Rattle.verity_files.specs.declared.failure.Failure.{Failure}
 use Rattle.verity_files.specs.declared.failure.Failure.TheVariants as failure
 use Rattle.verity_files.specs.declared.failure.Word.TheVariants as word
 use Rattle.verity_words.specs.declared.words.format.FormatWords.{FormatWords}
-use Rattle.verity_serving.specs.Blamed.{IsMisread}
+use Rattle.verity_files.specs.Misread.{IsMisread}
 
 -- of HASH, which may lead to DATA, it isn't said when
 abbrev pub FormatBlames : FormatWords → Failure → Type 0

@@ -8,7 +8,7 @@ ghost use Rattle.verity_superblock.specs.Line.{IsTableLine, canonical};
 ghost use Rattle.verity_superblock.specs.Image.{start_behind};
 ghost use Rattle.verity_volume.specs.Lines.{IsOfLine};
 ghost use Rattle.verity_gate.specs.Refusals.{BlamesAtMost};
-ghost use Rattle.verity_serving.specs.Blamed.{IsMisread};
+ghost use Rattle.verity_files.specs.Misread.{IsMisread};
 ghost use Rattle.verity_format.specs.Blamed.{FormatBlames};
 ghost use Rattle.verity_format.specs.Formatting.{line_made, some_blocks, IsAsked};
 ghost use Rattle.verity_format.specs.Printed.{IsFormatted};

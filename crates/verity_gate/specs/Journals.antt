@@ -30,51 +30,68 @@ pub record IsNamed {A : Type 0} (text : List ℕ) (path : Option (String A)) : T
   pub named : text ≢ codes "none" → IsAt text path
 
 -- the path beside a hash device: that of the file that its path leads to, with `.journal` behind it
-abbrev pub Beside : {P T : Type 0} → Ghosts P T → P → List ℕ → List ℕ → Type 0
+abbrev pub Beside : {P : Type 0} → Ghosts P → P → List ℕ → List ℕ → Type 0
 Beside facts p hash_path path = (led : List ℕ) × facts.leads p hash_path led × (path ≡ led ++ codes ".journal")
 
 -- a regular file has one beside it
-abbrev pub IsBeside : {P T A : Type 0} → Ghosts P T → P → Identity → List ℕ → Option (String A) → Type 0
+abbrev pub IsBeside : {P A : Type 0} → Ghosts P → P → Identity → List ℕ → Option (String A) → Type 0
 IsBeside facts p (identity.File device number) hash_path (Some path) = Beside facts p hash_path (string_bytes path)
 IsBeside facts p (identity.File device number) hash_path None = ⊥
 IsBeside facts p (identity.Device number) hash_path path = path ≡ None
 
 -- what stands at a path was opened, or there is nothing
-abbrev pub IsFound : {P T : Type 0} → Ghosts P T → P → List ℕ → Option Opened → Type 0
+abbrev pub IsFound : {P : Type 0} → Ghosts P → P → List ℕ → Option Opened → Type 0
 IsFound facts p path (Some opened) = facts.opens p path opened
 IsFound facts p path None = facts.lacks p path
 
 -- what was opened has no byte, or its first one is 0
-abbrev pub HasShutGate : {P T : Type 0} → Ghosts P T → P → Opened → Type 0
+abbrev pub HasShutGate : {P : Type 0} → Ghosts P → P → Opened → Type 0
 HasShutGate facts p opened = (opened.len ≡ 0) ⊎ facts.begins p opened (0 ∷ [])
 
 -- no gate is open at a path
-abbrev pub IsShutAt : {P T : Type 0} → Ghosts P T → P → List ℕ → Type 0
+abbrev pub IsShutAt : {P : Type 0} → Ghosts P → P → List ℕ → Type 0
 IsShutAt facts p path = facts.lacks p path ⊎ ((opened : Opened) × facts.opens p path opened × HasShutGate facts p opened)
 
 -- no gate is open beside a hash device; a block device has none there
-abbrev pub IsShut : {P T : Type 0} → Ghosts P T → P → List ℕ → Type 0
+abbrev pub IsShut : {P : Type 0} → Ghosts P → P → List ℕ → Type 0
 IsShut facts p hash_path = facts.has_device p hash_path
     ⊎ ((path : List ℕ) × Beside facts p hash_path path × IsShutAt facts p path)
 
+-- what was opened begins with a byte that isn't 0
+abbrev pub HasOpenGate : {P : Type 0} → Ghosts P → P → Opened → Type 0
+HasOpenGate facts p opened = (first : List ℕ) × (length first ≡ 1) × facts.begins p opened first × (first ≢ 0 ∷ [])
+
+-- a gate is open at a path
+abbrev pub IsOpenAt : {P : Type 0} → Ghosts P → P → List ℕ → Type 0
+IsOpenAt facts p path = (opened : Opened) × facts.opens p path opened × HasOpenGate facts p opened
+
+-- a gate is open beside a hash device
+abbrev pub IsOpen : {P : Type 0} → Ghosts P → P → List ℕ → Type 0
+IsOpen facts p hash_path = (path : List ℕ) × Beside facts p hash_path path × IsOpenAt facts p path
+
 -- or it is the one that is named
-abbrev pub IsOtherShut : {P T : Type 0} → Ghosts P T → P → List ℕ → List ℕ → Type 0
+abbrev pub IsOtherShut : {P : Type 0} → Ghosts P → P → List ℕ → List ℕ → Type 0
 IsOtherShut facts p hash_path named = facts.has_device p hash_path
     ⊎ ((path : List ℕ) × Beside facts p hash_path path × (facts.leads p named path ⊎ IsShutAt facts p path))
 
 -- a regular file's name is the last part of the path of what its path leads to; a device has none
-abbrev pub IsName : {P T : Type 0} → Ghosts P T → P → Identity → List ℕ → List ℕ → Type 0
+abbrev pub IsName : {P : Type 0} → Ghosts P → P → Identity → List ℕ → List ℕ → Type 0
 IsName facts p (identity.File device number) path name = (led : List ℕ) × facts.leads p path led
     × (name ≡ unwrap_or (path_file_name led) led)
 IsName facts p (identity.Device number) path name = name ≡ []
 
 -- the names of both files, with a zero byte between
-abbrev pub AreNames : {P T : Type 0} → Ghosts P T → P → Identity → List ℕ → Identity → List ℕ → List ℕ → Type 0
+abbrev pub AreNames : {P : Type 0} → Ghosts P → P → Identity → List ℕ → Identity → List ℕ → List ℕ → Type 0
 AreNames facts p image data_path device hash_path names = (data_name hash_name : List ℕ) × IsName facts p image data_path data_name
     × IsName facts p device hash_path hash_name × (names ≡ data_name ++ 0 ∷ hash_name)
 
+-- one of a volume's two files was opened at a path
+abbrev pub IsOneOf : {P : Type 0} → Ghosts P → P → List ℕ → (image device : Identity) → Type 0
+IsOneOf facts p path image device = (opened : Opened) × facts.opens p path opened
+    × ((opened.identity ≡ image) ⊎ (opened.identity ≡ device))
+
 -- something was opened at a path
-abbrev pub Stands : {P T : Type 0} → Ghosts P T → P → List ℕ → Type 0
+abbrev pub Stands : {P : Type 0} → Ghosts P → P → List ℕ → Type 0
 Stands facts p path = (opened : Opened) × facts.opens p path opened
 
 -- what a journal of these bytes makes of two files that have so many bytes
@@ -83,7 +100,7 @@ Starts data_len hash_len journal contents = (image device : List ℕ) × (length
     × (pair_of contents ≡ recovered journal (image, device))
 
 -- a journal was found at a path, and what it says was made of both files: where its gate was open it has these names
-pub record Recovers {P T : Type 0} (facts : Ghosts P T) (p : P) (path : List ℕ) (data_len hash_len : ℕ) (names : List ℕ)
+pub record Recovers {P : Type 0} (facts : Ghosts P) (p : P) (path : List ℕ) (data_len hash_len : ℕ) (names : List ℕ)
     (is_recovered : Bool) (contents : Contents) : Type 0 where
   pub journal : Opened
   pub bytes : List ℕ

@@ -1,7 +1,7 @@
 //! The gate of a journal, and what stands at a journal's path.
 ghost use Rattle.std.specs.Prelude.{◌≡◌, Ok, IfOk, IfErr, OnOk};
-ghost use Rattle.verity_gate.specs.Journals.{HasShutGate, IsFound, IsOtherShut, IsShut, IsShutAt};
-ghost use Rattle.verity_gate.specs.Refusals.{BlamesNone, IsOfJournal};
+ghost use Rattle.verity_gate.specs.Journals.{HasOpenGate, HasShutGate, IsFound, IsOpen, IsOpenAt, IsOtherShut, IsShut, IsShutAt};
+ghost use Rattle.verity_gate.specs.Refusals.{IsUnopened, IsUnshut};
 
 use crate::places::path_beside;
 use verity_files::{Command, Failure, Fault, Identity, Opened, Paths, open_there};
@@ -11,7 +11,8 @@ use verity_store::{StoreFault, Which};
 /// has none beside it, nothing is known.
 pub fn check_gate<P: Paths + AllocGlobal>(rt: &P, hash_path: &str) -> Result<(), Failure>
     ensures shut { OnOk result (IsShut P.Paths rt.now hash_path.now) }
-    ensures refused { IfErr result BlamesNone }
+    ensures under_way { IfErr result (λ e. e ≡ Failure.Refused Fault.UnderWay → IsOpen P.Paths rt.now hash_path.now) }
+    ensures refused { IfErr result IsUnshut }
 {
     if rt.is_device(hash_path) {
         return Ok(());
@@ -27,7 +28,8 @@ pub fn check_other_gate<P: Paths + AllocGlobal>(
     named: &str,
 ) -> Result<(), Failure>
     ensures shut { OnOk result (IsOtherShut P.Paths rt.now hash_path.now named.now) }
-    ensures refused { IfErr result BlamesNone }
+    ensures under_way { IfErr result (λ e. e ≡ Failure.Refused Fault.UnderWay → IsOpen P.Paths rt.now hash_path.now) }
+    ensures refused { IfErr result IsUnshut }
 {
     if rt.is_device(hash_path) {
         return Ok(());
@@ -44,7 +46,8 @@ pub fn check_other_gate<P: Paths + AllocGlobal>(
 /// That the gate of a journal is closed, or there is none. S6.
 fn check_gate_at<P: Paths>(rt: &P, path: &str) -> Result<(), Failure>
     ensures shut { OnOk result (IsShutAt P.Paths rt.now path.now) }
-    ensures refused { IfErr result BlamesNone }
+    ensures under_way { IfErr result (λ e. e ≡ Failure.Refused Fault.UnderWay → IsOpenAt P.Paths rt.now path.now) }
+    ensures refused { IfErr result IsUnshut }
 {
     let Some(opened) = open_journal(rt, path, Command::Verify)? else {
         return Ok(());
@@ -55,7 +58,8 @@ fn check_gate_at<P: Paths>(rt: &P, path: &str) -> Result<(), Failure>
 /// That what was opened is empty, or its first byte is 0.
 fn check_first_byte<P: Paths>(rt: &P, opened: Opened) -> Result<(), Failure>
     ensures shut { OnOk result (HasShutGate P.Paths rt.now opened) }
-    ensures refused { IfErr result BlamesNone }
+    ensures under_way { IfErr result (λ e. e ≡ Failure.Refused Fault.UnderWay → HasOpenGate P.Paths rt.now opened) }
+    ensures refused { IfErr result IsUnshut }
 {
     if opened.len == 0 {
         return Ok(());
@@ -79,7 +83,7 @@ pub(crate) fn open_journal<P: Paths>(
     command: Command,
 ) -> Result<Option<Opened>, Fault>
     ensures found { IfOk result (IsFound P.Paths rt.now path.now) }
-    ensures refused { IfErr result IsOfJournal }
+    ensures refused { IfErr result IsUnopened }
 {
     if !rt.is_there(path)? {
         return Ok(None);
@@ -93,7 +97,7 @@ pub(crate) fn open_journal<P: Paths>(
 /// A journal that was opened, where it is a regular file. S7.
 pub(crate) fn regular(opened: Result<Opened, StoreFault>) -> Result<Opened, Fault>
     ensures same { IfOk result (λ journal. «opened» ≡ Ok journal) }
-    ensures refused { IfErr result IsOfJournal }
+    ensures refused { IfErr result IsUnopened }
 {
     match opened {
         Ok(opened) => match opened.identity {

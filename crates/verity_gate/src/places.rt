@@ -1,7 +1,6 @@
 //! Where a volume's journal stands, and the names that it has of the volume's files.
 ghost use Rattle.std.specs.Prelude.{◌≡◌, None, IfSome, IfOk, IfErr, string_bytes};
 ghost use Rattle.verity_gate.specs.Journals.{AreNames, Beside, IsBeside, IsName, IsNamed};
-ghost use Rattle.verity_gate.specs.Refusals.{BlamesNone};
 
 use std::path::Path;
 use verity_files::{Failure, Identity, Opened, Paths};
@@ -19,7 +18,7 @@ pub fn journal_path<P: Paths + AllocGlobal>(
 ) -> Result<Option<String>, Failure>
     ensures named { IfSome named.entry (λ text. IfOk result (IsNamed text.now)) }
     ensures beside { named.entry ≡ None → IfOk result (IsBeside P.Paths rt.now hash hash_path.now) }
-    ensures refused { IfErr result BlamesNone }
+    ensures refused { IfErr result (λ e. e ≡ Failure.NoMemory) }
 {
     match (named, hash) {
         (Some(NONE), _) => Ok(None),
@@ -35,7 +34,7 @@ pub(crate) fn path_beside<P: Paths + AllocGlobal>(
     hash_path: &str,
 ) -> Result<String, Failure>
     ensures beside { IfOk result (λ path. Beside P.Paths rt.now hash_path.now (string_bytes path)) }
-    ensures refused { IfErr result BlamesNone }
+    ensures refused { IfErr result (λ e. e ≡ Failure.NoMemory) }
 {
     let mut path = rt.real_path(rt.alloc(), hash_path)?;
     path.push_str(".journal")?;
@@ -53,7 +52,7 @@ pub fn volume_names<P: Paths + AllocGlobal>(
 ) -> Result<String, Failure>
     ensures names { IfOk result (λ names. AreNames P.Paths rt.now data.now.identity data_path.now hash.now.identity hash_path.now
         (string_bytes names)) }
-    ensures refused { IfErr result BlamesNone }
+    ensures refused { IfErr result (λ e. e ≡ Failure.NoMemory) }
 {
     let mut names = name_of(rt, data.identity, data_path)?;
     names.push('\0')?;
@@ -68,7 +67,7 @@ fn name_of<P: Paths + AllocGlobal>(
     path: &str,
 ) -> Result<String, Failure>
     ensures name { IfOk result (λ name. IsName P.Paths rt.now identity path.now (string_bytes name)) }
-    ensures refused { IfErr result BlamesNone }
+    ensures refused { IfErr result (λ e. e ≡ Failure.NoMemory) }
 {
     match identity {
         Identity::File(_, _) => {

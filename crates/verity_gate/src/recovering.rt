@@ -3,7 +3,7 @@ ghost use Rattle.std.specs.Prelude.{◌≡◌, None, [], length, is_some, IfSome
 ghost use Rattle.verity_files.specs.declared.failure.Word.TheVariants as word;
 ghost use Rattle.verity_journal.specs.Journal.{plan_of};
 ghost use Rattle.verity_journal.specs.Tearing.{read_of};
-ghost use Rattle.verity_gate.specs.Journals.{Recovers, Stands, Starts, laid_to};
+ghost use Rattle.verity_gate.specs.Journals.{IsOneOf, Recovers, Stands, Starts, laid_to};
 ghost use Rattle.verity_gate.specs.Refusals.{BlamesNone, BlamesAtMost, IsOfFile, IsOfJournal};
 
 use crate::gate::{open_journal, regular};
@@ -40,6 +40,7 @@ pub fn recover_files<P: Paths + AllocGlobal>(
     ensures nothing { IfOk result (λ found. found ≡ None → P.lacks rt.now path.now) }
     ensures found { IfOk result (λ found. IfSome found (λ found. Recovers P.Paths rt.now path.now data.now.len hash.now.len names.now
         found.is_recovered (⟦<FileDisks<VolumeFile<File>> as Disks>⟧.seen found.keeper.disks))) }
+    ensures word { IfErr result (λ e. e ≡ Failure.Word Word.Journal → IsOneOf P.Paths rt.now path.now data.now.identity hash.now.identity) }
     ensures refused { IfErr result (BlamesAtMost word.Journal) }
 {
     let Some(opened) = open_journal(rt, path, Command::Recover)? else {

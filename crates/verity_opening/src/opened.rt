@@ -1,19 +1,19 @@
 //! The volume that a table line names, opened to be read.
 
-ghost use Rattle.std.specs.Prelude.{◌≡◌, ◌-◌, ◌^◌, [], IsOk, IfOk, OnOk, IfErr};
-ghost use Rattle.verity_superblock.specs.Line.{Line};
+ghost use Rattle.std.specs.Prelude.{◌≡◌, ◌-◌, ◌^◌, ◌⊎◌, [], Some, IsOk, IfOk, OnOk, IfErr};
+ghost use Rattle.verity_superblock.specs.Line.{Line, line_refusal};
 ghost use Rattle.verity_check.specs.Verifier.{IsCacheSize};
 ghost use Rattle.verity_gate.specs.Journals.{IsShut};
-ghost use Rattle.verity_gate.specs.Refusals.{BlamesNone};
-ghost use Rattle.verity_opening.specs.Opening.{LiesAt, IsJustMade, offered};
+ghost use Rattle.verity_opening.specs.Opening.{LiesAt, IsJustMade, OpensNone, OpensNoHub, offered};
 
 use nbd_session::ExportName;
+use std::alloc::Global;
 use verity_check::Verifier;
-use verity_files::{Command, Failure, Paths, VolumeStore, open_locked, store_of_most};
+use verity_files::{Command, Failure, Fault, Paths, VolumeStore, open_locked, store_of_most};
 use verity_gate::check_gate;
 use verity_hub::Hub;
 use verity_store::{BlockStore, Which};
-use verity_superblock::Table;
+use verity_superblock::{Table, TableFault};
 
 /// A hub over two files.
 pub type FileHub = Hub<VolumeStore, VolumeStore>;
@@ -32,7 +32,7 @@ pub fn open_stores<R: Paths + AllocGlobal>(
     ensures shut { OnOk result (IsShut R.Paths rt.now table.now.hash_dev) }
     ensures data_size { IfOk result (λ stores. ⟦<VolumeStore as BlockStore>⟧.size stores.0 ≡ table.now.data_block_size) }
     ensures hash_size { IfOk result (λ stores. ⟦<VolumeStore as BlockStore>⟧.size stores.1 ≡ table.now.hash_block_size) }
-    ensures blames { IfErr result BlamesNone }
+    ensures refused { IfErr result OpensNone }
 {
     let data = open_locked(rt, table.dev(), command, Which::Data)?;
     check_gate(rt, table.hash_dev())?;
@@ -61,11 +61,24 @@ pub fn open_hub<R: Paths + AllocGlobal>(
     ensures offer { IfOk result (λ hub. hub.0.offer ≡ offered hub.1.table name.now) }
     ensures none { IfOk result (λ hub. (hub.0.next ≡ 0) × (hub.0.sessions ≡ [])) }
     ensures cache { IsOk result → IsCacheSize cache }
-    ensures blames { IfErr result BlamesNone }
+    ensures refused { IfErr result (OpensNoHub line.now name.now cache) }
 {
-    let table = Table::parse(rt.alloc(), line)?;
+    let table = table_in(rt.alloc(), line)?;
     let name = ExportName::new(name.as_bytes())?;
     let (data_store, hash_store) = open_stores(rt, &table, command)?;
     let verifier = Verifier::new(rt.alloc(), table, data_store, hash_store, cache)?;
     Ok(Hub::new(rt.alloc(), verifier, name))
+}
+
+/// The table line that a text is.
+fn table_in(alloc: Global, line: &str) -> Result<Table, Failure>
+    ensures line { IfOk result (λ table. Line line.now table) }
+    ensures refused { IfErr result (λ e. (e ≡ Failure.NoMemory)
+        ⊎ ((f : TableFault) × (e ≡ Failure.Refused (Fault.Table f)) × (line_refusal line.now ≡ Some f))) }
+{
+    match Table::parse(alloc, line) {
+        Ok(table) => Ok(table),
+        Err(TableFault::NoMemory) => Err(Failure::NoMemory),
+        Err(fault) => Err(Failure::Refused(Fault::Table(fault))),
+    }
 }

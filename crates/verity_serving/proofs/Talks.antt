@@ -1,6 +1,5 @@
--- What a session of `talk` that ended well has done.
-use Rattle.std.proofs.Common.{◌≡◌, ℕ, List, Result, Ok, Err, subst}
-use Rattle.std.specs.Prelude.{IsOk}
+-- What a session of `talk` has done.
+use Rattle.std.proofs.Common.{◌≡◌, ℕ, List, Result, subst}
 use Rattle.verity_store.specs.declared.store.BlockStore as store
 use Rattle.nbd_session.specs.declared.offer.Offer.{Offer}
 use Rattle.nbd_hub.specs.declared.fault.ServeFault.{ServeFault}
@@ -15,18 +14,18 @@ use Rattle.verity_opening.specs.Opening.{offered, IsJustMade}
 use Rattle.verity_serving.specs.Serving.{most_turns, IsTalked}
 
 module _ {D H : Type 0} (data_facts : store.Ghosts D) (hash_facts : store.Ghosts H) where
-  pub talked : (done : Result (Unit {0}) ServeFault) (words : TalkWords) (ends : Ends) (old : HubState × Verifying D H)
+  pub talked : (ended : Result (Unit {0}) ServeFault) (words : TalkWords) (ends : Ends) (old : HubState × Verifying D H)
       (new : Verifying D H) → Line words.table.now old.1.table → IsJustMade data_facts hash_facts old.1
-      → old.0.offer ≡ offered old.1.table words.name.now → IsOnlyReading data_facts hash_facts old.1 new → IsOk done
-      → Served (facts_of data_facts hash_facts old.1) (facts_of data_facts hash_facts new) old.0.offer ends most_turns done
+      → old.0.offer ≡ offered old.1.table words.name.now → IsOnlyReading data_facts hash_facts old.1 new
+      → Served (facts_of data_facts hash_facts old.1) (facts_of data_facts hash_facts new) old.0.offer ends most_turns ended
       → ((image : List (List ℕ)) → Fits old.1.table image
-      → ServedBy (SaysRight data_facts hash_facts new image old.0.offer) old.0.offer ends most_turns done)
-      → IsTalked data_facts hash_facts words ends
-  talked (Ok done) words ends old new line made offer reads ok served right =
+      → ServedBy (SaysRight data_facts hash_facts new image old.0.offer) old.0.offer ends most_turns ended)
+      → IsTalked data_facts hash_facts words ends ended
+  talked ended words ends old new line made offer reads served right =
       let Told : Offer → Type 0 = λ it. Served (facts_of data_facts hash_facts old.1) (facts_of data_facts hash_facts new) it ends
-      most_turns (Ok done) in
+      most_turns ended in
       let Right : Offer → Type 0 = λ it. (image : List (List ℕ)) → Fits old.1.table image
-      → ServedBy (SaysRight data_facts hash_facts new image it) it ends most_turns (Ok done) in
+      → ServedBy (SaysRight data_facts hash_facts new image it) it ends most_turns ended in
       record {
         old = old.1;
         new = new;
@@ -36,4 +35,3 @@ module _ {D H : Type 0} (data_facts : store.Ghosts D) (hash_facts : store.Ghosts
         served = subst Told offer served;
         right = subst Right offer right;
       }
-  talked (Err fault) words ends old new line made offer reads ok served right = absurd (cc ok)

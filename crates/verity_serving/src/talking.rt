@@ -1,8 +1,8 @@
 //! The command `talk`: serves a volume to one NBD client, over standard input and output.
 
-ghost use Rattle.std.specs.Prelude.{◌≡◌, ◌↔◌, Ok, Err, IsOk, IfErr};
+ghost use Rattle.std.specs.Prelude.{◌≡◌, ◌↔◌, Err, IfOk, IfErr};
 ghost use Rattle.verity_serving.specs.Blamed.{TalkBlames};
-ghost use Rattle.verity_serving.specs.Serving.{IsTalked};
+ghost use Rattle.verity_serving.specs.Serving.{IsTalked, status_of_session};
 
 use std::io::{Read, Write};
 use verity_files::{Command, DONE, Failure, NO_MEMORY, Paths, REFUSED, VolumeStore, Word, number};
@@ -24,13 +24,13 @@ pub fn talk<R: Paths + AllocGlobal, I: Read, W: Write>(
     input: &mut I,
     output: &mut W,
 ) -> Result<u8, Failure>
-    ensures done { result ≡ Ok 0
-        → IsTalked ⟦<VolumeStore as BlockStore>⟧ ⟦<VolumeStore as BlockStore>⟧ words.now (record {
+    ensures ended { IfOk result (λ status. (ended : _) × (status ≡ status_of_session ended)
+        × IsTalked ⟦<VolumeStore as BlockStore>⟧ ⟦<VolumeStore as BlockStore>⟧ words.now (record {
           reader = I.remaining input.old;
           reader' = I.remaining input.new;
           writer = W.contents output.old;
           writer' = W.contents output.new;
-        }) }
+        }) ended) }
     ensures blames { IfErr result (TalkBlames words.now) }
 {
     let cache = number(Word::Cache, words.cache)? as usize;
@@ -41,8 +41,7 @@ pub fn talk<R: Paths + AllocGlobal, I: Read, W: Write>(
 
 /// The status of a session that ended so.
 fn ended(served: Result<(), ServeFault>) -> Result<u8, Failure>
-    ensures done { (result ≡ Ok 0) ↔ IsOk served }
-    ensures starved { (result ≡ Ok 3) ↔ (served ≡ Err ServeFault.Starved) }
+    ensures status { IfOk result (λ status. status ≡ status_of_session served) }
     ensures refused { IfErr result (λ e. e ≡ Failure.NoMemory) }
     ensures memory { (result ≡ Err Failure.NoMemory) ↔ (served ≡ Err (ServeFault.Hub HubFault.NoMemory)) }
 {

@@ -20,7 +20,7 @@ pub fn recover<R: Paths + AllocGlobal, W: Write>(
 ) -> Result<(), Failure>
     ensures printed { OnOk result (Appends (W.contents output.old) (W.contents output.new) (line (codes "recovered"))
         ⊎ Appends (W.contents output.old) (W.contents output.new) (line (codes "nothing to recover"))) }
-    ensures blames { IfErr result (RecoverBlames words.now) }
+    ensures blames { IfErr result (RecoverBlames R.Paths rt.now words.now) }
 {
     check_paths(words.data_path, words.hash_path)?;
     let (data, hash) = open_both(rt, words.data_path, words.hash_path, Command::Recover)?;

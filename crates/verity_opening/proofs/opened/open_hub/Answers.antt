@@ -1,9 +1,18 @@
-use Rattle.std.proofs.Common.{sym, ap, ◌∙◌, subst}
+use Rattle.std.proofs.Common.{Err, sym, ap, ◌∙◌, subst}
+use Rattle.verity_files.specs.Faults.{failure_of}
+use Rattle.verity_files.specs.declared.fault.Fault.TheVariants as fault
 use Rattle.verity_gate.specs.Journals.{IsShut}
+use Rattle.verity_opening.proofs.Unopened.{of_made, unmade}
 use Rattle.verity_opening.proofs.opened.open_hub.Goals as goal
 
--- src/opened.rt:48:1
 pub returns-clause-shut : goal.returns-clause-shut
 returns-clause-shut g c = subst (λ device. IsShut g.R.Paths c.args.rt.now device)
     (sym (ap (λ v. v.table.hash_dev) c.new-3.ensures.verifier ∙ ap (λ v. v.table.hash_dev) c.in_ok-verifier.ensures.value))
     c.in_ok-data_store.ensures.shut
+
+pub returns-in_err-verifier-clause-refused : goal.returns-in_err-verifier-clause-refused
+returns-in_err-verifier-clause-refused g c =
+    of_made c.from_residual-in_err-verifier.result (failure_of (fault.Check c.in_err-verifier.field-0.0)) _
+    c.from_residual-in_err-verifier.ensures.1
+    (unmade c.args.line.now c.args.name.now c.args.cache c.in_err-verifier.field-0.0
+    (λ is. (c.in_err-verifier.ensures.cache_size.0 (ap Err is)).1) c.in_err-verifier.ensures.error)

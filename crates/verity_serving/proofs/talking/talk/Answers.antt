@@ -1,11 +1,12 @@
-use Rattle.verity_serving.proofs.Blaming.{starved}
+use Rattle.verity_serving.proofs.Blaming.{starved, told}
 use Rattle.verity_serving.proofs.Talks.{talked}
 use Rattle.verity_serving.proofs.talking.talk.Goals as goal
 
-pub returns-clause-done : goal.returns-clause-done
-returns-clause-done g c is = talked _ _ c.serve_stream-served.result c.args.words.now _ c.in_ok-hub.hub _ c.in_ok-hub.ensures.line
-    c.in_ok-hub.ensures.made c.in_ok-hub.ensures.offer c.serve_stream-served.ensures.verifier (c.ended.ensures.done.0 is)
-    c.serve_stream-served.ensures.served c.serve_stream-served.ensures.right
+pub returns-clause-ended : goal.returns-clause-ended
+returns-clause-ended g c = told c.ended.result _ c.serve_stream-served.result c.ended.ensures.status
+    (talked _ _ c.serve_stream-served.result c.args.words.now _ c.in_ok-hub.hub _ c.in_ok-hub.ensures.line c.in_ok-hub.ensures.made
+    c.in_ok-hub.ensures.offer c.serve_stream-served.ensures.verifier c.serve_stream-served.ensures.served
+    c.serve_stream-served.ensures.right)
 
 pub returns-clause-blames : goal.returns-clause-blames
 returns-clause-blames g c = starved c.ended.result c.args.words.now c.ended.ensures.refused

@@ -1,8 +1,7 @@
 use Rattle.std.proofs.Common.{◌≡◌, IfSome, subst, ap, arith}
-use Rattle.verity_answers.proofs.Reading.{read_whole}
-use Rattle.verity_answers.proofs.script.read_script.Goals as goal
+use Rattle.verity_files.proofs.Whole.{read_whole}
+use Rattle.verity_files.proofs.reading.read_script.Goals as goal
 
--- src/script.rt:32:1
 pub returns : goal.returns
 returns g c =
     let inner = ap (λ input. g.I.Read.remaining input.now) c.take.ensures.inner in
