@@ -1,29 +1,23 @@
 //! How many blocks are hashed where the count of data blocks changes. What such commits leave is in `tests/program`.
 
+use crate::editors::*;
 use std::alloc::Global;
 use std::test::Fail;
-use test_editors::*;
-use verity_edit::Editor;
-use verity_store::BlockStore;
+use test_editors::{Step, volume_of};
+use verity_edit::{EditFault, Reply};
 
-// How many blocks are hashed by a commit of another count, and by the next one, without edits. None where a call is refused,
-// or the roots differ.
-fn hashed<D: BlockStore, H: BlockStore>(
-    editor: &mut Editor<D, H>,
-    count: u64,
-) -> Option<(u64, u64)> {
-    let done = if editor.blocks() < count {
-        editor.grow(count)
-    } else {
-        editor.shrink(count)
-    };
-    let first = editor.commit();
-    let second = editor.commit();
-    let is_done = done.is_ok() && editor.blocks() == count;
-    match (first, second) {
-        (Ok(first), Ok(second)) => {
-            let is_kept = first.root == second.root && second.root == editor.root();
-            (is_done && is_kept).then_some((first.hashed, second.hashed))
+// How many blocks two commits hashed, after an edit that was done. None where a call was refused, the count is another, or the
+// roots differ.
+fn hashed(replies: &[Reply], opened: Result<Seen, EditFault>, count: u64) -> Option<(u64, u64)> {
+    let seen = opened.ok()?;
+    match replies {
+        [
+            Reply::Done,
+            Reply::Committed(first),
+            Reply::Committed(second),
+        ] => {
+            let is_kept = first.root == second.root && second.root == seen.root;
+            (is_kept && seen.blocks == count).then_some((first.hashed, second.hashed))
         }
         _ => None,
     }
@@ -42,10 +36,17 @@ const CHANGES: [(usize, u64, u64); 9] = [
     (4097, 256, 2),
 ];
 
-// The same of the volume of so many blocks.
+// The same of a commit of another count, over the volume of so many blocks, and of the next one, without edits.
 fn hashed_by(alloc: Global, old: usize, new: u64) -> Result<Option<(u64, u64)>, Fail> {
-    let mut editor = opened(alloc, volume_of(alloc, old)?)?;
-    Ok(hashed(&mut editor, new))
+    let change = if (old as u64) < new {
+        Step::Grow(new)
+    } else {
+        Step::Shrink(new)
+    };
+    let asked = [change, Step::Commit, Step::Commit];
+    let left = left_by(alloc, volume_of(alloc, old)?, NO_FAILURES, &asked)?;
+    let opened = left.opened;
+    Ok(hashed(&left.replies, opened, new))
 }
 
 #[test]

@@ -1,4 +1,5 @@
-//! Volumes that are edited and committed, beside the same volumes made from scratch, and stores that fail. Tests, and nothing else.
+//! Volumes that are edited and committed, beside the same volumes made from scratch, stores that fail, and memory that is refused. Tests,
+//! and nothing else.
 #![tactic(auto)]
 
 #[cfg(test)]
@@ -6,6 +7,14 @@ mod calls;
 #[cfg(test)]
 mod counts;
 #[cfg(test)]
+mod editors;
+#[cfg(test)]
 mod failing;
 #[cfg(test)]
+mod memory;
+#[cfg(test)]
 mod opening;
+#[cfg(test)]
+mod rooms;
+#[cfg(test)]
+mod running;

@@ -1,17 +1,19 @@
 //! What is refused when a volume is opened, where the program can't ask for it.
 
+use crate::editors::opened_over;
 use std::alloc::Global;
 use std::test::Fail;
-use test_editors::*;
+use test_editors::volume_of;
 use test_volumes::BuiltVolume;
-use verity_edit::{EditFault, Editor};
+use verity_edit::EditFault;
 use verity_store::{MemStore, Which};
 
-fn fault_of(data_store: MemStore, hash_store: MemStore, alloc: Global) -> Option<EditFault> {
-    match Editor::open(alloc, data_store, hash_store) {
-        Ok(_editor) => None,
-        Err(refused) => Some(refused.fault),
-    }
+fn fault_of(
+    data_store: MemStore,
+    hash_store: MemStore,
+    alloc: Global,
+) -> Result<Option<EditFault>, Fail> {
+    Ok(opened_over(alloc, data_store, hash_store)?.opened.err())
 }
 
 // A store of the same bytes, in blocks of 1,024.
@@ -29,11 +31,11 @@ fn fault_of_wide(alloc: Global, which: Which) -> Result<Option<EditFault>, Fail>
     match which {
         Which::Data => {
             let wide = wide(alloc, &data_store)?;
-            Ok(fault_of(wide, hash_store, alloc))
+            fault_of(wide, hash_store, alloc)
         }
         Which::Hash => {
             let wide = wide(alloc, &hash_store)?;
-            Ok(fault_of(data_store, wide, alloc))
+            fault_of(data_store, wide, alloc)
         }
     }
 }
