@@ -1,75 +1,102 @@
 //! Stores that fail at one call.
-use crate::whole::{build_now, compare_now, whole};
+use crate::whole::whole;
 use std::alloc::Global;
 use std::process::Abort;
 use std::test::Fail;
 use test_stores::FailStore;
-use test_volumes::{BuiltVolume, copy};
-use verity_build::{BuildFault, Compared};
-use verity_store::{BlockStore, MemStore, Which};
+use test_volumes::{BuiltVolume, copy, params};
+use verity_build::{BuildFault, Compared, build, compare};
+use verity_digest::Digest;
+use verity_store::{MemStore, Which};
 
-// Whether a build at which no call fails gives the volume.
-fn is_built<D: BlockStore + Drop>(
+type Failing = FailStore<MemStore>;
+
+// Another store of the same bytes, which fails at this call, with 0 at none.
+fn failing(alloc: Global, store: &MemStore, call: u64) -> Result<Failing, Fail> {
+    Ok(FailStore::at(copy(alloc, store)?, call))
+}
+
+// The bytes that a store holds.
+fn held(store: &Failing) -> &[u8] {
+    store.store().bytes()
+}
+
+// What came of a build whose stores fail at one call each.
+#[derive(Clone, Copy)]
+pub struct Built {
+    pub answer: Result<Digest, BuildFault>,
+    // The volume's root hash.
+    root: Digest,
+    // How many calls of the data store and of the hash store it made.
+    calls: (u64, u64),
+    // Whether the hash device is the volume's.
+    is_whole: bool,
+    // Whether it has the volume's length, and its first hash block of level 0.
+    pub has_the_first: bool,
+    // Whether the next build is done, and leaves the volume.
+    is_made_again: bool,
+}
+
+// Whether two hash devices have the same length and the same first hash block of level 0.
+fn have_one_first(left: &[u8], whole: &[u8]) -> bool {
+    left.len() == whole.len() && left.get(1024..1536) == whole.get(1024..1536)
+}
+
+// Builds the volume over these stores, and once more.
+fn build_twice(
     alloc: Global,
     volume: &BuiltVolume,
-    data_store: D,
-    hash_store: MemStore,
-) -> Result<bool, Fail> {
-    let (mut data_store, mut hash_store) = (data_store, hash_store);
-    let built = build_now(alloc, &mut data_store, &mut hash_store)?;
-    Ok(built == Ok(volume.root) && hash_store.bytes() == volume.hash_store.bytes())
-}
-
-// Whether a build whose data store fails at this call names it, and the next build is done.
-fn names_the_data_store(alloc: Global, volume: &BuiltVolume, call: u64) -> Result<bool, Fail> {
-    let mut data_store = FailStore::at(copy(alloc, &volume.data_store)?, call);
-    let mut hash_store = MemStore::zeroed(alloc, 512, 0)?;
-    let answer = build_now(alloc, &mut data_store, &mut hash_store)?;
-    let again = is_built(alloc, volume, data_store, hash_store)?;
-    Ok(answer == Err(BuildFault::Store(Which::Data)) && again)
-}
-
-// Whether a build whose hash store fails at this call names it, leaves the whole device or not, and the next is done.
-fn names_the_hash_store(
-    alloc: Global,
-    volume: &BuiltVolume,
-    call: u64,
-    leaves_all: bool,
-) -> Result<bool, Fail> {
-    let mut data_store = copy(alloc, &volume.data_store)?;
-    let mut hash_store = FailStore::at(MemStore::zeroed(alloc, 512, 0)?, call);
-    let answer = build_now(alloc, &mut data_store, &mut hash_store)?;
-    let left = hash_store.into_inner();
-    let has_all = left.bytes() == volume.hash_store.bytes();
-    let again = is_built(alloc, volume, data_store, left)?;
-    Ok(answer == Err(BuildFault::Store(Which::Hash)) && has_all == leaves_all && again)
-}
-
-// How many calls of each store a build makes.
-fn calls_of_a_build(alloc: Global, volume: &BuiltVolume) -> Result<(u64, u64), Fail> {
-    let mut data_store = FailStore::at(copy(alloc, &volume.data_store)?, 0);
-    let mut hash_store = FailStore::at(MemStore::zeroed(alloc, 512, 0)?, 0);
-    let answer = build_now(alloc, &mut data_store, &mut hash_store)?;
-    Ok(if answer == Ok(volume.root) {
-        (data_store.calls(), hash_store.calls())
-    } else {
-        (0, 0)
+    data_store: &mut Failing,
+    hash_store: &mut Failing,
+) -> Result<Built, Fail> {
+    let params = params(alloc)?;
+    let answer = build(alloc, data_store, hash_store, &params);
+    let calls = (data_store.calls(), hash_store.calls());
+    let whole = volume.hash_store.bytes();
+    let is_whole = held(hash_store) == whole;
+    let has_the_first = have_one_first(held(hash_store), whole);
+    let again = build(alloc, data_store, hash_store, &params);
+    Ok(Built {
+        answer,
+        root: volume.root,
+        calls,
+        is_whole,
+        has_the_first,
+        is_made_again: again == Ok(volume.root) && held(hash_store) == whole,
     })
+}
+
+// Builds the volume over a data store and a hash store that fail at these calls, 0 for none.
+pub fn build_failing(
+    rt: &impl Abort,
+    alloc: Global,
+    data_call: u64,
+    hash_call: u64,
+) -> Result<Built, Fail> {
+    let volume = whole(rt, alloc)?;
+    let mut data_store = failing(alloc, &volume.data_store, data_call)?;
+    let mut hash_store = failing(alloc, &MemStore::zeroed(alloc, 512, 0)?, hash_call)?;
+    build_twice(alloc, &volume, &mut data_store, &mut hash_store)
 }
 
 // A read of each data block; the hash device's length, the blocks of the tree, the superblock's, the sync.
 #[test]
 fn a_build_makes_few_calls(rt: HostRuntime) -> Result<(), Fail> {
-    let volume = whole(&rt, rt.alloc())?;
-    assert_eq!(rt; calls_of_a_build(rt.alloc(), &volume)?, (17, 6));
+    let built = build_failing(&rt, rt.alloc(), 0, 0)?;
+    assert_eq!(rt; (built.answer, built.calls), (Ok(built.root), (17, 6)));
     Ok(())
 }
 
 #[test]
 fn a_build_names_the_data_store(rt: HostRuntime) -> Result<(), Fail> {
-    let volume = whole(&rt, rt.alloc())?;
     for call in 1..18 {
-        assert!(rt; names_the_data_store(rt.alloc(), &volume, call)?, "{call}");
+        let built = build_failing(&rt, rt.alloc(), call, 0)?;
+        let fault = BuildFault::Store(Which::Data);
+        assert_eq!(rt;
+            (built.answer, built.is_made_again),
+            (Err(fault), true),
+            "{call}"
+        );
     }
     Ok(())
 }
@@ -77,51 +104,83 @@ fn a_build_names_the_data_store(rt: HostRuntime) -> Result<(), Fail> {
 // Where the sync alone failed, all was written.
 #[test]
 fn a_build_names_the_hash_store(rt: HostRuntime) -> Result<(), Fail> {
-    let volume = whole(&rt, rt.alloc())?;
     for call in 1..7 {
-        let named = names_the_hash_store(rt.alloc(), &volume, call, call == 6)?;
-        assert!(rt; named, "{call}");
+        let built = build_failing(&rt, rt.alloc(), 0, call)?;
+        let fault = BuildFault::Store(Which::Hash);
+        assert_eq!(rt;
+            (built.answer, built.is_whole, built.is_made_again),
+            (Err(fault), call == 6, true),
+            "{call}"
+        );
     }
     Ok(())
 }
 
-// What a comparison answers whose stores fail at these calls, where it changes none and the next finds no difference.
-fn compared(
+// What came of a comparison whose stores fail at one call each.
+#[derive(Clone, Copy)]
+pub struct Seen {
+    pub answer: Result<Compared, BuildFault>,
+    // Whether the hash device is as it was.
+    stays: bool,
+    // Whether the next comparison finds no difference.
+    is_same: bool,
+}
+
+// Compares the volume over these stores, and once more.
+fn compare_twice(
     alloc: Global,
     volume: &BuiltVolume,
+    data_store: &mut Failing,
+    hash_store: &mut Failing,
+) -> Result<Seen, Fail> {
+    let params = params(alloc)?;
+    let answer = compare(alloc, data_store, hash_store, &params);
+    let stays = held(hash_store) == volume.hash_store.bytes();
+    let again = compare(alloc, data_store, hash_store, &params);
+    Ok(Seen {
+        answer,
+        stays,
+        is_same: again == Ok(Compared::Same(volume.root)),
+    })
+}
+
+// Compares the volume over a data store and a hash store that fail at these calls, 0 for none.
+pub fn compare_failing(
+    rt: &impl Abort,
+    alloc: Global,
     data_call: u64,
     hash_call: u64,
-) -> Result<Option<Result<Compared, BuildFault>>, Fail> {
-    let mut data_store = FailStore::at(copy(alloc, &volume.data_store)?, data_call);
-    let mut hash_store = FailStore::at(copy(alloc, &volume.hash_store)?, hash_call);
-    let answer = compare_now(alloc, &mut data_store, &mut hash_store)?;
-    let stays = hash_store.store().bytes() == volume.hash_store.bytes();
-    let again = compare_now(alloc, &mut data_store, &mut hash_store)?;
-    Ok(if stays && again == Ok(Compared::Same(volume.root)) {
-        Some(answer)
-    } else {
-        None
-    })
+) -> Result<Seen, Fail> {
+    let volume = whole(rt, alloc)?;
+    let mut data_store = failing(alloc, &volume.data_store, data_call)?;
+    let mut hash_store = failing(alloc, &volume.hash_store, hash_call)?;
+    compare_twice(alloc, &volume, &mut data_store, &mut hash_store)
 }
 
 #[test]
 fn a_comparison_names_the_data_store(rt: HostRuntime) -> Result<(), Fail> {
-    let volume = whole(&rt, rt.alloc())?;
-    let fault = BuildFault::Store(Which::Data);
     for call in 1..18 {
-        let answer = compared(rt.alloc(), &volume, call, 0)?;
-        assert_eq!(rt; answer, Some(Err(fault)), "{call}");
+        let seen = compare_failing(&rt, rt.alloc(), call, 0)?;
+        let fault = BuildFault::Store(Which::Data);
+        assert_eq!(rt;
+            (seen.answer, seen.stays, seen.is_same),
+            (Err(fault), true, true),
+            "{call}"
+        );
     }
     Ok(())
 }
 
 #[test]
 fn a_comparison_names_the_hash_store(rt: HostRuntime) -> Result<(), Fail> {
-    let volume = whole(&rt, rt.alloc())?;
-    let fault = BuildFault::Store(Which::Hash);
     for call in 1..4 {
-        let answer = compared(rt.alloc(), &volume, 0, call)?;
-        assert_eq!(rt; answer, Some(Err(fault)), "{call}");
+        let seen = compare_failing(&rt, rt.alloc(), 0, call)?;
+        let fault = BuildFault::Store(Which::Hash);
+        assert_eq!(rt;
+            (seen.answer, seen.stays, seen.is_same),
+            (Err(fault), true, true),
+            "{call}"
+        );
     }
     Ok(())
 }

@@ -1,5 +1,5 @@
 //! Builds and comparisons that are refused memory.
-use crate::whole::{build_now, compare_now, whole};
+use crate::whole::whole;
 use linked_list_allocator::LocalHeap;
 use std::alloc::Global;
 use std::process::Abort;
@@ -8,6 +8,9 @@ use test_volumes::{BuiltVolume, STEP, copy, numbered, params};
 use verity_build::{BuildFault, Compared, build, compare};
 use verity_digest::Digest;
 use verity_store::{BlockStore, MemStore};
+
+// With so many steps of room nothing is refused.
+const ENOUGH: usize = 2000;
 
 // A build over a heap of so many steps.
 fn build_with(
@@ -36,7 +39,7 @@ fn compare_with(
 // The fewest steps of room with which a build of so many blocks is done.
 fn room_for(alloc: Global, count: usize) -> Result<Option<usize>, Fail> {
     let mut data_store = numbered(alloc, count)?;
-    for steps in 0..2000 {
+    for steps in 0..ENOUGH {
         let mut hash_store = MemStore::zeroed(alloc, 512, 0)?;
         if build_with(alloc, steps, &mut data_store, &mut hash_store)?.is_ok() {
             return Ok(Some(steps));
@@ -60,18 +63,6 @@ fn are_of(volume: &BuiltVolume, data_store: &MemStore, hash_store: &MemStore) ->
         && hash_store.bytes() == volume.hash_store.bytes()
 }
 
-// Whether a build with memory gives the volume.
-fn is_built(
-    alloc: Global,
-    volume: &BuiltVolume,
-    data_store: MemStore,
-    hash_store: MemStore,
-) -> Result<bool, Fail> {
-    let (mut data_store, mut hash_store) = (data_store, hash_store);
-    let built = build_now(alloc, &mut data_store, &mut hash_store)?;
-    Ok(built == Ok(volume.root) && are_of(volume, &data_store, &hash_store))
-}
-
 // Whether a build with this room is refused, changes no store, and is done once it has memory.
 fn refuses_a_build(alloc: Global, volume: &BuiltVolume, steps: usize) -> Result<bool, Fail> {
     let mut data_store = copy(alloc, &volume.data_store)?;
@@ -80,18 +71,18 @@ fn refuses_a_build(alloc: Global, volume: &BuiltVolume, steps: usize) -> Result<
     let answer = build_with(alloc, steps, &mut data_store, &mut hash_store)?;
     let stays = data_store.bytes() == volume.data_store.bytes()
         && hash_store.bytes() == before.bytes();
-    let again = is_built(alloc, volume, data_store, hash_store)?;
-    Ok(answer == Err(BuildFault::NoMemory) && stays && again)
+    let again = build_with(alloc, ENOUGH, &mut data_store, &mut hash_store)?;
+    let is_built = again == Ok(volume.root) && are_of(volume, &data_store, &hash_store);
+    Ok(answer == Err(BuildFault::NoMemory) && stays && is_built)
 }
 
 #[test]
 fn a_build_refused_memory_changes_nothing(rt: HostRuntime) -> Result<(), Fail> {
-    let alloc = rt.alloc();
-    let volume = whole(&rt, alloc)?;
-    let room = room_for(alloc, 17)?.unwrap_or(0);
+    let room = room_for(rt.alloc(), 17)?.unwrap_or(0);
     assert!(rt; room > 0);
+    let volume = whole(&rt, rt.alloc())?;
     for steps in 0..room {
-        assert!(rt; refuses_a_build(alloc, &volume, steps)?);
+        assert!(rt; refuses_a_build(rt.alloc(), &volume, steps)?, "{steps}");
     }
     Ok(())
 }
@@ -101,8 +92,9 @@ fn refuses_room(alloc: Global, bytes: usize) -> Result<bool, Fail> {
     let heap = LocalHeap::new(alloc, bytes)?;
     let mut data_store = numbered(alloc, 17)?;
     let mut hash_store = numbered(&heap, 1)?;
-    let answer = build_now(alloc, &mut data_store, &mut hash_store)?;
     let before = numbered(alloc, 1)?;
+    let params = params(alloc)?;
+    let answer = build(alloc, &mut data_store, &mut hash_store, &params);
     Ok(answer == Err(BuildFault::NoMemory) && hash_store.bytes() == before.bytes())
 }
 
@@ -125,7 +117,7 @@ fn compared(
     let mut hash_store = copy(alloc, &volume.hash_store)?;
     let answer = compare_with(alloc, steps, &mut data_store, &mut hash_store)?;
     let stays = are_of(volume, &data_store, &hash_store);
-    let again = compare_now(alloc, &mut data_store, &mut hash_store)?;
+    let again = compare_with(alloc, ENOUGH, &mut data_store, &mut hash_store)?;
     Ok(if stays && again == Ok(Compared::Same(volume.root)) {
         Some(answer)
     } else {
@@ -133,18 +125,24 @@ fn compared(
     })
 }
 
+// The fewest steps of room with which a comparison is done, where with fewer it is refused memory and changes no store.
+fn room_to_compare(alloc: Global, volume: &BuiltVolume) -> Result<Option<usize>, Fail> {
+    for steps in 0..ENOUGH {
+        let answer = compared(alloc, volume, steps)?;
+        if answer == Some(Ok(Compared::Same(volume.root))) {
+            return Ok(Some(steps));
+        }
+        if answer != Some(Err(BuildFault::NoMemory)) {
+            return Ok(None);
+        }
+    }
+    Ok(None)
+}
+
 #[test]
 fn a_comparison_refused_memory_changes_nothing(rt: HostRuntime) -> Result<(), Fail> {
-    let alloc = rt.alloc();
-    let volume = whole(&rt, alloc)?;
-    for steps in 0..2000 {
-        let answer = compared(alloc, &volume, steps)?;
-        if answer == Some(Ok(Compared::Same(volume.root))) {
-            assert!(rt; steps > 0);
-            return Ok(());
-        }
-        assert_eq!(rt; answer, Some(Err(BuildFault::NoMemory)));
-    }
-    assert!(rt; false);
+    let volume = whole(&rt, rt.alloc())?;
+    let room = room_to_compare(rt.alloc(), &volume)?;
+    assert!(rt; matches!(room, Some(1..)));
     Ok(())
 }
