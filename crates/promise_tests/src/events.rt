@@ -5,22 +5,14 @@ use nbd_session::ExportName;
 use std::alloc::{Allocator, Global};
 use std::test::Fail;
 use verity_check::CheckFault;
-use verity_digest::{Digest, Salt};
 use verity_hub::{Event, HubReply, Piece};
 use verity_promise::{AnswerFault, answer_events};
-use verity_superblock::Table;
 
 fn words<A: Allocator>(reply: &HubReply<A>) -> &[u8] {
     match reply {
         HubReply::Opened(_, piece) | HubReply::Fed(_, piece) => piece.as_slice(),
         HubReply::Closed | HubReply::Refused(_) => &[],
     }
-}
-
-fn line(alloc: Global) -> Result<Table, Fail> {
-    let root = Digest::from_bytes(ROOT);
-    let salt = Salt::new(alloc, b"")?;
-    Ok(Table::new(alloc, "d", "h", 512, 512, 17, 2, root, salt)?)
 }
 
 fn client(alloc: Global) -> Result<Vec<Event>, Fail> {
@@ -31,49 +23,62 @@ fn client(alloc: Global) -> Result<Vec<Event>, Fail> {
     Ok(events)
 }
 
+// What came of events: how they ended, how many replies there are, and where the words of the first two aren't the greeting, and what
+// is said behind it.
+#[derive(Clone, Copy, Debug, PartialEq, Eq)]
+struct Heard {
+    done: Result<(), AnswerFault>,
+    count: usize,
+    first: Option<usize>,
+    second: Option<usize>,
+}
+
+// The words of a reply, none where there is no such reply.
+fn words_at(replies: &[HubReply], at: usize) -> &[u8] {
+    match replies.get(at) {
+        Some(reply) => words(reply),
+        None => &[],
+    }
+}
+
+fn heard_of(done: Result<(), AnswerFault>, replies: &[HubReply]) -> Heard {
+    Heard {
+        done,
+        count: replies.len(),
+        first: difference(words_at(replies, 0), &[GREETING]),
+        second: difference(words_at(replies, 1), &[SAID, &[0x11; 512]]),
+    }
+}
+
+// What came of these events, over a cache of so many blocks.
+fn answered(alloc: Global, cache: usize, events: &[Event]) -> Result<Heard, Fail> {
+    let name = ExportName::new(b"vol")?;
+    let line = line(alloc, ROOT, 17)?;
+    let (data, hash) = stores_of(alloc, seventeen(alloc)?)?;
+    let mut replies = Vec::new(alloc);
+    let done = answer_events(alloc, line, data, hash, cache, name, events, &mut replies);
+    Ok(heard_of(done, &replies))
+}
+
 #[test]
 fn events_are_answered(rt: HostRuntime) -> Result<(), Fail> {
     let alloc = rt.alloc();
-    let (data, hash) = stores_of(alloc, seventeen(alloc)?)?;
-    let events = client(alloc)?;
-    let mut replies = Vec::new(alloc);
-    let name = ExportName::new(b"vol")?;
-    let done = answer_events(
-        alloc,
-        line(alloc)?,
-        data,
-        hash,
-        8,
-        name,
-        &events,
-        &mut replies,
-    );
-    assert_eq!(rt; done, Ok(()));
-    assert_eq!(rt; replies.len(), 3);
-    assert_eq!(rt; words(&replies[0]), GREETING);
-    let mut want = Vec::from_slice(alloc, SAID)?;
-    want.extend_from_slice(&[0x11; 512])?;
-    assert_eq!(rt; words(&replies[1]), want.as_slice());
+    let heard = answered(alloc, 8, &client(alloc)?)?;
+    let want = Heard {
+        done: Ok(()),
+        count: 3,
+        first: None,
+        second: None,
+    };
+    assert_eq!(rt; heard, want);
     Ok(())
 }
 
 #[test]
 fn no_cache_is_refused(rt: HostRuntime) -> Result<(), Fail> {
     let alloc = rt.alloc();
-    let (data, hash) = stores_of(alloc, seventeen(alloc)?)?;
-    let mut replies = Vec::new(alloc);
-    let name = ExportName::new(b"vol")?;
-    let done = answer_events(
-        alloc,
-        line(alloc)?,
-        data,
-        hash,
-        0,
-        name,
-        &client(alloc)?,
-        &mut replies,
-    );
-    assert_eq!(rt; done, Err(AnswerFault::Check(CheckFault::CacheSize)));
-    assert_eq!(rt; replies.len(), 0);
+    let heard = answered(alloc, 0, &client(alloc)?)?;
+    let fault = AnswerFault::Check(CheckFault::CacheSize);
+    assert_eq!(rt; (heard.done, heard.count), (Err(fault), 0));
     Ok(())
 }

@@ -4,9 +4,12 @@ use std::alloc::Global;
 use std::test::Fail;
 use uuid::Uuid;
 use verity_build::{BuildParameters, build_at};
-use verity_digest::{Algorithm, Salt};
-use verity_edit::Command;
+use verity_digest::{Algorithm, Digest, Salt};
+use verity_edit::{Command, EditFault, OpenRefused, Reply};
+use verity_hub::ServeFault;
+use verity_promise::{Edited, Unserved};
 use verity_store::{Block, MemStore};
+use verity_superblock::Table;
 
 /// Where the superblock stands.
 pub const OFFSET: u64 = 512;
@@ -29,16 +32,17 @@ pub const ROOT: [u8; 32] = [
     0x7a, 0x14, 0x35, 0xce, 0x5a, 0x48, 0xc5, 0x82, 0xc9, 0x91, 0xf1, 0xea, 0x83, 0xeb, 0x28, 0xbf,
 ];
 
+// What the volume is built with.
+fn params(alloc: Global) -> Result<BuildParameters, Fail> {
+    let salt = Salt::new(alloc, b"")?;
+    Ok(BuildParameters::new(salt, Uuid::from_bytes([7; 16]), Algorithm::Sha256))
+}
+
 /// The data store, and the hash device that is built of it behind a block of 0xee.
 pub fn stores_of(alloc: Global, bytes: Vec<u8>) -> Result<(MemStore, MemStore), Fail> {
-    let params = BuildParameters::new(
-        Salt::new(alloc, b"")?,
-        Uuid::from_bytes([7; 16]),
-        Algorithm::Sha256,
-    );
     let mut data = MemStore::new(bytes, 512)?;
     let mut hash = MemStore::new(Vec::from_elem(alloc, 0xee, 512)?, 512)?;
-    build_at(alloc, &mut data, &mut hash, &params, OFFSET)?;
+    build_at(alloc, &mut data, &mut hash, &params(alloc)?, OFFSET)?;
     Ok((data, hash))
 }
 
@@ -62,4 +66,114 @@ pub fn seventeen(alloc: Global) -> Result<Vec<u8>, Fail> {
     let mut bytes = sixteen(alloc)?;
     bytes.extend_from_slice(&[0x11; 512])?;
     Ok(bytes)
+}
+
+/// The first byte at which what was said isn't that of all parts, one behind the other.
+pub fn difference(said: &[u8], parts: &[&[u8]]) -> Option<usize> {
+    let mut at = 0usize;
+    for part in parts {
+        for byte in *part {
+            if said.get(at) != Some(byte) {
+                return Some(at);
+            }
+            at = at.saturating_add(1);
+        }
+    }
+    (at < said.len()).then_some(at)
+}
+
+/// The line of so many blocks.
+pub fn line(alloc: Global, root: [u8; 32], blocks: u64) -> Result<Table, Fail> {
+    let root = Digest::from_bytes(root);
+    let salt = Salt::new(alloc, b"")?;
+    Ok(Table::new(alloc, "d", "h", 512, 512, blocks, 2, root, salt)?)
+}
+
+/// What came of edits.
+pub type Edit = Result<Edited<MemStore, MemStore>, OpenRefused<MemStore, MemStore>>;
+
+/// Whether all was done, and these bytes are left, with the line of this root and count.
+pub fn has_left(edited: &Edit, data: &[u8], hash: &[u8], root: [u8; 32], blocks: u64) -> bool {
+    match edited {
+        Ok(left) => {
+            let lined = match &left.table {
+                Some(line) => line.root() == left.root && line.data_blocks() == blocks,
+                None => false,
+            };
+            lined
+                && left.done.is_ok()
+                && left.root == Digest::from_bytes(root)
+                && left.data_store.bytes() == data
+                && left.hash_store.bytes() == hash
+        }
+        Err(_) => false,
+    }
+}
+
+/// What is seen of a reply.
+#[derive(Clone, Copy, Debug, PartialEq, Eq)]
+pub enum Kind {
+    Done,
+    /// The seventeen blocks' root hash was committed.
+    Root,
+    /// The command was refused, as the first block of level 0 isn't that of the line's tree.
+    Untrusted,
+    Other,
+    Missing,
+}
+
+fn kind_of(reply: Option<&Reply>) -> Kind {
+    match reply {
+        None => Kind::Missing,
+        Some(Reply::Done) => Kind::Done,
+        Some(Reply::Committed(committed)) if committed.root == Digest::from_bytes(ROOT) =>
+            Kind::Root,
+        Some(Reply::Refused(EditFault::Untrusted { level: 0, index: 0 })) => Kind::Untrusted,
+        Some(_) => Kind::Other,
+    }
+}
+
+/// What is seen of the replies to commands: how many there are, and the first three.
+#[derive(Clone, Copy, Debug, PartialEq, Eq)]
+pub struct Told {
+    pub count: usize,
+    pub first: Kind,
+    pub second: Kind,
+    pub third: Kind,
+}
+
+pub fn told_by(replies: &[Reply]) -> Told {
+    Told {
+        count: replies.len(),
+        first: kind_of(replies.get(0)),
+        second: kind_of(replies.get(1)),
+        third: kind_of(replies.get(2)),
+    }
+}
+
+/// What is seen of the replies where a seventeenth block was added, written and committed.
+pub const TOLD_OF_SEVENTEEN: Told = Told {
+    count: 3,
+    first: Kind::Done,
+    second: Kind::Done,
+    third: Kind::Root,
+};
+
+/// What came of serving.
+pub type Service = Result<Result<(), ServeFault>, Unserved<MemStore, MemStore>>;
+
+/// How serving ended.
+#[derive(Clone, Copy, Debug, PartialEq, Eq)]
+pub enum End {
+    Served,
+    NotOpened,
+    Other,
+}
+
+pub fn end_of(served: &Service) -> End {
+    match served {
+        Ok(Ok(())) => End::Served,
+        Err(Unserved::Opened(_)) => End::NotOpened,
+        _ => End::Other,
+    }
 }

@@ -2,56 +2,40 @@
 
 use crate::volumes::*;
 use nbd_session::ExportName;
+use std::alloc::Global;
 use std::test::Fail;
-use verity_digest::Digest;
-use verity_edit::{OpenRefused, Reply};
-use verity_promise::{Edited, Unserved, edit_and_serve, edit_from_scratch};
+use verity_promise::{edit_and_serve, edit_from_scratch};
 use verity_store::MemStore;
 
-type Edit = Result<Edited<MemStore, MemStore>, OpenRefused<MemStore, MemStore>>;
-
-// Whether all was done, and these bytes are left.
-fn has_left(edited: &Edit, data: &[u8], hash: &[u8]) -> bool {
-    match edited {
-        Ok(left) => {
-            left.done.is_ok()
-                && left.table.is_some()
-                && left.root == Digest::from_bytes(ROOT)
-                && left.data_store.bytes() == data
-                && left.hash_store.bytes() == hash
-        }
-        Err(_) => false,
-    }
+// Whether the commands over the sixteen blocks leave these bytes, and what is seen of the replies.
+fn edited(alloc: Global, data: &MemStore, hash: &MemStore) -> Result<(bool, Told), Fail> {
+    let commands = commands(alloc)?;
+    let (old_data, old_hash) = stores_of(alloc, sixteen(alloc)?)?;
+    let mut replies = Vec::new(alloc);
+    let edited = edit_from_scratch(alloc, old_data, old_hash, OFFSET, &commands, &mut replies);
+    let is_left = has_left(&edited, data.bytes(), hash.bytes(), ROOT, 17);
+    Ok((is_left, told_by(&replies)))
 }
 
 #[test]
 fn edits_are_from_scratch(rt: HostRuntime) -> Result<(), Fail> {
     let alloc = rt.alloc();
-    let (data, hash) = stores_of(alloc, sixteen(alloc)?)?;
-    let (want_data, want_hash) = stores_of(alloc, seventeen(alloc)?)?;
-    let mut replies = Vec::new(alloc);
-    let commands = commands(alloc)?;
-    let edited = edit_from_scratch(alloc, data, hash, OFFSET, &commands, &mut replies);
-    assert_eq!(rt; replies.len(), 3);
-    assert_eq!(rt; replies[0], Reply::Done);
-    assert_eq!(rt; replies[1], Reply::Done);
-    assert_eq!(rt;
-        has_left(&edited, want_data.bytes(), want_hash.bytes()),
-        true
-    );
+    let (data, hash) = stores_of(alloc, seventeen(alloc)?)?;
+    let (is_left, told) = edited(alloc, &data, &hash)?;
+    assert_eq!(rt; (is_left, told), (true, TOLD_OF_SEVENTEEN));
     Ok(())
 }
 
-#[test]
-fn what_was_committed_is_served(rt: HostRuntime) -> Result<(), Fail> {
-    let alloc = rt.alloc();
-    let (data, hash) = stores_of(alloc, sixteen(alloc)?)?;
-    let mut want = Vec::from_slice(alloc, GREETING)?;
-    want.extend_from_slice(SAID)?;
-    want.extend_from_slice(&[0x11; 512])?;
+// How the commands over these stores end, after which the client is served, and where what is said isn't what is wanted.
+fn served(
+    alloc: Global,
+    data: MemStore,
+    hash: MemStore,
+    want: &[&[u8]],
+) -> Result<(End, Option<usize>), Fail> {
     let commands = commands(alloc)?;
-    let mut replies = Vec::new(alloc);
     let name = ExportName::new(b"vol")?;
+    let mut replies = Vec::new(alloc);
     let mut reader = CLIENT;
     let mut said = Vec::new(alloc);
     let served = edit_and_serve(
@@ -66,8 +50,15 @@ fn what_was_committed_is_served(rt: HostRuntime) -> Result<(), Fail> {
         &mut said,
         100,
     );
-    assert_eq!(rt; matches!(&served, Ok(Ok(()))), true);
-    assert_eq!(rt; said.as_slice(), want.as_slice());
+    Ok((end_of(&served), difference(&said, want)))
+}
+
+#[test]
+fn what_was_committed_is_served(rt: HostRuntime) -> Result<(), Fail> {
+    let alloc = rt.alloc();
+    let (data, hash) = stores_of(alloc, sixteen(alloc)?)?;
+    let served = served(alloc, data, hash, &[GREETING, SAID, &[0x11; 512]])?;
+    assert_eq!(rt; served, (End::Served, None));
     Ok(())
 }
 
@@ -75,24 +66,7 @@ fn what_was_committed_is_served(rt: HostRuntime) -> Result<(), Fail> {
 fn no_volume_is_refused(rt: HostRuntime) -> Result<(), Fail> {
     let alloc = rt.alloc();
     let data = MemStore::zeroed(alloc, 512, 1)?;
-    let hash = MemStore::zeroed(alloc, 512, 1)?;
-    let mut replies = Vec::new(alloc);
-    let name = ExportName::new(b"vol")?;
-    let mut reader = CLIENT;
-    let mut said = Vec::new(alloc);
-    let served = edit_and_serve(
-        alloc,
-        data,
-        hash,
-        OFFSET,
-        &commands(alloc)?,
-        &mut replies,
-        name,
-        &mut reader,
-        &mut said,
-        100,
-    );
-    assert_eq!(rt; matches!(&served, Err(Unserved::Opened(_))), true);
-    assert_eq!(rt; said.len(), 0);
+    let served = served(alloc, data, MemStore::zeroed(alloc, 512, 1)?, &[])?;
+    assert_eq!(rt; served, (End::NotOpened, None));
     Ok(())
 }
