@@ -1,46 +1,54 @@
 //! Who gets a verifier, and the texts of faults.
 ghost use Rattle.std.specs.Prelude.{◌^◌, ◌≤◌};
 
+use crate::asking::{Line, NEVER, answered, failing};
 use std::alloc::Global;
 use std::process::Abort;
 use std::test::Fail;
 use test_verifiers::*;
-use verity_check::{CheckFault, Place, Verifier};
+use verity_check::{CheckFault, Place};
 use verity_digest::Digest;
 use verity_store::{MemStore, Which};
 
-// Whether a verifier over zeroed stores of these lengths is refused so.
-fn refused(
+// What a verifier over zeroed stores of these lengths is refused for, if it is.
+fn refusal(
     alloc: Global,
     data_blocks: u64,
     hash_blocks: u64,
     cache: usize,
-    fault: Option<CheckFault>,
-) -> Result<bool, Fail>
+) -> Result<Option<CheckFault>, Fail>
     requires data_blocks { data_blocks ≤ 2 ^ 41 }
     requires hash_blocks { hash_blocks ≤ 2 ^ 41 }
 {
-    let table = table(alloc, 17, 1, Digest::from_bytes(ROOT_17))?;
-    let data = MemStore::zeroed(alloc, 512, data_blocks)?;
-    let hash = MemStore::zeroed(alloc, 512, hash_blocks)?;
-    Ok(Verifier::new(alloc, table, data, hash, cache).err() == fault)
+    let line = Line::Plain(17, 1, Digest::from_bytes(ROOT_17));
+    let data = failing(MemStore::zeroed(alloc, 512, data_blocks)?, NEVER);
+    let hash = failing(MemStore::zeroed(alloc, 512, hash_blocks)?, NEVER);
+    Ok(answered(alloc, line, data, hash, cache, &[])?.err())
 }
 
 #[test]
 fn lengths_have_borders(rt: HostRuntime) -> Result<(), Fail> {
     let alloc = rt.alloc();
-    assert!(rt; refused(alloc, 17, 4, 1, None)?);
-    assert!(rt; refused(alloc, 16, 4, 1, Some(CheckFault::Lengths))?);
-    assert!(rt; refused(alloc, 17, 3, 0, Some(CheckFault::Lengths))?);
+    let refusals = (
+        refusal(alloc, 17, 4, 1)?,
+        refusal(alloc, 16, 4, 1)?,
+        refusal(alloc, 17, 3, 0)?,
+    );
+    let lengths = Some(CheckFault::Lengths);
+    assert_eq!(rt; refusals, (None, lengths, lengths));
     Ok(())
 }
 
 #[test]
 fn cache_sizes_have_borders(rt: HostRuntime) -> Result<(), Fail> {
     let alloc = rt.alloc();
-    assert!(rt; refused(alloc, 18, 5, 65_536, None)?);
-    assert!(rt; refused(alloc, 17, 4, 0, Some(CheckFault::CacheSize))?);
-    assert!(rt; refused(alloc, 17, 4, 65_537, Some(CheckFault::CacheSize))?);
+    let refusals = (
+        refusal(alloc, 18, 5, 65_536)?,
+        refusal(alloc, 17, 4, 0)?,
+        refusal(alloc, 17, 4, 65_537)?,
+    );
+    let cache_size = Some(CheckFault::CacheSize);
+    assert_eq!(rt; refusals, (None, cache_size, cache_size));
     Ok(())
 }
 

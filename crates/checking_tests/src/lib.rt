@@ -1,6 +1,9 @@
-//! Reads and reports: values from outside, refusals, stores that fail or answer otherwise the second time. Tests, and nothing else.
+//! Reads and reports: values from outside, refusals, stores that fail or answer otherwise the second time, and memory that is
+//! refused. Tests, and nothing else.
 #![tactic(auto)]
 
+#[cfg(test)]
+mod asking;
 #[cfg(test)]
 mod borders;
 #[cfg(test)]
@@ -8,4 +11,10 @@ mod failures;
 #[cfg(test)]
 mod lies;
 #[cfg(test)]
+mod memory;
+#[cfg(test)]
 mod reading;
+#[cfg(test)]
+mod refused;
+#[cfg(test)]
+mod room;
