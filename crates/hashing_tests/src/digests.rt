@@ -1,4 +1,5 @@
 //! Single digests, of the vectors of FIPS 180-4, and the longest salt.
+use std::alloc::Global;
 use std::test::Fail;
 use verity_digest::{Algorithm, Hasher, Salt, SaltFault};
 
@@ -14,24 +15,35 @@ const SHA512_ABC: [u8; 64] = [
     0x45, 0x4d, 0x44, 0x23, 0x64, 0x3c, 0xe8, 0x0e, 0x2a, 0x9a, 0xc9, 0x4f, 0xa5, 0x4c, 0xa4, 0x9f,
 ];
 
+// Whether the digest of a salt and a block is this one.
+fn is_digest(
+    alloc: Global,
+    algorithm: Algorithm,
+    (salt, block): (&str, &str),
+    expected: &[u8],
+) -> Result<bool, Fail> {
+    let salt = Salt::new(alloc, salt.as_bytes())?;
+    let digest = Hasher::new(salt, algorithm).digest(block.as_bytes());
+    Ok(digest.bytes() == expected)
+}
+
 #[test]
 fn salt_and_block_are_one_message(rt: HostRuntime) -> Result<(), Fail> {
-    for (salt, block) in [("", "abc"), ("a", "bc"), ("abc", "")] {
-        let short = Salt::new(rt.alloc(), salt.as_bytes())?;
-        let digest = Hasher::new(short, Algorithm::Sha256).digest(block.as_bytes());
-        assert_eq!(rt; digest.bytes(), SHA256_ABC.as_slice());
-        let wide = Salt::new(rt.alloc(), salt.as_bytes())?;
-        let digest = Hasher::new(wide, Algorithm::Sha512).digest(block.as_bytes());
-        assert_eq!(rt; digest.bytes(), SHA512_ABC.as_slice());
+    for message in [("", "abc"), ("a", "bc"), ("abc", "")] {
+        let short = is_digest(rt.alloc(), Algorithm::Sha256, message, &SHA256_ABC)?;
+        let wide = is_digest(rt.alloc(), Algorithm::Sha512, message, &SHA512_ABC)?;
+        assert_eq!(rt; (short, wide), (true, true), "salt {}", message.0);
     }
     Ok(())
 }
 
 #[test]
 fn longest_salt(rt: HostRuntime) -> Result<(), Fail> {
+    let longer = Salt::new(rt.alloc(), &[7; 257]).err();
     let longest = Salt::new(rt.alloc(), &[7; 256])?;
-    assert_eq!(rt; longest.bytes().len(), 256);
-    let longer = Salt::new(rt.alloc(), &[7; 257]);
-    assert_eq!(rt; longer.err(), Some(SaltFault::TooLong));
+    assert_eq!(rt;
+        (longest.bytes().len(), longer),
+        (256, Some(SaltFault::TooLong))
+    );
     Ok(())
 }
