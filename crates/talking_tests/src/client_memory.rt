@@ -1,12 +1,11 @@
 //! The memory of clients whose long replies were sent.
 
+use crate::hubs::make_sessions_over;
 use crate::image::Image;
 use linked_list_allocator::LocalHeap;
 use nbd_hub::Sessions;
 use nbd_relay::{Asks, Client, Pair, Turn};
-use nbd_session::ExportName;
-use std::alloc::{Allocator, Global};
-use std::process::Abort;
+use std::alloc::Global;
 use std::test::Fail;
 
 /// Client flags, EXPORT_NAME, and a READ of the first 150,000 bytes.
@@ -21,32 +20,28 @@ type Pipe = Pair<&'static [u8], Vec<u8>>;
 /// A hub over 200,000 bytes.
 fn make_hub(alloc: Global) -> Result<Sessions<Image>, Fail> {
     let bytes = vec![in alloc; 0x5a; 200_000]?;
-    let name = ExportName::new(b"vol")?;
-    Ok(Sessions::new(
-        alloc,
-        Image {
-            bytes,
-            refusal: None,
-        },
-        name,
-    ))
+    let image = Image {
+        bytes,
+        refusal: None,
+    };
+    make_sessions_over(alloc, image)
 }
 
-fn open<A: Allocator>(
+fn open<'a>(
     alloc: Global,
-    memory: A,
+    heap: &'a LocalHeap,
     hub: &mut Sessions<Image>,
-) -> Result<Client<Pipe, A>, Fail> {
+) -> Result<Client<Pipe, &'a LocalHeap>, Fail> {
     let pipe = Pair {
         reader: INPUT,
         writer: Vec::new(alloc),
         asks: Asks::new(),
     };
-    Ok(Client::open(memory, pipe, hub)?)
+    Ok(Client::open(heap, pipe, hub)?)
 }
 
 /// Takes turns of a client up to its end, and tells how many bytes it was sent.
-fn finish<A: Allocator>(client: &mut Client<Pipe, A>, hub: &mut Sessions<Image>) -> usize {
+fn finish(client: &mut Client<Pipe, &LocalHeap>, hub: &mut Sessions<Image>) -> usize {
     for _ in 0..1_000u64 {
         if let Turn::Done = client.turn(hub) {
             break;
@@ -55,23 +50,18 @@ fn finish<A: Allocator>(client: &mut Client<Pipe, A>, hub: &mut Sessions<Image>)
     client.stream().writer.len()
 }
 
-/// A client that was sent all of what is said, and is still open.
-fn drained<A: Allocator>(
-    rt: &impl Abort,
-    alloc: Global,
-    memory: A,
-    hub: &mut Sessions<Image>,
-) -> Result<Client<Pipe, A>, Fail> {
-    let mut client = open(alloc, memory, hub)?;
-    assert_eq!(rt; finish(&mut client, hub), SAID);
-    Ok(client)
+/// How many bytes each of two clients was sent, where the first is still open while the second is served.
+fn sent(alloc: Global, heap: &LocalHeap) -> Result<[usize; 2], Fail> {
+    let mut hub = make_hub(alloc)?;
+    let mut first = open(alloc, heap, &mut hub)?;
+    let first_sent = finish(&mut first, &mut hub);
+    let mut second = open(alloc, heap, &mut hub)?;
+    Ok([first_sent, finish(&mut second, &mut hub)])
 }
 
 #[test]
 fn a_drained_client_keeps_no_long_reply(rt: HostRuntime) -> Result<(), Fail> {
     let heap = LocalHeap::new(rt.alloc(), 250_000)?;
-    let mut hub = make_hub(rt.alloc())?;
-    let _first = drained(&rt, rt.alloc(), &heap, &mut hub)?;
-    let _second = drained(&rt, rt.alloc(), &heap, &mut hub)?;
+    assert_eq!(rt; sent(rt.alloc(), &heap)?, [SAID, SAID]);
     Ok(())
 }

@@ -11,6 +11,8 @@ mod client_memory;
 #[cfg(test)]
 mod conversations;
 #[cfg(test)]
+mod hubs;
+#[cfg(test)]
 mod lengths;
 #[cfg(test)]
 mod sessions;

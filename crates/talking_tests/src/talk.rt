@@ -1,11 +1,37 @@
 //! What is said to an input, and bytes spelled in digits.
 
-ghost use Rattle.std.specs.Prelude.{◌<◌};
+ghost use Rattle.std.specs.Prelude.{◌<◌, ◌≡◌, length};
 
-use crate::image::make_image;
+use crate::image::{Image, make_image};
 use nbd_session::{ExportFault, ExportName, Session, Status};
 use std::alloc::{AllocError, Global};
 use std::test::Fail;
+
+/// A session and what it reads from.
+#[derive(Drop)]
+pub struct Talk {
+    session: Session,
+    image: Image,
+    ghost same: { session.offer.size ≡ length image.bytes.items },
+}
+
+impl Talk {
+    /// A session that has greeted.
+    pub fn open(
+        alloc: Global,
+        refusal: Option<ExportFault>,
+        out: &mut Vec<u8>,
+    ) -> Result<Talk, Fail> {
+        let image = make_image(alloc, refusal)?;
+        let session = Session::open(alloc, ExportName::new(b"vol")?, 8_704, 512, out)?;
+        Ok(Talk { session, image })
+    }
+
+    /// Feeds it a piece.
+    pub fn feed(&mut self, piece: &[u8], out: &mut Vec<u8>) -> Status {
+        self.session.feed(piece, &mut self.image, out)
+    }
+}
 
 /// What is said to an input that comes in a first piece of `first` bytes and then in pieces of `step` bytes, and how
 /// the session stands in the end.
@@ -18,19 +44,28 @@ pub fn said(
 ) -> Result<(Vec<u8>, Status), Fail>
     requires { 0 < step }
 {
-    let mut export = make_image(alloc, refusal)?;
     let mut out = Vec::new(alloc);
-    let name = ExportName::new(b"vol")?;
-    let mut session = Session::open(alloc, name, 8_704, 512, &mut out)?;
+    let mut talk = Talk::open(alloc, refusal, &mut out)?;
     let (front, rest) = input.split_at(first.min(input.len()));
-    let mut status = session.feed(front, &mut export, &mut out);
-    let mut done = 0;
-    while done < rest.len() {
-        let taken = (rest.len() - done).min(step);
-        status = session.feed(&rest[done..done + taken], &mut export, &mut out);
-        done += taken;
+    let mut status = talk.feed(front, &mut out);
+    for piece in rest.chunks(step) {
+        status = talk.feed(piece, &mut out);
     }
     Ok((out, status))
+}
+
+/// Whether this is said, and how the session stands in the end.
+pub fn is_said(
+    alloc: Global,
+    input: &[u8],
+    pieces: (usize, usize),
+    refusal: Option<ExportFault>,
+    output: &[u8],
+) -> Result<(bool, Status), Fail>
+    requires { 0 < pieces.1 }
+{
+    let (out, status) = said(alloc, input, pieces.0, pieces.1, refusal)?;
+    Ok((out.as_slice() == output, status))
 }
 
 /// The value of a hexadecimal digit, or none of a blank.

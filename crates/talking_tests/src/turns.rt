@@ -4,10 +4,10 @@ ghost use Rattle.std.specs.Prelude.{◌≡◌, Some};
 ghost use Rattle.std.specs.Io.{ReadsAtMost, WritesAtMost};
 ghost use Rattle.std.specs.Io.KnownBytes.{WriteAppends};
 
-use crate::streams::make_sessions;
-use nbd_hub::{Sessions, serve};
+use crate::hubs::{end, make_sessions, serve_alone};
+use crate::image::Image;
+use nbd_hub::Sessions;
 use nbd_relay::{Asks, Client, Stream, Turn};
-use nbd_session::Export;
 use std::alloc::{AllocError, Global};
 use std::io::{self, ErrorKind};
 use std::test::Fail;
@@ -128,15 +128,20 @@ const SECOND_SAID: &[u8] = b"NBDMAGICIHAVEOPT\x00\x03\
     \x67\x44\x66\x98\x00\x00\x00\x00\x0a\x0b\x0c\x0d\x05\x06\x07\x08\x5a\x5a\x5a\
     \x67\x44\x66\x98\x00\x00\x00\x16\x0a\x0b\x0c\x0d\x05\x06\x07\x09";
 
+/// What a client's next turn does.
+fn turn(client: &mut Client<Slow>, hub: &mut Sessions<Image>) -> Turn {
+    client.turn(hub)
+}
+
 /// How often two clients were blocked that took 2,000 turns each, one after the other.
-fn times_blocked<E: Export, S: Stream + Drop>(
-    hub: &mut Sessions<E>,
-    first: &mut Client<S>,
-    second: &mut Client<S>,
+fn times_blocked(
+    hub: &mut Sessions<Image>,
+    first: &mut Client<Slow>,
+    second: &mut Client<Slow>,
 ) -> u64 {
     let mut blocked = 0u64;
     for _ in 0..2_000u64 {
-        for turn in [first.turn(hub), second.turn(hub)] {
+        for turn in [turn(first, hub), turn(second, hub)] {
             blocked = blocked.saturating_add(u64::from(turn == Turn::Blocked));
         }
     }
@@ -144,30 +149,41 @@ fn times_blocked<E: Export, S: Stream + Drop>(
 }
 
 /// Whether a client was sent these bytes; its session is ended.
-fn has_said<E: Export>(hub: &mut Sessions<E>, client: &Client<Slow>, said: &[u8]) -> bool {
-    client.stream().output.as_slice() == said && hub.end(client.id()) == Ok(())
+fn has_said(hub: &mut Sessions<Image>, client: &Client<Slow>, said: &[u8]) -> bool {
+    client.stream().output.as_slice() == said && end(hub, client.id()) == Ok(())
+}
+
+fn open(alloc: Global, hub: &mut Sessions<Image>, input: &[u8]) -> Result<Client<Slow>, Fail> {
+    Ok(Client::open(alloc, make_slow(alloc, input)?, hub)?)
+}
+
+/// How often the two clients were blocked, what the next turn of the first did, and whether each was sent what is to be said.
+fn take_turns(alloc: Global) -> Result<(u64, Turn, [bool; 2]), Fail> {
+    let mut hub = make_sessions(alloc)?;
+    let mut first = open(alloc, &mut hub, FIRST)?;
+    let mut second = open(alloc, &mut hub, SECOND)?;
+    let blocked = times_blocked(&mut hub, &mut first, &mut second);
+    let last = turn(&mut first, &mut hub);
+    let are_said = [
+        has_said(&mut hub, &first, FIRST_SAID),
+        has_said(&mut hub, &second, SECOND_SAID),
+    ];
+    Ok((blocked, last, are_said))
 }
 
 #[test]
 fn two_clients_take_turns(rt: HostRuntime) -> Result<(), Fail> {
-    let mut hub = make_sessions(rt.alloc())?;
-    let mut first = Client::open(rt.alloc(), make_slow(rt.alloc(), FIRST)?, &mut hub)?;
-    let mut second = Client::open(rt.alloc(), make_slow(rt.alloc(), SECOND)?, &mut hub)?;
-    assert!(rt; times_blocked(&mut hub, &mut first, &mut second) > 100);
-    assert_eq!(rt; first.turn(&mut hub), Turn::Done);
-    assert!(rt; has_said(&mut hub, &first, FIRST_SAID));
-    assert!(rt; has_said(&mut hub, &second, SECOND_SAID));
+    let (blocked, last, are_said) = take_turns(rt.alloc())?;
+    assert!(rt; blocked > 100);
+    assert_eq!(rt; (last, are_said), (Turn::Done, [true, true]));
     Ok(())
 }
 
 #[test]
 fn a_served_stream_says_the_same(rt: HostRuntime) -> Result<(), Fail> {
     for (input, want) in [(FIRST, FIRST_SAID), (SECOND, SECOND_SAID)] {
-        let mut hub = make_sessions(rt.alloc())?;
-        let mut reader = input;
-        let mut said = Vec::new(rt.alloc());
-        assert_eq!(rt; serve(&mut hub, &mut reader, &mut said, 1_000), Ok(()));
-        assert_eq!(rt; said.as_slice(), want);
+        let served = serve_alone(rt.alloc(), input, 1_000, want)?;
+        assert_eq!(rt; (served.result, served.is_said), (Ok(()), true));
     }
     Ok(())
 }
