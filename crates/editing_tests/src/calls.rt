@@ -1,9 +1,10 @@
 //! What is read, and how often, when a volume is opened and committed.
 
 use crate::editors::*;
+use crate::steps::Step;
+use crate::volumes::{SIZE, volume_of};
 use std::alloc::Global;
 use std::test::Fail;
-use test_editors::{SIZE, Step, volume_of};
 use test_volumes::{BuiltVolume, image, make_volume};
 use verity_edit::Reply;
 use verity_store::MemStore;

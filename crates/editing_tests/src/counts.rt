@@ -1,9 +1,10 @@
 //! How many blocks are hashed where the count of data blocks changes. What such commits leave is in `tests/program`.
 
 use crate::editors::*;
+use crate::steps::Step;
+use crate::volumes::volume_of;
 use std::alloc::Global;
 use std::test::Fail;
-use test_editors::{Step, volume_of};
 use verity_edit::{EditFault, Reply};
 
 // How many blocks two commits hashed, after an edit that was done. None where a call was refused, the count is another, or the

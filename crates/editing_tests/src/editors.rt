@@ -1,10 +1,12 @@
 //! Editors of the tests: what is asked of one, what it answers, and what it leaves. All editors are opened here, at few types, as each
 //! type at which a store's or an editor's function is called takes long to prove.
 
+use crate::heaps::squeeze;
+use crate::steps::{Step, commands_of};
+use crate::volumes::{SIZE, is_same};
 use linked_list_allocator::LocalHeap;
 use std::alloc::{Allocator, Global};
 use std::test::Fail;
-use test_editors::{SIZE, Step, commands_of, is_same, squeeze};
 use test_stores::FailStore;
 use test_volumes::BuiltVolume;
 use verity_build::{BuildParameters, build};

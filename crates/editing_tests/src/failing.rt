@@ -1,9 +1,10 @@
 //! Each call at one store fails in turn, over a volume of 16 blocks, of which block 3 is written and to which one is added.
 
 use crate::editors::*;
+use crate::steps::Step;
+use crate::volumes::{SIZE, is_same, volume_of};
 use std::alloc::Global;
 use std::test::Fail;
-use test_editors::{SIZE, Step, is_same, volume_of};
 use test_volumes::{BuiltVolume, make_volume, params};
 use verity_edit::{EditFault, Reply};
 use verity_store::{MemStore, Which};

@@ -11,6 +11,8 @@ mod editors;
 #[cfg(test)]
 mod failing;
 #[cfg(test)]
+mod heaps;
+#[cfg(test)]
 mod memory;
 #[cfg(test)]
 mod opening;
@@ -18,3 +20,7 @@ mod opening;
 mod rooms;
 #[cfg(test)]
 mod running;
+#[cfg(test)]
+mod steps;
+#[cfg(test)]
+mod volumes;

@@ -1,10 +1,12 @@
 //! Calls that are refused memory, with one step more room from run to run, until none is refused.
 
 use crate::editors::*;
+use crate::heaps::{AMPLE, copy_in};
+use crate::steps::Step;
+use crate::volumes::{SIZE, is_same, volume_of};
 use linked_list_allocator::LocalHeap;
 use std::alloc::{Allocator, Global};
 use std::test::Fail;
-use test_editors::{AMPLE, SIZE, Step, copy_in, is_same, volume_of};
 use test_volumes::{BuiltVolume, STEP, image, make_volume};
 use verity_edit::{EditFault, Reply};
 use verity_store::MemStore;

@@ -1,9 +1,9 @@
 //! What is refused when a volume is opened, where the program can't ask for it.
 
 use crate::editors::opened_over;
+use crate::volumes::volume_of;
 use std::alloc::Global;
 use std::test::Fail;
-use test_editors::volume_of;
 use test_volumes::BuiltVolume;
 use verity_edit::EditFault;
 use verity_store::{MemStore, Which};

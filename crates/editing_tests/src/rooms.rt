@@ -1,10 +1,12 @@
 //! The room for a commit's lists is taken before the first block is hashed or read.
 
 use crate::editors::*;
+use crate::heaps::AMPLE;
+use crate::steps::Step;
+use crate::volumes::{SIZE, volume_of};
 use linked_list_allocator::LocalHeap;
 use std::alloc::Global;
 use std::test::Fail;
-use test_editors::{AMPLE, SIZE, Step, volume_of};
 use verity_edit::{EditFault, Reply};
 
 // How much more room a run has than the one before.

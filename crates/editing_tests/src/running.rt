@@ -2,10 +2,12 @@
 //! is one zero block of 1,024 bytes, without a salt; its root hash is that of an independent program.
 
 use crate::editors::*;
+use crate::heaps::AMPLE;
+use crate::steps::{Fills, Step, store_of};
+use crate::volumes::SIZE;
 use linked_list_allocator::LocalHeap;
 use std::alloc::Global;
 use std::test::Fail;
-use test_editors::{AMPLE, Fills, SIZE, Step, store_of};
 use test_volumes::{BuiltVolume, STEP};
 use uuid::Uuid;
 use verity_build::BuildParameters;
