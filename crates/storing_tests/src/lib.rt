@@ -5,6 +5,8 @@
 #[cfg(test)]
 mod device;
 #[cfg(test)]
+mod failing;
+#[cfg(test)]
 mod runs;
 #[cfg(test)]
 mod stores;

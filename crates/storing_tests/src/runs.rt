@@ -1,10 +1,11 @@
 //! Runs of blocks that are read into one buffer: block by block, or over a file at once.
 ghost use Rattle.std.specs.Prelude.{◌≡◌, Some};
 
+use crate::failing::{calls_of, failing_at};
 use std::io;
 use std::io::ErrorKind;
 use std::test::Fail;
-use test_stores::{FailStore, MemFile};
+use test_stores::MemFile;
 use verity_store::{BlockStore, FileStore, MemStore, RawFile};
 
 /// A file in memory that can be read so often, and fails from then on.
@@ -78,9 +79,12 @@ fn last_two<S: BlockStore>(store: &mut S) -> Option<(u8, u8)> {
 #[test]
 fn a_run_over_a_file_is_one_access(rt: HostRuntime) -> Result<(), Fail> {
     let mut store = FileStore::over(Few::new(three(&rt)?, 2), 512)?;
-    assert_eq!(rt; last_two(&mut store), Some((6, 7)));
-    assert_eq!(rt; last_two(&mut store), Some((6, 7)));
-    assert_eq!(rt; last_two(&mut store), None);
+    let runs = (
+        last_two(&mut store),
+        last_two(&mut store),
+        last_two(&mut store),
+    );
+    assert_eq!(rt; runs, (Some((6, 7)), Some((6, 7)), None));
     Ok(())
 }
 
@@ -91,12 +95,12 @@ fn a_run_over_memory_is_its_blocks(rt: HostRuntime) -> Result<(), Fail> {
     Ok(())
 }
 
+// Of two runs, what each gives, and how many calls were made until then.
 #[test]
 fn a_run_ends_at_the_first_block_that_fails(rt: HostRuntime) -> Result<(), Fail> {
-    let mut store = FailStore::at(MemStore::new(three(&rt)?, 512)?, 1);
-    assert_eq!(rt; last_two(&mut store), None);
-    assert_eq!(rt; store.calls(), 1);
-    assert_eq!(rt; last_two(&mut store), Some((6, 7)));
-    assert_eq!(rt; store.calls(), 3);
+    let mut store = failing_at(MemStore::new(three(&rt)?, 512)?, 1);
+    let first = (last_two(&mut store), calls_of(&store));
+    let second = (last_two(&mut store), calls_of(&store));
+    assert_eq!(rt; (first, second), ((None, 1), (Some((6, 7)), 3)));
     Ok(())
 }

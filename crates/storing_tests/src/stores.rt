@@ -1,26 +1,36 @@
 //! What each store does where all is well, and its faults.
 ghost use Rattle.verity_store.specs.Stores.{IsOnlyRead};
 
+use crate::failing::{calls_of, failing_at};
+use std::alloc::Global;
 use std::test::Fail;
 use test_stores::{Answer, FailStore, MemFile, ScriptStore};
 use verity_store::{Block, BlockStore, FileStore, MemStore, StoreFault, Which, move_run};
 
+/// The first and the last byte of a block, where it can be read.
+fn ends<S: BlockStore>(store: &mut S, n: u64) -> Option<(u8, u8)> {
+    let mut block = [1u8; 512];
+    if store.block_size() != 512 || store.len() <= n {
+        return None;
+    }
+    match store.read(n, &mut block) {
+        Ok(()) => Some((block[0], block[511])),
+        Err(_) => None,
+    }
+}
+
 /// A write is read back, a store grows by zeros and is cut, over any store of blocks of 512 bytes.
 fn keeps_what_is_written<S: BlockStore>(store: &mut S) -> bool {
-    let mut block = [1u8; 512];
-    if store.block_size() != 512 || store.set_len(3).is_err() || store.len() != 3 {
-        return false;
-    }
-    if store.write(0, &[7; 512]).is_err() || store.sync().is_err() {
-        return false;
-    }
-    if store.read(0, &mut block).is_err() || block[0] != 7 || block[511] != 7 {
-        return false;
-    }
-    if store.read(2, &mut block).is_err() || block[0] != 0 || block[511] != 0 {
-        return false;
-    }
-    store.reserve(1).is_ok() && store.set_len(1).is_ok() && store.len() == 1
+    store.block_size() == 512
+        && store.set_len(3).is_ok()
+        && store.len() == 3
+        && store.write(0, &[7; 512]).is_ok()
+        && store.sync().is_ok()
+        && ends(store, 0) == Some((7, 7))
+        && ends(store, 2) == Some((0, 0))
+        && store.reserve(1).is_ok()
+        && store.set_len(1).is_ok()
+        && store.len() == 1
 }
 
 /// The first byte of a block, where it can be read.
@@ -53,25 +63,31 @@ fn moves_two<S: BlockStore>(store: &mut S, from: u64, to: u64) -> bool {
     move_run(store, from, to, 2, &mut [0; 512]).is_ok()
 }
 
+/// The first byte of block 1, and whether the store then keeps what is written.
+fn byte_and_whether_kept<S: BlockStore>(store: &mut S) -> (Option<u8>, bool) {
+    (first_byte(store, 1), keeps_what_is_written(store))
+}
+
 #[test]
 fn memory_keeps_what_is_written(rt: HostRuntime) -> Result<(), Fail> {
     let Ok(mut store) = MemStore::new(vec![in rt.alloc(); 5; 1024]?, 512) else {
         return Err(Fail::from("two whole blocks are a store"));
     };
-    assert_eq!(rt; first_byte(&mut store, 1), Some(5));
-    assert!(rt; keeps_what_is_written(&mut store));
-    assert_eq!(rt; store.bytes(), [7u8; 512].as_slice());
+    let seen = byte_and_whether_kept(&mut store);
+    assert_eq!(rt;
+        (seen, store.bytes()),
+        ((Some(5), true), [7u8; 512].as_slice())
+    );
     Ok(())
 }
 
 #[test]
 fn a_wrong_size_comes_before_ragged_bytes(rt: HostRuntime) -> Result<(), Fail> {
-    let ragged = MemStore::new(vec![in rt.alloc(); 5; 513]?, 512);
-    assert_eq!(rt; ragged.err(), Some(StoreFault::Ragged));
-    let wrong = MemStore::new(vec![in rt.alloc(); 5; 513]?, 768);
-    assert_eq!(rt; wrong.err(), Some(StoreFault::BlockSize));
-    let zeroed = MemStore::zeroed(rt.alloc(), 1 << 20, 1);
-    assert_eq!(rt; zeroed.err(), Some(StoreFault::BlockSize));
+    let ragged = MemStore::new(vec![in rt.alloc(); 5; 513]?, 512).err();
+    let wrong = MemStore::new(vec![in rt.alloc(); 5; 513]?, 768).err();
+    let zeroed = MemStore::zeroed(rt.alloc(), 1 << 20, 1).err();
+    let (of_bytes, of_size) = (Some(StoreFault::Ragged), Some(StoreFault::BlockSize));
+    assert_eq!(rt; (ragged, wrong, zeroed), (of_bytes, of_size, of_size));
     Ok(())
 }
 
@@ -85,8 +101,13 @@ fn first_bytes<S: BlockStore>(store: &mut S) -> [Option<u8>; 4] {
     ]
 }
 
-/// Whether two blocks of a store are moved up by one, and then two down by one.
+/// Whether each of five blocks is filled with its number, two of them are moved up by one, and then two down by one.
 fn moves_both_ways<S: BlockStore>(store: &mut S) -> bool {
+    for n in 0..5 {
+        if !number(store, n) {
+            return false;
+        }
+    }
     moves_two(store, 1, 2)
         && first_bytes(store) == [Some(1), Some(1), Some(2), Some(4)]
         && moves_two(store, 3, 2)
@@ -98,9 +119,6 @@ fn runs_are_moved_both_ways(rt: HostRuntime) -> Result<(), Fail> {
     let Ok(mut store) = MemStore::zeroed(rt.alloc(), 512, 5) else {
         return Err(Fail::from("memory was refused"));
     };
-    for n in 0..5 {
-        assert!(rt; number(&mut store, n));
-    }
     assert!(rt; moves_both_ways(&mut store));
     Ok(())
 }
@@ -113,27 +131,31 @@ fn gives_twice<S: BlockStore>(store: &mut S) -> bool {
         && first_byte(store, 0) == None
 }
 
+/// An answer of so many bytes.
+fn filled(alloc: Global, byte: u8, size: usize) -> Result<Answer, Fail> {
+    Ok(Answer::Block(Block::new(vec![in alloc; byte; size]?)))
+}
+
 #[test]
 fn a_script_is_given_in_order(rt: HostRuntime) -> Result<(), Fail> {
-    let first = Answer::Block(Block::new(vec![in rt.alloc(); 3; 512]?));
-    let second = Answer::Block(Block::new(vec![in rt.alloc(); 4; 512]?));
-    let answers = Vec::from_array(rt.alloc(), [first, Answer::Fault, second])?;
-    let Ok(mut store) = ScriptStore::new(rt.alloc(), 512, 5, answers) else {
-        return Err(Fail::from("memory was refused"));
-    };
-    assert!(rt; gives_twice(&mut store));
+    let mut answers = Vec::new(rt.alloc());
+    answers.push(filled(rt.alloc(), 3, 512)?)?;
+    answers.push(Answer::Fault)?;
+    answers.push(filled(rt.alloc(), 4, 512)?)?;
+    let mut store = ScriptStore::new(rt.alloc(), 512, 5, answers)?;
+    let gives = gives_twice(&mut store);
     let given = store.given();
-    assert_eq!(rt; given.len(), 2);
-    assert!(rt; matches!(given.first(), Some((2, _))) && matches!(given.last(), Some((4, _))));
+    let are_its = matches!(given.first(), Some((2, _))) && matches!(given.last(), Some((4, _)));
+    assert_eq!(rt; (gives, given.len(), are_its), (true, 2, true));
     Ok(())
 }
 
 #[test]
 fn a_script_of_a_wrong_length_is_ragged(rt: HostRuntime) -> Result<(), Fail> {
-    let short = Answer::Block(Block::new(vec![in rt.alloc(); 3; 511]?));
-    let answers = Vec::from_array(rt.alloc(), [short])?;
-    let store = ScriptStore::new(rt.alloc(), 512, 5, answers);
-    assert_eq!(rt; store.err(), Some(StoreFault::Ragged));
+    let mut answers = Vec::new(rt.alloc());
+    answers.push(filled(rt.alloc(), 3, 511)?)?;
+    let fault = ScriptStore::new(rt.alloc(), 512, 5, answers).err();
+    assert_eq!(rt; fault, Some(StoreFault::Ragged));
     Ok(())
 }
 
@@ -146,15 +168,19 @@ fn fails_its_third<S: BlockStore>(store: &mut S) -> bool {
         && store.set_len(1) == Ok(())
 }
 
+/// How many calls were counted and how many of them passed on, and the length that is left.
 #[test]
 fn the_third_call_fails_and_is_not_passed_on(rt: HostRuntime) -> Result<(), Fail> {
     let Ok(memory) = MemStore::zeroed(rt.alloc(), 512, 2) else {
         return Err(Fail::from("memory was refused"));
     };
-    let mut store = FailStore::at(FailStore::at(memory, 0), 3);
-    assert!(rt; fails_its_third(&mut store));
-    assert_eq!(rt; (store.calls(), store.store().calls()), (4, 3));
-    assert_eq!(rt; store.into_inner().into_inner().len(), 1);
+    let mut store = FailStore::at(failing_at(memory, 0), 3);
+    let fails = fails_its_third(&mut store);
+    let counted = store.calls();
+    let below = store.into_inner();
+    let passed_on = calls_of(&below);
+    let left = below.into_inner().len();
+    assert_eq!(rt; (fails, counted, passed_on, left), (true, 4, 3, 1));
     Ok(())
 }
 
@@ -174,69 +200,87 @@ fn reads_after_the_second_fail(rt: HostRuntime) -> Result<(), Fail> {
         return Err(Fail::from("memory was refused"));
     };
     let mut store = FailStore::reads_after(memory, 2);
-    assert!(rt; gives_two_reads(&mut store));
-    assert_eq!(rt; store.calls(), 6);
+    let gives = gives_two_reads(&mut store);
+    assert_eq!(rt; (gives, calls_of(&store)), (true, 6));
     Ok(())
 }
 
 #[test]
 fn a_file_in_memory_keeps_what_is_written(rt: HostRuntime) -> Result<(), Fail> {
+    let ragged = FileStore::over(MemFile::new(vec![in rt.alloc(); 6; 1025]?), 512).err();
     let Ok(mut store) = FileStore::over(MemFile::new(vec![in rt.alloc(); 6; 1024]?), 512) else {
         return Err(Fail::from("two whole blocks are a store"));
     };
-    assert_eq!(rt; first_byte(&mut store, 1), Some(6));
-    assert!(rt; keeps_what_is_written(&mut store));
-    let ragged = FileStore::over(MemFile::new(vec![in rt.alloc(); 6; 1025]?), 512);
-    assert_eq!(rt; ragged.err(), Some(StoreFault::Ragged));
+    let seen = byte_and_whether_kept(&mut store);
+    assert_eq!(rt; (seen, ragged), ((Some(6), true), Some(StoreFault::Ragged)));
     Ok(())
 }
 
-#[test]
-fn a_real_file_keeps_what_is_written(rt: HostRuntime) -> Result<(), Fail> {
-    let Ok(mut store) = FileStore::create(&rt, "scratch-store", 512) else {
+/// What is seen of a new file of blocks of 512 bytes.
+#[derive(Clone, Copy, PartialEq, Eq, Debug)]
+struct Seen {
+    len: u64,
+    keeps: bool,
+    // Why it isn't opened as one of blocks of 1024 bytes, nor made as one of blocks of 500.
+    refusals: [Option<StoreFault>; 2],
+    // The first byte of block 0 after that, and in the file that is opened again.
+    firsts: [Option<u8>; 2],
+}
+
+fn seen_of_a_real_file(rt: &HostRuntime) -> Result<Seen, Fail> {
+    let Ok(mut store) = FileStore::create(rt, "scratch-store", 512) else {
         return Err(Fail::from("the file can be made"));
     };
-    assert_eq!(rt; store.len(), 0);
-    assert!(rt; keeps_what_is_written(&mut store));
-    let Ok(mut again) = FileStore::open(&rt, "scratch-store", 512, true) else {
+    let len = store.len();
+    let keeps = keeps_what_is_written(&mut store);
+    let refusals = [
+        FileStore::open(rt, "scratch-store", 1024, false).err(),
+        FileStore::create(rt, "scratch-store", 500).err(),
+    ];
+    let first = first_byte(&mut store, 0);
+    let Ok(mut again) = FileStore::open(rt, "scratch-store", 512, true) else {
         return Err(Fail::from("the file can be opened"));
     };
-    assert_eq!(rt; first_byte(&mut again, 0), Some(7));
-    Ok(())
+    Ok(Seen {
+        len,
+        keeps,
+        refusals,
+        firsts: [first, first_byte(&mut again, 0)],
+    })
 }
 
 #[test]
-fn a_file_of_another_size_is_refused(rt: HostRuntime) -> Result<(), Fail> {
-    let Ok(mut store) = FileStore::create(&rt, "scratch-sizes", 512) else {
-        return Err(Fail::from("the file can be made"));
+fn a_real_file_keeps_what_is_written_and_is_refused_at_another_size(
+    rt: HostRuntime,
+) -> Result<(), Fail> {
+    let expected = Seen {
+        len: 0,
+        keeps: true,
+        refusals: [Some(StoreFault::Ragged), Some(StoreFault::BlockSize)],
+        firsts: [Some(7), Some(7)],
     };
-    assert!(rt; keeps_what_is_written(&mut store));
-    let ragged = FileStore::open(&rt, "scratch-sizes", 1024, false);
-    assert_eq!(rt; ragged.err(), Some(StoreFault::Ragged));
-    let wrong = FileStore::create(&rt, "scratch-sizes", 500);
-    assert_eq!(rt; wrong.err(), Some(StoreFault::BlockSize));
-    assert_eq!(rt; first_byte(&mut store, 0), Some(7));
+    assert_eq!(rt; seen_of_a_real_file(&rt)?, expected);
     Ok(())
 }
 
 #[test]
 fn a_missing_file_is_a_failed_device(rt: HostRuntime) -> Result<(), Fail> {
-    let missing = FileStore::open(&rt, "no-such-file", 512, false);
-    assert_eq!(rt; missing.err(), Some(StoreFault::Device));
+    let missing = FileStore::open(&rt, "no-such-file", 512, false).err();
+    assert_eq!(rt; missing, Some(StoreFault::Device));
     Ok(())
 }
 
 #[test]
 fn faults_and_stores_have_their_texts(rt: HostRuntime) -> Result<(), Fail> {
-    let faults = format!(in rt.alloc();
-        "{} {} {} {}",
+    let texts = format!(in rt.alloc();
+        "{} {} {} {}, {} {}",
         StoreFault::Device,
         StoreFault::Ragged,
         StoreFault::NoMemory,
-        StoreFault::BlockSize
+        StoreFault::BlockSize,
+        Which::Data,
+        Which::Hash
     )?;
-    assert_eq!(rt; faults.as_str(), "S1 S2 S3 S4");
-    let stores = format!(in rt.alloc(); "{} {}", Which::Data, Which::Hash)?;
-    assert_eq!(rt; stores.as_str(), "data hash");
+    assert_eq!(rt; texts.as_str(), "S1 S2 S3 S4, data hash");
     Ok(())
 }
