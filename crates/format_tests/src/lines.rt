@@ -57,11 +57,16 @@ fn has_worked_fields(read: &Superblock) -> bool {
         && read.salt().bytes().is_empty()
 }
 
+/// Whether what is read of the worked superblock has its fields, and the UUID that is read.
+fn read_worked(alloc: Global) -> Result<(bool, Uuid), Fail> {
+    let read = Superblock::decode(alloc, &worked(alloc)?.encode())?;
+    Ok((has_worked_fields(&read), read.uuid()))
+}
+
 #[test]
 fn reads_the_worked_superblock(rt: HostRuntime) -> Result<(), Fail> {
-    let read = Superblock::decode(rt.alloc(), &worked(rt.alloc())?.encode())?;
-    assert!(rt; has_worked_fields(&read));
-    assert_eq!(rt; read.uuid(), Uuid::parse_str(UUID)?);
+    let id = Uuid::parse_str(UUID)?;
+    assert_eq!(rt; read_worked(rt.alloc())?, (true, id));
     Ok(())
 }
 
@@ -112,6 +117,13 @@ fn refuses_the_first_that_applies(rt: HostRuntime) -> Result<(), Fail> {
     Ok(())
 }
 
+/// Why a line is refused, in which ROOT stands for the root hash and LONG for a salt of 257 bytes, or none where it isn't.
+fn refusal_of(alloc: Global, text: &str) -> Result<Option<TableFault>, Fail> {
+    let text = text.replace(alloc, "LONG", std::str::from_utf8(&[b'0'; 514])?)?;
+    let text = text.as_str().replace(alloc, "ROOT", ROOT)?;
+    Ok(Table::parse(alloc, text.as_str()).err())
+}
+
 #[test]
 fn refuses_other_lines(rt: HostRuntime) -> Result<(), Fail> {
     let rows = [
@@ -149,20 +161,18 @@ fn refuses_other_lines(rt: HostRuntime) -> Result<(), Fail> {
         ("1 data hash 512 512 1 1 sha256 ROOT abc", TableFault::Salt),
         ("1 data hash 512 512 1 1 sha256 ROOT LONG", TableFault::Salt),
     ];
-    let long = [b'0'; 514];
     for (text, answer) in rows {
-        let spelt = text.replace(rt.alloc(), "LONG", std::str::from_utf8(&long)?)?;
-        let spelt = spelt.as_str().replace(rt.alloc(), "ROOT", ROOT)?;
-        let read = Table::parse(rt.alloc(), spelt.as_str());
-        assert_eq!(rt; read.err(), Some(answer), "{text}");
+        let refusal = refusal_of(rt.alloc(), text)?;
+        assert_eq!(rt; refusal, Some(answer), "{text}");
     }
     Ok(())
 }
 
-/// The line that is spelled of a line, in which ROOT stands for the root hash in capitals.
+/// The line that is spelled of a line: in it ROOT stands for the root hash in small letters, in the line for that in capitals.
 fn respelled(alloc: Global, text: &str) -> Result<String, Fail> {
     let text = text.replace(alloc, "ROOT", UPPER_ROOT)?;
-    Ok(Table::parse(alloc, text.as_str())?.text()?)
+    let text = Table::parse(alloc, text.as_str())?.text()?;
+    Ok(text.as_str().replace(alloc, ROOT, "ROOT")?)
 }
 
 #[test]
@@ -178,66 +188,62 @@ fn spells_lines_canonically(rt: HostRuntime) -> Result<(), Fail> {
         ),
     ];
     for (text, answer) in rows {
-        let answer = answer.replace(rt.alloc(), "ROOT", ROOT)?;
         let text = respelled(rt.alloc(), text)?;
-        assert_eq!(rt; text.as_str(), answer.as_str());
+        assert_eq!(rt; text.as_str(), answer);
     }
     Ok(())
 }
 
-#[test]
-fn makes_the_line_of_the_stored_run(rt: HostRuntime) -> Result<(), Fail> {
+/// The line of a data device and of a hash device, with one data block of this size, one hash block of 512 bytes and the empty salt.
+fn line(
+    alloc: Global,
+    data: &str,
+    hash: &str,
+    data_size: usize,
+) -> Result<Result<String, TableFault>, Fail> {
     let mut root = [0; 32];
     hex::decode_to_slice(ROOT, &mut root)?;
-    let salt = Salt::new(rt.alloc(), &[])?;
-    let table = Table::new(
-        rt.alloc(),
-        "scratch-data",
-        "scratch-hash",
-        1024,
-        512,
-        1,
-        1,
-        Digest::from_bytes(root),
-        salt,
-    )?;
-    let text = table.text()?;
+    let salt = Salt::new(alloc, &[])?;
+    let root = Digest::from_bytes(root);
+    match Table::new(alloc, data, hash, data_size, 512, 1, 1, root, salt) {
+        Ok(table) => Ok(Ok(table.text()?)),
+        Err(fault) => Ok(Err(fault)),
+    }
+}
+
+#[test]
+fn makes_the_line_of_the_stored_run(rt: HostRuntime) -> Result<(), Fail> {
+    let spaced = line(rt.alloc(), "scratch data", "hash", 513)?.err();
+    assert_eq!(rt; spaced, Some(TableFault::Fields));
+    let text = line(rt.alloc(), "scratch-data", "scratch-hash", 1024)??;
     assert_eq!(rt;
         text.as_str(),
         "1 scratch-data scratch-hash 1024 512 1 1 sha256 5f70bf18a086007016e948b04aed3b82103a36bea41755b6cddfaf10ace3c6ef -"
     );
-    let salt = Salt::new(rt.alloc(), &[])?;
-    let spaced = Table::new(
-        rt.alloc(),
-        "scratch data",
-        "hash",
-        513,
-        512,
-        1,
-        1,
-        Digest::from_bytes(root),
-        salt,
-    );
-    assert_eq!(rt; spaced.err(), Some(TableFault::Fields));
     Ok(())
+}
+
+/// A superblock of the most data blocks, with a salt.
+fn salted(alloc: Global) -> Result<[u8; 512], Fail> {
+    let salt = hex::decode(
+        alloc,
+        "e48da609055204e89ae53b655ca2216dd983cf3cb829f34f63a297d106d53e2d",
+    )?;
+    let salt = Salt::new(alloc, salt.as_slice())?;
+    let id = Uuid::parse_str(UUID)?;
+    Ok(Superblock::new(4096, 512, 1 << 40, salt, id, Algorithm::Sha512)?.encode())
 }
 
 /// The fields from the block sizes on, as another writer of the format packs them.
 #[test]
 fn packs_a_salted_superblock(rt: HostRuntime) -> Result<(), Fail> {
-    let salt = hex::decode(
-        rt.alloc(),
-        "e48da609055204e89ae53b655ca2216dd983cf3cb829f34f63a297d106d53e2d",
-    )?;
-    let salt = Salt::new(rt.alloc(), salt.as_slice())?;
-    let id = Uuid::parse_str(UUID)?;
-    let bytes = Superblock::new(4096, 512, 1 << 40, salt, id, Algorithm::Sha512)?.encode();
+    let bytes = salted(rt.alloc())?;
     let fields = hex::decode(
         rt.alloc(),
         "001000000002000000000000000100002000000000000000e48da609055204e89ae53b655ca2216dd983cf3cb829f34f63a297d106d53e2d",
     )?;
-    assert_eq!(rt; part(&bytes, 64, 120), fields.as_slice());
-    assert_eq!(rt; part(&bytes, 120, 512), [0; 392].as_slice());
+    let found = (part(&bytes, 64, 120), part(&bytes, 120, 512));
+    assert_eq!(rt; found, (fields.as_slice(), [0; 392].as_slice()));
     Ok(())
 }
 
