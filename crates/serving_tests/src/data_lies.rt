@@ -1,8 +1,9 @@
 //! Data stores that lie.
 
+use crate::hubs::tells_over;
 use std::alloc::Global;
 use std::test::Fail;
-use test_clients::{*, *};
+use test_clients::{Reads, Script, hash_17, other_image, scripted};
 use test_volumes::image;
 
 /// Whether both sessions are told what they should where the data store lies.
@@ -10,12 +11,11 @@ fn tells_of_data(alloc: Global, cache: usize, script: Script, reads: Reads) -> R
     let mut gives = image(alloc, 17)?;
     gives.extend_from_slice(&other_image(alloc)?)?;
     let data = scripted(alloc, 17, &gives, script)?;
-    let hub = hub_17(alloc, data, hash_17(alloc)?, cache)?;
-    tells(alloc, hub, reads)
+    tells_over(alloc, data, hash_17(alloc)?, cache, reads)
 }
 
 /// Lies of a data store, which has the volume's 17 blocks to give, and then those of another volume.
-const DATA_LIES: [(&str, Script, Reads); 7] = [
+static DATA_LIES: [(&str, Script, Reads); 7] = [
     (
         "blocks of another volume",
         &[Some(20), Some(33), Some(20), Some(33)],
@@ -66,15 +66,13 @@ const DATA_LIES: [(&str, Script, Reads); 7] = [
 #[test]
 fn a_data_store_that_lies(rt: HostRuntime) -> Result<(), Fail> {
     let alloc = rt.alloc();
-    for (name, script, reads) in DATA_LIES {
-        assert!(rt;
-            tells_of_data(alloc, 1, script, reads)?,
-            "{name}, cache of 1"
-        );
-        assert!(rt;
-            tells_of_data(alloc, 4, script, reads)?,
-            "{name}, cache of 4"
-        );
+    for &(name, script, reads) in &DATA_LIES {
+        for cache in [1, 4] {
+            assert!(rt;
+                tells_of_data(alloc, cache, script, reads)?,
+                "{name}, cache of {cache}"
+            );
+        }
     }
     Ok(())
 }

@@ -1,8 +1,9 @@
 //! Hash stores that lie.
 
+use crate::hubs::tells_over;
 use std::alloc::Global;
 use std::test::Fail;
-use test_clients::{*, *};
+use test_clients::{Reads, Script, data_17, hash_17, other_image, scripted, tree};
 use test_volumes::image;
 
 /// Whether both sessions are told what they should where the hash store lies.
@@ -15,13 +16,12 @@ fn tells_of_hashes(
     let mut gives = tree(alloc, &image(alloc, 17)?)?;
     gives.extend_from_slice(&tree(alloc, &other_image(alloc)?)?)?;
     let hash = scripted(alloc, 3, &gives, script)?;
-    let hub = hub_17(alloc, data_17(alloc)?, hash, cache)?;
-    tells(alloc, hub, reads)
+    tells_over(alloc, data_17(alloc)?, hash, cache, reads)
 }
 
 /// Lies of a hash store, which has the volume's top, first and second block of level 0 to give, and then those of another
 /// volume: after a cache's size.
-const HASH_LIES: [(&str, usize, Script, Reads); 12] = [
+static HASH_LIES: [(&str, usize, Script, Reads); 12] = [
     (
         "another volume's top, then its level 0, then the right one",
         1,
@@ -124,7 +124,7 @@ const HASH_LIES: [(&str, usize, Script, Reads); 12] = [
 #[test]
 fn a_hash_store_that_lies(rt: HostRuntime) -> Result<(), Fail> {
     let alloc = rt.alloc();
-    for (name, cache, script, reads) in HASH_LIES {
+    for &(name, cache, script, reads) in &HASH_LIES {
         assert!(rt;
             tells_of_hashes(alloc, cache, script, reads)?,
             "{name}, cache of {cache}"

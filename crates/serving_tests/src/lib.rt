@@ -1,4 +1,5 @@
-//! NBD clients of volumes: sessions, streams that are left, stores that fail and lie. Tests, and nothing else.
+//! NBD clients of volumes: sessions, streams that are left, stores that fail and lie, and memory that is refused. Tests, and nothing
+//! else.
 #![tactic(auto)]
 
 #[cfg(test)]
@@ -8,6 +9,16 @@ mod failures;
 #[cfg(test)]
 mod hash_lies;
 #[cfg(test)]
+mod hub_memory;
+#[cfg(test)]
+mod hubs;
+#[cfg(test)]
+mod reply_memory;
+#[cfg(test)]
+mod session_memory;
+#[cfg(test)]
 mod sessions;
+#[cfg(test)]
+mod stream_memory;
 #[cfg(test)]
 mod streams;

@@ -3,7 +3,9 @@
 use linked_list_allocator::LocalHeap;
 use std::alloc::{Allocator, Global};
 use std::test::Fail;
-use test_clients::{*, *, *};
+use test_clients::{
+    GREETING, Want, data_17, events, hash_17, hub_within, is_wanted, kind, run_once, wants, words,
+};
 use test_volumes::STEP;
 use verity_hub::{Event, HubReply};
 

@@ -7,7 +7,7 @@ use nbd_session::{ExportName, Session, Status};
 use std::alloc::{Allocator, Global};
 use std::test::Fail;
 use talking_tests::{Image, make_image};
-use test_clients::*;
+use test_clients::{GO, GO_REPLY};
 use test_volumes::STEP;
 
 /// A session and what it reads from.
@@ -34,13 +34,24 @@ impl<A: Allocator> Talk<A> {
     }
 }
 
-/// A piece, what is said to it, and what is said where there is no memory for a READ's bytes.
-#[derive(Drop)]
+/// A piece, and what is said to it: a reply, so many bytes 5a, and in their place another where there is no memory for these.
+#[derive(Clone, Copy)]
 struct Turn {
-    piece: Vec<u8>,
-    whole: Vec<u8>,
-    lacking: Option<Vec<u8>>,
+    piece: &'static [u8],
+    reply: &'static [u8],
+    data: usize,
+    lacking: Option<&'static [u8]>,
 }
+
+/// READ of 1,536 bytes from 2,048 on.
+const READ: &[u8] =
+    b"\x25\x60\x95\x13\x00\x00\x00\x00\x00\x00\x00\x00\x00\x00\x08\x00\x00\x00\x00\x00\x00\x00\x08\x00\x00\x00\x06\x00";
+
+/// What stands before the bytes that are read.
+const READ_REPLY: &[u8] = b"\x67\x44\x66\x98\x00\x00\x00\x00\x00\x00\x00\x00\x00\x00\x08\x00";
+
+/// ENOMEM.
+const READ_LACKING: &[u8] = b"\x67\x44\x66\x98\x00\x00\x00\x0c\x00\x00\x00\x00\x00\x00\x08\x00";
 
 /// WRITE of 4 bytes.
 const WRITE: &[u8] =
@@ -50,24 +61,26 @@ const WRITE: &[u8] =
 const WRITE_REPLY: &[u8] = b"\x67\x44\x66\x98\x00\x00\x00\x01\x01\x02\x03\x04\x05\x06\x07\x08";
 
 /// GO, READ, WRITE.
-fn turns(alloc: Global) -> Result<Vec<Turn>, Fail> {
-    let go = Turn {
-        piece: Vec::from_slice(alloc, GO)?,
-        whole: Vec::from_slice(alloc, GO_REPLY)?,
+static TURNS: [Turn; 3] = [
+    Turn {
+        piece: GO,
+        reply: GO_REPLY,
+        data: 0,
         lacking: None,
-    };
-    let read = Turn {
-        piece: read(alloc, 2048, 1536)?,
-        whole: reply(alloc, 2048, 0, &[0x5a; 1536])?,
-        lacking: Some(reply(alloc, 2048, ENOMEM, b"")?),
-    };
-    let write = Turn {
-        piece: Vec::from_slice(alloc, WRITE)?,
-        whole: Vec::from_slice(alloc, WRITE_REPLY)?,
+    },
+    Turn {
+        piece: READ,
+        reply: READ_REPLY,
+        data: 1536,
+        lacking: Some(READ_LACKING),
+    },
+    Turn {
+        piece: WRITE,
+        reply: WRITE_REPLY,
+        data: 0,
         lacking: None,
-    };
-    Ok(Vec::from_array(alloc, [go, read, write])?)
-}
+    },
+];
 
 /// What came of a feed.
 #[derive(Clone, Copy, Debug, PartialEq, Eq)]
@@ -82,47 +95,70 @@ enum Came {
     Wrong,
 }
 
-/// Whether these are the first bytes and then the others.
-fn is_joined(bytes: &[u8], first: &[u8], then: &[u8]) -> bool {
-    bytes.len() >= first.len() && bytes.starts_with(first) && bytes.get(first.len()..) == Some(then)
+/// What stands behind the first bytes, where these are as they were.
+fn behind<'a>(bytes: &'a [u8], first: &[u8]) -> Option<&'a [u8]> {
+    if bytes.starts_with(first) {
+        bytes.get(first.len()..)
+    } else {
+        None
+    }
+}
+
+/// Whether these are a reply and then so many bytes 5a.
+fn is_reply(bytes: &[u8], reply: &[u8], data: usize) -> bool {
+    match behind(bytes, reply) {
+        Some(rest) => rest.len() == data && rest.iter().all(|byte| *byte == 0x5a),
+        None => false,
+    }
 }
 
 /// What came of a feed, where `said` stood there before it and `out` after it.
 fn came_of(turn: &Turn, status: Status, said: &[u8], out: &[u8]) -> Came {
+    let Some(new) = behind(out, said) else {
+        return Came::Wrong;
+    };
     match status {
-        Status::Open if is_joined(out, said, &turn.whole) => Came::Whole,
-        Status::Open => match &turn.lacking {
-            Some(lacking) if is_joined(out, said, lacking) => Came::Lacking,
-            _ => Came::Wrong,
-        },
-        Status::Starved if out == said => Came::Starved,
-        Status::Starved | Status::Ended => Came::Wrong,
+        Status::Open if is_reply(new, turn.reply, turn.data) => Came::Whole,
+        Status::Open if turn.lacking == Some(new) => Came::Lacking,
+        Status::Starved if new.is_empty() => Came::Starved,
+        Status::Open | Status::Starved | Status::Ended => Came::Wrong,
     }
 }
 
-/// What comes of the turns, where the session's memory and the output's are these. A READ that lacked memory is asked for
-/// once more, with memory for its reply.
+/// Whether what lacked memory is served when it is asked for once more, with memory for its reply.
+fn is_served_again<A: Allocator>(alloc: Global, talk: &mut Talk<A>, turn: &Turn) -> bool {
+    let mut again = Vec::new(alloc);
+    let status = talk.feed(turn.piece, &mut again);
+    came_of(turn, status, b"", &again) == Came::Whole
+}
+
+/// What comes of a turn, after which stands `out`.
+fn take_turn<A: Allocator, O: Allocator>(
+    alloc: Global,
+    talk: &mut Talk<A>,
+    turn: &Turn,
+    out: &mut Vec<u8, O>,
+) -> Result<Came, Fail> {
+    let said = out.to_vec(alloc)?;
+    let status = talk.feed(turn.piece, out);
+    let came = came_of(turn, status, &said, out);
+    if came == Came::Lacking && !is_served_again(alloc, talk, turn) {
+        return Ok(Came::Wrong);
+    }
+    Ok(came)
+}
+
+/// What comes of the turns, where the session's memory and the output's are these.
 fn converse<A: Allocator, O: Allocator>(
     alloc: Global,
     memory: A,
     out_memory: O,
-    turns: &[Turn],
-) -> Result<Vec<Came>, Fail> {
+) -> Result<[Came; 3], Fail> {
     let mut talk = Talk::open(alloc, memory)?;
     let mut out = Vec::new(out_memory);
-    let mut all = Vec::new(alloc);
-    for turn in turns {
-        let said = out.to_vec(alloc)?;
-        let status = talk.feed(&turn.piece, &mut out);
-        let came = came_of(turn, status, &said, &out);
-        all.push(came)?;
-        if came == Came::Lacking {
-            let mut again = Vec::new(alloc);
-            let status = talk.feed(&turn.piece, &mut again);
-            if came_of(turn, status, b"", &again) != Came::Whole {
-                all.push(Came::Wrong)?;
-            }
-        }
+    let mut all = [Came::Wrong; 3];
+    for (came, turn) in all.iter_mut().zip(&TURNS) {
+        *came = take_turn(alloc, &mut talk, turn, &mut out)?;
     }
     Ok(all)
 }
@@ -162,18 +198,24 @@ enum Memory {
     Output,
 }
 
+/// What comes of the turns where one has so much room and the other has much.
+fn converse_within(alloc: Global, memory: Memory, room: usize) -> Result<[Came; 3], Fail> {
+    let little = LocalHeap::new(alloc, room)?;
+    let much = LocalHeap::new(alloc, 65_536)?;
+    match memory {
+        Memory::Session => converse(alloc, &little, &much),
+        Memory::Output => converse(alloc, &much, &little),
+    }
+}
+
 /// What was seen of runs with one step more room each, up to the first that is whole.
-fn seen_of(alloc: Global, memory: Memory, turns: &[Turn]) -> Result<Seen, Fail> {
+fn seen_of(alloc: Global, memory: Memory) -> Result<Seen, Fail> {
     let mut seen = Seen {
         starved: false,
         lacking: false,
     };
     for steps in 1..1000 {
-        let heap = LocalHeap::new(alloc, steps * STEP)?;
-        let all = match memory {
-            Memory::Session => converse(alloc, &heap, alloc, turns)?,
-            Memory::Output => converse(alloc, alloc, &heap, turns)?,
-        };
+        let all = converse_within(alloc, memory, steps * STEP)?;
         if !is_allowed(&all) {
             return Err(Fail::from("something wrong came of a feed"));
         }
@@ -188,14 +230,12 @@ fn seen_of(alloc: Global, memory: Memory, turns: &[Turn]) -> Result<Seen, Fail> 
 fn without_memory_a_session_starves_and_a_reply_starves_or_is_enomem(
     rt: HostRuntime,
 ) -> Result<(), Fail> {
-    let alloc = rt.alloc();
-    let turns = turns(alloc)?;
     for (memory, lacking) in [(Memory::Session, false), (Memory::Output, true)] {
         let wanted = Seen {
             starved: true,
             lacking,
         };
-        assert_eq!(rt; seen_of(alloc, memory, &turns)?, wanted, "{memory:?}");
+        assert_eq!(rt; seen_of(rt.alloc(), memory)?, wanted, "{memory:?}");
     }
     Ok(())
 }
