@@ -1,6 +1,7 @@
 //! The command `edit`: does a script's lines over a volume.
-ghost use Rattle.std.specs.Prelude.{IfOk};
+ghost use Rattle.std.specs.Prelude.{IfOk, IfErr};
 ghost use Rattle.verity_work.specs.Work.{IsDoneAt};
+ghost use Rattle.verity_changes.specs.Blamed.{EditBlames};
 ghost use Rattle.verity_changes.specs.Printing.{IsEdited};
 
 use std::io::{Eprint, IsTerminal, Write};
@@ -23,8 +24,9 @@ pub fn edit<R: Paths + Clock + Eprint + AllocGlobal, W: Write, E: Write + IsTerm
     output: &mut W,
     errors: &mut E,
 ) -> Result<u8, Failure>
-    ensures { IfOk result (λ status. IsDoneAt (IsEdited (R.text rt.now words.now.script_path.now)) words.now.data_path.now
+    ensures done { IfOk result (λ status. IsDoneAt (IsEdited (R.text rt.now words.now.script_path.now)) words.now.data_path.now
         words.now.hash_path.now (W.contents output.old) (W.contents output.new) status) }
+    ensures blames { IfErr result (EditBlames words.now) }
 {
     check_paths(words.data_path, words.hash_path)?;
     let over = Words {
@@ -52,6 +54,8 @@ impl<'a> Work for Lines<'a> {
     ghost use Rattle.verity_changes.specs.Printing.{IsEdited};
 
     ghost prints = { λ lines text. IsEdited (text lines.path.now) };
+
+    ghost blamed = { λ _. ⊥ };
 
     fn begin<R: Paths + AllocGlobal>(
         &mut self,

@@ -1,5 +1,6 @@
 //! The run without words: a volume in memory, and a script over it.
-ghost use Rattle.std.specs.Prelude.{IfOk, OnOk};
+ghost use Rattle.std.specs.Prelude.{IfOk, IfErr, OnOk};
+ghost use Rattle.verity_gate.specs.Refusals.{BlamesNone};
 ghost use Rattle.std.specs.Io.KnownBytes.{Appends};
 ghost use Rattle.verity_superblock.specs.Line.{canonical};
 ghost use Rattle.verity_files.specs.Faults.{line};
@@ -36,7 +37,8 @@ pub fn scratch<I: Read, W: Write, E: Write>(
     output: &mut W,
     errors: &mut E,
 ) -> Result<u8, Failure>
-    ensures { IfOk result (λ status. IsScratch (I.remaining input.old) (W.contents output.old) (W.contents output.new) status) }
+    ensures done { IfOk result (λ status. IsScratch (I.remaining input.old) (W.contents output.old) (W.contents output.new) status) }
+    ensures blames { IfErr result BlamesNone }
 {
     let editor = zero_volume(alloc)?;
     print_line(alloc, &editor, DEVICES, output)?;
@@ -52,8 +54,9 @@ fn answer_all<I: Read, W: Write, E: Write>(
     output: &mut W,
     errors: &mut E,
 ) -> Result<u8, Failure>
-    ensures { IfOk result (λ status. IsEdited (I.remaining input.old) devices.entry (W.contents output.old)
+    ensures done { IfOk result (λ status. IsEdited (I.remaining input.old) devices.entry (W.contents output.old)
         (W.contents output.new) status) }
+    ensures blames { IfErr result BlamesNone }
 {
     let bytes = read_script(alloc, input)?;
     let script = Script {
@@ -63,7 +66,9 @@ fn answer_all<I: Read, W: Write, E: Write>(
     run_script(alloc, editor, &mut Direct, devices, script, output, errors)
 }
 
-fn zero_volume(alloc: Global) -> Result<Editor<MemStore, MemStore>, Failure> {
+fn zero_volume(alloc: Global) -> Result<Editor<MemStore, MemStore>, Failure>
+    ensures { IfErr result BlamesNone }
+{
     let mut data_store = MemStore::zeroed(alloc, DATA_BLOCK_SIZE, 1)?;
     let mut hash_store = MemStore::zeroed(alloc, HASH_BLOCK_SIZE, 0)?;
     let params = BuildParameters::new(salt(alloc, &[])?, Uuid::nil(), Algorithm::Sha256);
@@ -80,8 +85,9 @@ fn print_line<W: Write>(
     devices: Devices<'_>,
     output: &mut W,
 ) -> Result<(), Failure>
-    ensures { OnOk result (Appends (W.contents output.old) (W.contents output.new)
+    ensures printed { OnOk result (Appends (W.contents output.old) (W.contents output.new)
         (line (canonical (volume_line devices.entry editor.now.volume editor.now.root)))) }
+    ensures blames { IfErr result BlamesNone }
 {
     let line = committed_line(alloc, devices, editor.superblock(), editor.root())?;
     writeln!(output, "{line}")?;

@@ -1,6 +1,8 @@
 //! The command `update`: makes a volume that of another image.
-ghost use Rattle.std.specs.Prelude.{IfOk};
+ghost use Rattle.std.specs.Prelude.{IfOk, IfErr};
+ghost use Rattle.verity_gate.specs.Refusals.{BlamesNone};
 ghost use Rattle.verity_work.specs.Work.{IsDoneAt};
+ghost use Rattle.verity_changes.specs.Blamed.{UpdateBlames};
 ghost use Rattle.verity_changes.specs.Printing.{IsUpdated};
 
 use std::alloc::Global;
@@ -34,8 +36,9 @@ pub fn update<R: Paths + Clock + Eprint + AllocGlobal, W: Write, E: Write + IsTe
     output: &mut W,
     errors: &mut E,
 ) -> Result<u8, Failure>
-    ensures { IfOk result (λ status. IsDoneAt IsUpdated words.now.data_path.now words.now.hash_path.now (W.contents output.old)
+    ensures done { IfOk result (λ status. IsDoneAt IsUpdated words.now.data_path.now words.now.hash_path.now (W.contents output.old)
         (W.contents output.new) status) }
+    ensures blames { IfErr result (UpdateBlames words.now) }
 {
     check_paths(words.data_path, words.hash_path)?;
     let is_watched = is_watched(words.is_quiet, errors.is_terminal());
@@ -71,9 +74,13 @@ struct Taking<'a> {
 }
 
 impl<'a> Work for Taking<'a> {
+    ghost use Rattle.std.specs.Prelude.{◌≡◌};
+    ghost use Rattle.verity_files.specs.declared.failure.Word.TheVariants as word;
     ghost use Rattle.verity_changes.specs.Printing.{IsUpdated};
 
     ghost prints = { λ _ _. IsUpdated };
+
+    ghost blamed = { λ w. w ≡ word.New };
 
     fn begin<R: Paths + AllocGlobal>(
         &mut self,
@@ -162,7 +169,9 @@ fn take_watched<R: Clock + Eprint + AllocGlobal, V: Edits + Edited>(
     new_store: VolumeStore,
     hash: Opened,
     devices: Devices<'_>,
-) -> Result<Result<u64, UpdateFault>, Failure> {
+) -> Result<Result<u64, UpdateFault>, Failure>
+    ensures { IfErr result BlamesNone }
+{
     let progress = progress_of(rt, is_watched, &new_store);
     let mut watched = Watched::new(new_store, progress.as_ref());
     let taken = take(rt.alloc(), editor, &mut watched, hash, devices);
@@ -177,7 +186,9 @@ fn take<V: Edits + Edited, N: BlockStore>(
     new_store: &mut N,
     hash: Opened,
     devices: Devices<'_>,
-) -> Result<Result<u64, UpdateFault>, Failure> {
+) -> Result<Result<u64, UpdateFault>, Failure>
+    ensures { IfErr result BlamesNone }
+{
     let superblock = editor.superblock();
     let mut hash_store = store_of_most(hash, superblock.hash_block_size(), u64::MAX)?;
     let volume = LineParts {
@@ -196,7 +207,9 @@ fn take<V: Edits + Edited, N: BlockStore>(
 }
 
 /// S1 where NEW can't be read; E8 where no line was trusted, and the tree isn't any more what it was when the volume was opened.
-fn failure_of(fault: UpdateFault, is_trusted: bool) -> Failure {
+fn failure_of(fault: UpdateFault, is_trusted: bool) -> Failure
+    ensures { BlamesNone result }
+{
     match fault {
         UpdateFault::New => StoreFault::Device.into(),
         UpdateFault::Edit(EditFault::Untrusted { level, index }) if !is_trusted => {

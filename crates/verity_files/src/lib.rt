@@ -1,5 +1,5 @@
 //! The ground of the program's commands: the files of a volume, how they are opened, told apart and locked, the values of
-//! words, and why a command stops, with its text and the status for it.
+//! words, scripts read whole, and why a command stops, with its text and the status for it.
 #![tactic(auto)]
 
 mod command;

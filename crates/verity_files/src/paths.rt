@@ -4,7 +4,7 @@
 //! that works over any [`Paths`] has no other way to such a fact than to ask by that very path. Of the system itself, whose calls have no
 //! clauses, nothing is known: that it answers so is trusted.
 ghost use Rattle.std.specs.Prelude.{◌≡◌, ℕ, true, false, List, Option, IfOk, IfErr, IfSome, OnOk, string_bytes};
-ghost use Rattle.verity_files.specs.Errors.{IsOfSystem};
+ghost use Rattle.verity_files.specs.Errors.{IsOfScript, IsOfSystem};
 ghost use Rattle.verity_files.specs.declared.failure.Failure.TheVariants as failure;
 ghost use Rattle.verity_files.specs.declared.opening.Opened.{Opened};
 
@@ -70,7 +70,8 @@ pub trait Paths {
 
     /// The bytes of the script at a path, be it a pipe. S1 where it can't be opened or read, or is longer than 2^30 bytes; want of memory.
     fn script_at(&self, alloc: Global, path: &str) -> Result<Vec<u8>, Failure>
-        ensures { IfOk result (λ script. IfSome (text self.now path.now) (λ bytes. script.items ≡ bytes)) };
+        ensures read { IfOk result (λ script. IfSome (text self.now path.now) (λ bytes. script.items ≡ bytes)) }
+        ensures refused { IfErr result IsOfScript };
 
     /// Asks for the entries of the folder to be kept in which a path stands.
     fn sync_folder(&self, path: &str) -> io::Result<()>;

@@ -1,6 +1,7 @@
 //! A volume's files, opened to be edited.
 ghost use Rattle.std.specs.Prelude.{◌≡◌, ◌≢◌, ◌-◌, ◌*◌, ◌/◌, ◌^◌, false, min, None, Ok, Err};
-ghost use Rattle.std.specs.Prelude.{IfSome, IfOk, IfErr, IsErr};
+ghost use Rattle.std.specs.Prelude.{IfSome, IfOk, IfErr, IsErr, MatchOption};
+ghost use Rattle.verity_files.specs.Misread.{IsMisread};
 ghost use Rattle.verity_files.specs.VolumeFiles.{LiesIn, room_in};
 ghost use Rattle.verity_files.specs.Words.{number_in};
 ghost use Rattle.verity_files.specs.declared.failure.Word.TheVariants as word;
@@ -66,6 +67,8 @@ pub fn offset_of(table: Option<&str>, offset: Option<&str>) -> Result<u64, Failu
     ensures unsaid { offset.entry ≡ None → result ≡ Ok 0 }
     ensures said { IfSome offset.entry (λ text. table.entry ≡ None → result ≡ number_in word.HashOffset text.now) }
     ensures beside { offset.entry ≢ None → table.entry ≢ None → result ≡ Err (Failure.Word word.HashOffset) }
+    ensures refused { IfErr result (λ e. (e ≡ Failure.Word word.HashOffset)
+        × MatchOption offset.entry ⊥ (λ text. table.entry ≡ None → IsMisread word.HashOffset text.now)) }
 {
     match (table, offset) {
         (_, None) => Ok(0),

@@ -1,5 +1,9 @@
 -- What is printed where a work is done over a volume.
-use Rattle.std.specs.Prelude.{◌≡◌, ℕ, List, Option}
+use Rattle.std.specs.Prelude.{◌≡◌, ℕ, List, Option, ⊤}
+use Rattle.verity_files.specs.declared.failure.Failure.{Failure}
+use Rattle.verity_files.specs.declared.failure.Failure.TheVariants as failure
+use Rattle.verity_files.specs.declared.failure.Word.{Word}
+use Rattle.verity_files.specs.declared.failure.Word.TheVariants as word
 use Rattle.verity_volume.specs.declared.lines.Devices.{Devices}
 
 -- what a work prints, by the bytes that are read at a path, over a volume on these devices, and its status
@@ -16,3 +20,10 @@ abbrev pub IsDoneAt : (Devices → Option (List ℕ) → Option (List ℕ) → �
     → Option (List ℕ) → Option (List ℕ) → ℕ → Type 0
 IsDoneAt prints data_path hash_path old new status = (devices : Devices)
     × (devices.data_path.now ≡ data_path) × (devices.hash_path.now ≡ hash_path) × prints devices old new status
+
+-- no word is blamed but HASH, the journal and these; of the two it isn't said when
+abbrev pub BlamesOver : (Word → Type 0) → Failure → Type 0
+BlamesOver own (failure.Word word.Hash) = ⊤
+BlamesOver own (failure.Word word.Journal) = ⊤
+BlamesOver own (failure.Word other) = own other
+BlamesOver own _ = ⊤

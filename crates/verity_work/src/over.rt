@@ -1,6 +1,8 @@
 //! A volume, opened to be edited, and its journal.
-ghost use Rattle.std.specs.Prelude.{◌≡◌, IfOk};
-ghost use Rattle.verity_work.specs.Work.{IsDoneAt};
+ghost use Rattle.std.specs.Prelude.{◌≡◌, IfOk, IfErr};
+ghost use Rattle.verity_files.specs.declared.failure.Word.TheVariants as word;
+ghost use Rattle.verity_gate.specs.Refusals.{BlamesNone, BlamesAtMost};
+ghost use Rattle.verity_work.specs.Work.{BlamesOver, IsDoneAt};
 
 use crate::ways::{do_in_place, do_staged};
 use crate::work::{Words, Work};
@@ -21,8 +23,9 @@ pub fn do_over<R: Paths + Clock + Eprint + AllocGlobal, T: Work, W: Write, E: Wr
     output: &mut W,
     errors: &mut E,
 ) -> Result<u8, Failure>
-    ensures { IfOk result (λ status. IsDoneAt (T.prints work.old (R.text rt.now)) words.now.data_path.now words.now.hash_path.now
+    ensures done { IfOk result (λ status. IsDoneAt (T.prints work.old (R.text rt.now)) words.now.data_path.now words.now.hash_path.now
         (W.contents output.old) (W.contents output.new) status) }
+    ensures blames { IfErr result (BlamesOver T.blamed) }
 {
     let line = match words.table {
         Some(text) => Some(Table::parse(rt.alloc(), text)?),
@@ -46,7 +49,9 @@ fn journal_of<R: Paths + AllocGlobal>(
     rt: &R,
     words: &Words<'_>,
     hash: &Opened,
-) -> Result<Option<String>, Failure> {
+) -> Result<Option<String>, Failure>
+    ensures { IfErr result BlamesNone }
+{
     if let Some(named) = words.journal {
         check_other_gate(rt, words.hash_path, named)?;
     }
@@ -65,8 +70,9 @@ fn do_through<R: Paths + Clock + Eprint + AllocGlobal, T: Work, W: Write, E: Wri
     output: &mut W,
     errors: &mut E,
 ) -> Result<u8, Failure>
-    ensures { IfOk result (λ status. IsDoneAt (T.prints work.old (R.text rt.now)) words.now.data_path.now words.now.hash_path.now
+    ensures done { IfOk result (λ status. IsDoneAt (T.prints work.old (R.text rt.now)) words.now.data_path.now words.now.hash_path.now
         (W.contents output.old) (W.contents output.new) status) }
+    ensures blames { IfErr result (BlamesOver T.blamed) }
 {
     let Ok(data) = data else {
         return do_in_place(rt, words, line, work, data, hash, output, errors);
@@ -87,7 +93,9 @@ fn journalled<'a, R: Paths + AllocGlobal, E: Write>(
     data: &Opened,
     hash: &Opened,
     errors: &mut E,
-) -> Result<Journalled<'a, R>, Failure> {
+) -> Result<Journalled<'a, R>, Failure>
+    ensures { IfErr result (BlamesAtMost word.Journal) }
+{
     let keeper = make_whole(rt, words, path, data, hash, names, errors)?;
     let data = data.seen_again()?;
     let hash = hash.seen_again()?;
@@ -103,7 +111,9 @@ fn make_whole<R: Paths + AllocGlobal, E: Write>(
     hash: &Opened,
     names: &str,
     errors: &mut E,
-) -> Result<Option<FileKeeper>, Failure> {
+) -> Result<Option<FileKeeper>, Failure>
+    ensures { IfErr result (BlamesAtMost word.Journal) }
+{
     let Some(found) = recover_files(rt, path, data, hash, names)? else {
         return Ok(None);
     };

@@ -1,5 +1,6 @@
 //! A work over an editor, of the volume whole or under a table line.
-ghost use Rattle.std.specs.Prelude.{◌≡◌, IfOk};
+ghost use Rattle.std.specs.Prelude.{◌≡◌, IfOk, IfErr};
+ghost use Rattle.verity_work.specs.Work.{BlamesOver};
 
 use crate::rest::Rest;
 use crate::work::Work;
@@ -33,8 +34,9 @@ pub(crate) fn run_under<
     output: &mut W,
     errors: &mut E,
 ) -> Result<u8, Failure>
-    ensures { IfOk result (λ status. T.prints work.old (R.text rt.now) rest.entry.devices
+    ensures done { IfOk result (λ status. T.prints work.old (R.text rt.now) rest.entry.devices
         (W.contents output.old) (W.contents output.new) status) }
+    ensures blames { IfErr result (BlamesOver T.blamed) }
 {
     match LineEditor::open_under(rt.alloc(), data_store, hash_store, table) {
         Ok(editor) => work.run(
@@ -68,8 +70,9 @@ pub(crate) fn run_whole<
     output: &mut W,
     errors: &mut E,
 ) -> Result<u8, Failure>
-    ensures { IfOk result (λ status. T.prints work.old (R.text rt.now) rest.entry.devices
+    ensures done { IfOk result (λ status. T.prints work.old (R.text rt.now) rest.entry.devices
         (W.contents output.old) (W.contents output.new) status) }
+    ensures blames { IfErr result (BlamesOver T.blamed) }
 {
     match opened {
         Ok(editor) => work.run(

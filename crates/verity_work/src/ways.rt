@@ -1,6 +1,6 @@
 //! The two ways to a volume's files: at once, or by what is staged and a journal.
-ghost use Rattle.std.specs.Prelude.{◌≡◌, IfOk};
-ghost use Rattle.verity_work.specs.Work.{IsDoneAt};
+ghost use Rattle.std.specs.Prelude.{◌≡◌, IfOk, IfErr};
+ghost use Rattle.verity_work.specs.Work.{BlamesOver, IsDoneAt};
 
 use crate::rest::{Rest, rest_of};
 use crate::running::{open_whole, run_under, run_whole};
@@ -27,8 +27,9 @@ pub(crate) fn do_in_place<R: Paths + Clock + Eprint + AllocGlobal, T: Work, W: W
     output: &mut W,
     errors: &mut E,
 ) -> Result<u8, Failure>
-    ensures { IfOk result (λ status. IsDoneAt (T.prints work.old (R.text rt.now)) words.now.data_path.now words.now.hash_path.now
+    ensures done { IfOk result (λ status. IsDoneAt (T.prints work.old (R.text rt.now)) words.now.data_path.now words.now.hash_path.now
         (W.contents output.old) (W.contents output.new) status) }
+    ensures blames { IfErr result (BlamesOver T.blamed) }
 {
     let volume = open_volume(rt.alloc(), &line, words.offset, data, hash)?;
     work.see(volume.sizes.data_block_size)?;
@@ -48,8 +49,9 @@ fn run_in_place_under<R: Paths + Clock + Eprint + AllocGlobal, T: Work, W: Write
     output: &mut W,
     errors: &mut E,
 ) -> Result<u8, Failure>
-    ensures { IfOk result (λ status. IsDoneAt (T.prints work.old (R.text rt.now)) words.now.data_path.now words.now.hash_path.now
+    ensures done { IfOk result (λ status. IsDoneAt (T.prints work.old (R.text rt.now)) words.now.data_path.now words.now.hash_path.now
         (W.contents output.old) (W.contents output.new) status) }
+    ensures blames { IfErr result (BlamesOver T.blamed) }
 {
     let rest = rest_of(words, volume.again, volume.sizes);
     let data_store = volume.data_store;
@@ -76,8 +78,9 @@ fn run_in_place_whole<R: Paths + Clock + Eprint + AllocGlobal, T: Work, W: Write
     output: &mut W,
     errors: &mut E,
 ) -> Result<u8, Failure>
-    ensures { IfOk result (λ status. IsDoneAt (T.prints work.old (R.text rt.now)) words.now.data_path.now words.now.hash_path.now
+    ensures done { IfOk result (λ status. IsDoneAt (T.prints work.old (R.text rt.now)) words.now.data_path.now words.now.hash_path.now
         (W.contents output.old) (W.contents output.new) status) }
+    ensures blames { IfErr result (BlamesOver T.blamed) }
 {
     let rest = rest_of(words, volume.again, volume.sizes);
     let progress = progress_of(rt, words.is_watched, &volume.data_store);
@@ -114,8 +117,9 @@ fn run_direct<
     output: &mut W,
     errors: &mut E,
 ) -> Result<u8, Failure>
-    ensures { IfOk result (λ status. T.prints work.old (R.text rt.now) rest.entry.devices
+    ensures done { IfOk result (λ status. T.prints work.old (R.text rt.now) rest.entry.devices
         (W.contents output.old) (W.contents output.new) status) }
+    ensures blames { IfErr result (BlamesOver T.blamed) }
 {
     let opened = open_whole(rt.alloc(), data_store, hash_store, offset);
     end_progress(progress);
@@ -132,8 +136,9 @@ pub(crate) fn do_staged<R: Paths + Clock + Eprint + AllocGlobal, T: Work, W: Wri
     output: &mut W,
     errors: &mut E,
 ) -> Result<u8, Failure>
-    ensures { IfOk result (λ status. IsDoneAt (T.prints work.old (R.text rt.now)) words.now.data_path.now words.now.hash_path.now
+    ensures done { IfOk result (λ status. IsDoneAt (T.prints work.old (R.text rt.now)) words.now.data_path.now words.now.hash_path.now
         (W.contents output.old) (W.contents output.new) status) }
+    ensures blames { IfErr result (BlamesOver T.blamed) }
 {
     let (data, hash) = commits.files()?;
     let volume = open_volume(rt.alloc(), &line, words.offset, Ok(data), hash)?;
@@ -155,8 +160,9 @@ fn run_staged_under<R: Paths + Clock + Eprint + AllocGlobal, T: Work, W: Write, 
     output: &mut W,
     errors: &mut E,
 ) -> Result<u8, Failure>
-    ensures { IfOk result (λ status. IsDoneAt (T.prints work.old (R.text rt.now)) words.now.data_path.now words.now.hash_path.now
+    ensures done { IfOk result (λ status. IsDoneAt (T.prints work.old (R.text rt.now)) words.now.data_path.now words.now.hash_path.now
         (W.contents output.old) (W.contents output.new) status) }
+    ensures blames { IfErr result (BlamesOver T.blamed) }
 {
     let rest = rest_of(words, volume.again, volume.sizes);
     let data_store = volume.data_store;
@@ -185,8 +191,9 @@ fn run_staged_line<
     output: &mut W,
     errors: &mut E,
 ) -> Result<u8, Failure>
-    ensures { IfOk result (λ status. T.prints work.old (R.text rt.now) rest.entry.devices
+    ensures done { IfOk result (λ status. T.prints work.old (R.text rt.now) rest.entry.devices
         (W.contents output.old) (W.contents output.new) status) }
+    ensures blames { IfErr result (BlamesOver T.blamed) }
 {
     let data = Staged::new(rt.alloc(), data_store)?;
     let hash = Staged::new(rt.alloc(), hash_store)?;
@@ -203,8 +210,9 @@ fn run_staged_whole<R: Paths + Clock + Eprint + AllocGlobal, T: Work, W: Write, 
     output: &mut W,
     errors: &mut E,
 ) -> Result<u8, Failure>
-    ensures { IfOk result (λ status. IsDoneAt (T.prints work.old (R.text rt.now)) words.now.data_path.now words.now.hash_path.now
+    ensures done { IfOk result (λ status. IsDoneAt (T.prints work.old (R.text rt.now)) words.now.data_path.now words.now.hash_path.now
         (W.contents output.old) (W.contents output.new) status) }
+    ensures blames { IfErr result (BlamesOver T.blamed) }
 {
     let rest = rest_of(words, volume.again, volume.sizes);
     let progress = progress_of(rt, words.is_watched, &volume.data_store);
@@ -243,8 +251,9 @@ fn run_staged<
     output: &mut W,
     errors: &mut E,
 ) -> Result<u8, Failure>
-    ensures { IfOk result (λ status. T.prints work.old (R.text rt.now) rest.entry.devices
+    ensures done { IfOk result (λ status. T.prints work.old (R.text rt.now) rest.entry.devices
         (W.contents output.old) (W.contents output.new) status) }
+    ensures blames { IfErr result (BlamesOver T.blamed) }
 {
     let data = Staged::new(rt.alloc(), data_store)?;
     let hash = Staged::new(rt.alloc(), hash_store)?;

@@ -1,6 +1,7 @@
 //! What is done over a volume, and over which one.
-ghost use Rattle.std.specs.Prelude.{◌≡◌, IfOk};
-ghost use Rattle.verity_work.specs.Work.{Prints, PrintsAsBefore};
+ghost use Rattle.std.specs.Prelude.{◌≡◌, IfOk, IfErr};
+ghost use Rattle.verity_files.specs.declared.failure.Word.{Word};
+ghost use Rattle.verity_work.specs.Work.{BlamesOver, Prints, PrintsAsBefore};
 
 use std::io::{Eprint, Write};
 use std::time::Clock;
@@ -26,6 +27,9 @@ pub trait Work {
     /// What it prints over a volume on these devices, and its status, by the bytes that are read at a path, where they are known.
     ghost prints: { Prints Self };
 
+    /// Which words it may blame.
+    ghost blamed: { Word → Type 0 };
+
     /// Opens what more is read, once both files are opened, of which DATA may be missing.
     fn begin<R: Paths + AllocGlobal>(
         &mut self,
@@ -33,11 +37,13 @@ pub trait Work {
         data: Option<&Opened>,
         hash: &Opened,
     ) -> Result<(), Failure>
-        ensures { PrintsAsBefore prints self.old self.new };
+        ensures prints { PrintsAsBefore prints self.old self.new }
+        ensures blames { IfErr result (BlamesOver blamed) };
 
     /// Looks at it, once the size of a data block is known.
     fn see(&mut self, data_block_size: usize) -> Result<(), Failure>
-        ensures { PrintsAsBefore prints self.old self.new };
+        ensures prints { PrintsAsBefore prints self.old self.new }
+        ensures blames { IfErr result (BlamesOver blamed) };
 
     /// Does it. `hash` is HASH, to be read once more.
     fn run<
@@ -56,6 +62,7 @@ pub trait Work {
         output: &mut W,
         errors: &mut E,
     ) -> Result<u8, Failure>
-        ensures { IfOk result (λ status. prints self.old (R.text rt.now) devices.entry
-            (W.contents output.old) (W.contents output.new) status) };
+        ensures done { IfOk result (λ status. prints self.old (R.text rt.now) devices.entry
+            (W.contents output.old) (W.contents output.new) status) }
+        ensures blames { IfErr result (BlamesOver blamed) };
 }
