@@ -3,11 +3,13 @@ use Rattle.verity_work.proofs.Doing.{done_as_before}
 use Rattle.verity_work.proofs.over.do_over.Goals as goal
 
 pub returns-in-Some-2-clause-done : goal.returns-in-Some-2-clause-done
-returns-in-Some-2-clause-done g c = done_as_before g.T.Work.prints c.args.work.now _ (g.R.Paths.text c.args.rt.now) c.args.words.now.data_path.now
+returns-in-Some-2-clause-done g c =
+    done_as_before g.T.Work.prints c.args.work.now _ (g.R.Paths.text c.args.rt.now) c.args.words.now.data_path.now
     c.args.words.now.hash_path.now (g.W.Write.contents c.args.output.now) (g.W.Write.contents c.do_through.new.output)
     c.do_through.result c.in_ok-begin.ensures.prints c.do_through.ensures.done
 
 pub returns-after-is_none-clause-done : goal.returns-after-is_none-clause-done
-returns-after-is_none-clause-done g c = done_as_before g.T.Work.prints c.args.work.now _ (g.R.Paths.text c.args.rt.now) c.args.words.now.data_path.now
+returns-after-is_none-clause-done g c =
+    done_as_before g.T.Work.prints c.args.work.now _ (g.R.Paths.text c.args.rt.now) c.args.words.now.data_path.now
     c.args.words.now.hash_path.now (g.W.Write.contents c.args.output.now) (g.W.Write.contents c.do_in_place.new.output)
     c.do_in_place.result c.in_ok-begin.ensures.prints c.do_in_place.ensures.done
