@@ -1,13 +1,13 @@
 //! Verifiers that are made, and then asked one thing after the other.
 use crate::room::{is_report_given, steps_to_read};
+use crate::verifiers::{
+    data_and_tree, flip, range, refuses, refuses_block, reports, root_17, salted_table, serves,
+    serves_block, store, table,
+};
 use linked_list_allocator::LocalHeap;
 use std::alloc::{Allocator, Global};
 use std::test::Fail;
 use test_stores::FailStore;
-use test_verifiers::{
-    data_and_tree, flip, range, refuses, refuses_block, reports, root_17, salted_table, serves,
-    serves_block, store, table,
-};
 use test_volumes::{BuiltVolume, copy};
 use verity_check::{CheckFault, Place, Verdict, Verifier};
 use verity_digest::{Algorithm, Digest};

@@ -2,10 +2,10 @@
 ghost use Rattle.std.specs.Prelude.{◌^◌, ◌≤◌};
 
 use crate::asking::{Line, NEVER, answered, failing};
+use crate::verifiers::*;
 use std::alloc::Global;
 use std::process::Abort;
 use std::test::Fail;
-use test_verifiers::*;
 use verity_check::{CheckFault, Place};
 use verity_digest::Digest;
 use verity_store::{MemStore, Which};

@@ -1,9 +1,9 @@
 //! Stores that fail at one call.
 use crate::asking::{Ask, Failure, is_right, line_17};
+use crate::verifiers::*;
 use std::alloc::Global;
 use std::process::Abort;
 use std::test::Fail;
-use test_verifiers::*;
 use verity_check::{CheckFault, Place, Verdict};
 use verity_digest::Algorithm;
 use verity_store::Which;

@@ -18,3 +18,5 @@ mod reading;
 mod refused;
 #[cfg(test)]
 mod room;
+#[cfg(test)]
+mod verifiers;

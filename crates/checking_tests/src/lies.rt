@@ -1,10 +1,10 @@
 //! Stores that answer otherwise the second time. No contract can see whether a mismatch is read again.
 use crate::asking::{Ask, answered_over};
+use crate::verifiers::*;
 use std::alloc::Global;
 use std::process::Abort;
 use std::test::Fail;
 use test_stores::{Answer, ScriptStore};
-use test_verifiers::*;
 use verity_check::{CheckFault, Place};
 use verity_digest::Algorithm;
 use verity_store::Block;

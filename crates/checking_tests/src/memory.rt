@@ -1,9 +1,9 @@
 //! Verifiers that are refused memory.
 use crate::asking::{Ask, Failure, NEVER, answered_within};
+use crate::verifiers::salted;
 use std::alloc::Global;
 use std::process::Abort;
 use std::test::Fail;
-use test_verifiers::salted;
 use test_volumes::{BuiltVolume, STEP};
 use verity_check::CheckFault;
 

@@ -1,9 +1,9 @@
 //! What reads answer.
 use crate::asking::{Ask, Failure, Line, NEVER, is_right, is_right_flipped, line_17};
+use crate::verifiers::*;
 use std::alloc::Global;
 use std::process::Abort;
 use std::test::Fail;
-use test_verifiers::*;
 use verity_check::{CheckFault, Place, Verdict};
 use verity_digest::{Algorithm, Digest};
 use verity_store::Which;

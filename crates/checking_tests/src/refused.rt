@@ -1,10 +1,10 @@
 //! Reads and reports that are refused memory.
 use crate::asking::{Ask, Line, NEVER, answered, answered_within, failing};
 use crate::room::BAD;
+use crate::verifiers::salted;
 use std::alloc::Global;
 use std::process::Abort;
 use std::test::Fail;
-use test_verifiers::salted;
 use test_volumes::{BuiltVolume, flip, image};
 use verity_check::{CheckFault, Place};
 use verity_store::MemStore;

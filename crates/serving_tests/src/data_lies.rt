@@ -1,9 +1,9 @@
 //! Data stores that lie.
 
+use crate::clients::{Reads, Script, hash_17, other_image, scripted};
 use crate::hubs::tells_over;
 use std::alloc::Global;
 use std::test::Fail;
-use test_clients::{Reads, Script, hash_17, other_image, scripted};
 use test_volumes::image;
 
 /// Whether both sessions are told what they should where the data store lies.

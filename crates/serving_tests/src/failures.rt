@@ -1,9 +1,9 @@
 //! Each call of a store failing in turn.
 
+use crate::clients::{EIO, WELCOME_17, add_reply, client};
 use crate::hubs::{failing_hub, serve};
 use std::alloc::Global;
 use std::test::Fail;
-use test_clients::{EIO, WELCOME_17, add_reply, client};
 use test_volumes::image;
 
 /// Two READs one after the other: the blocks 4 to 6, and 14 to 16.

@@ -1,9 +1,9 @@
 //! Hash stores that lie.
 
+use crate::clients::{Reads, Script, data_17, hash_17, other_image, scripted, tree};
 use crate::hubs::tells_over;
 use std::alloc::Global;
 use std::test::Fail;
-use test_clients::{Reads, Script, data_17, hash_17, other_image, scripted, tree};
 use test_volumes::image;
 
 /// Whether both sessions are told what they should where the hash store lies.

@@ -1,11 +1,11 @@
 //! Memory refused to a hub of two sessions, in turn at each request that needs more than the ones before.
 
+use crate::clients::{
+    GREETING, Want, data_17, events, hash_17, hub_within, is_wanted, kind, run_once, wants, words,
+};
 use linked_list_allocator::LocalHeap;
 use std::alloc::{Allocator, Global};
 use std::test::Fail;
-use test_clients::{
-    GREETING, Want, data_17, events, hash_17, hub_within, is_wanted, kind, run_once, wants, words,
-};
 use test_volumes::STEP;
 use verity_hub::{Event, HubReply};
 

@@ -1,10 +1,10 @@
 //! Hubs over the volume of 17 blocks, streams that they serve and events that they do.
 
+use crate::clients::{Reads, data_17, hash_17, hub_17, tells};
 use linked_list_allocator::LocalHeap;
 use std::alloc::{AllocError, Allocator, Global};
 use std::io::{self, Write};
 use std::test::Fail;
-use test_clients::{Reads, data_17, hash_17, hub_17, tells};
 use test_stores::FailStore;
 use verity_hub::{Event, Hub, HubReply, ServeFault, serve_stream};
 use verity_store::{BlockStore, MemStore};

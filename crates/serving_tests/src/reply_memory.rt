@@ -1,10 +1,10 @@
 //! Memory refused for the replies of a hub, in turn at each request that needs more than the ones before.
 
+use crate::clients::{Want, events, is_wanted, wants};
 use crate::hubs::replies_in;
 use linked_list_allocator::LocalHeap;
 use std::alloc::Global;
 use std::test::Fail;
-use test_clients::{Want, events, is_wanted, wants};
 use test_volumes::STEP;
 use verity_hub::Event;
 

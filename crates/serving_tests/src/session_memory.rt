@@ -2,12 +2,12 @@
 
 ghost use Rattle.std.specs.Prelude.{◌≡◌, length};
 
+use crate::clients::{GO, GO_REPLY};
 use linked_list_allocator::LocalHeap;
 use nbd_session::{ExportName, Session, Status};
 use std::alloc::{Allocator, Global};
 use std::test::Fail;
 use talking_tests::{Image, make_image};
-use test_clients::{GO, GO_REPLY};
 use test_volumes::STEP;
 
 /// A session and what it reads from.

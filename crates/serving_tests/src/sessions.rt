@@ -1,10 +1,10 @@
 //! Which sessions are opened, and which are refused.
 
+use crate::clients::kind;
 use crate::hubs::replies_in;
 use linked_list_allocator::LocalHeap;
 use std::alloc::{AllocError, Global};
 use std::test::Fail;
-use test_clients::kind;
 use verity_hub::{Event, HubReply, Piece};
 
 /// 65 sessions are opened, one is ended, the next is opened, and the ended one is fed and ended again.

@@ -1,11 +1,11 @@
 //! Memory refused to a hub that serves a stream, in turn at each request that needs more than the ones before.
 
+use crate::clients::{
+    ENOMEM, GO, GO_REPLY, GREETING, add_read, add_reply, data_17, hash_17, hub_within, serve_once,
+};
 use linked_list_allocator::LocalHeap;
 use std::alloc::{AllocError, Global};
 use std::test::Fail;
-use test_clients::{
-    ENOMEM, GO, GO_REPLY, GREETING, add_read, add_reply, data_17, hash_17, hub_within, serve_once,
-};
 use test_volumes::STEP;
 use verity_hub::{HubFault, ServeFault};
 

@@ -1,9 +1,9 @@
 //! Streams that are left, and writers that take no more. Streams that end in the middle of a message are in `tests/program`.
 
+use crate::clients::{GREETING, WELCOME_17, add_reply, client};
 use crate::hubs::{Served, serve, sound_hub};
 use std::alloc::{AllocError, Global};
 use std::test::Fail;
-use test_clients::{GREETING, WELCOME_17, add_reply, client};
 use verity_hub::{HubFault, ServeFault};
 
 /// Client flags; option 8; GO without a name; READ of the last byte.

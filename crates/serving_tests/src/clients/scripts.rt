@@ -1,8 +1,8 @@
 //! Stores that do as scripted, and two sessions that are fed in turn. A READ that is served carries the image's block, and
 //! any other is EIO.
 
-use crate::clients::*;
-use crate::volumes::*;
+use crate::clients::talking::*;
+use crate::clients::volumes::*;
 use std::alloc::{AllocError, Global};
 use std::test::Fail;
 use test_stores::{Answer, ScriptStore};

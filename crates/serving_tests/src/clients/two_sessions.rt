@@ -1,6 +1,6 @@
 //! Two sessions of a hub, and what is to come of them.
 
-use crate::clients::*;
+use crate::clients::talking::*;
 use std::alloc::{AllocError, Allocator, Global};
 use verity_hub::{Event, HubReply};
 

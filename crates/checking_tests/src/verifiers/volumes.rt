@@ -93,23 +93,6 @@ pub fn flip(bytes: &mut Vec<u8>, at: usize) {
     }
 }
 
-// A verifier of 17 data blocks over these stores, whose tree begins at hash block 0.
-pub fn over<D: BlockStore + Drop, H: BlockStore + Drop>(
-    alloc: Global,
-    algorithm: Algorithm,
-    data: D,
-    hash: H,
-    cache: usize,
-) -> Result<Verifier<D, H>, Fail> {
-    Ok(Verifier::new(
-        alloc,
-        table(alloc, 17, 0, root_17(algorithm))?,
-        data,
-        hash,
-        cache,
-    )?)
-}
-
 // The data and the tree of 17 data blocks.
 pub fn data_and_tree(alloc: Global, algorithm: Algorithm) -> Result<(Vec<u8>, Vec<u8>), Fail> {
     let data = image(alloc, 17)?;
@@ -118,19 +101,6 @@ pub fn data_and_tree(alloc: Global, algorithm: Algorithm) -> Result<(Vec<u8>, Ve
 }
 
 pub const NOWHERE: usize = usize::MAX;
-
-// A verifier of 17 data blocks where a bit of the data and a bit of the tree are flipped, if they are there.
-pub fn flipped(
-    alloc: Global,
-    algorithm: Algorithm,
-    data_at: usize,
-    hash_at: usize,
-) -> Result<Verifier<MemStore, MemStore>, Fail> {
-    let (mut data, mut hash) = data_and_tree(alloc, algorithm)?;
-    flip(&mut data, data_at);
-    flip(&mut hash, hash_at);
-    over(alloc, algorithm, store(data)?, store(hash)?, 2)
-}
 
 // What a read of a range answers; V1, which no read answers, where it isn't inside.
 pub fn range<D: BlockStore, H: BlockStore, A: Allocator + Copy + Drop>(

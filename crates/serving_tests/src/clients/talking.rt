@@ -2,7 +2,6 @@
 
 use nbd_session::Status;
 use std::alloc::{AllocError, Allocator, Global};
-use std::io::{Read, Write};
 use verity_hub::{Event, Hub, HubFault, HubReply, Piece, ServeFault, serve_stream};
 use verity_store::BlockStore;
 
@@ -86,16 +85,6 @@ pub fn serve_once<D: BlockStore + Drop, H: BlockStore + Drop, A: Allocator + Cop
     said: &mut Vec<u8>,
 ) -> Result<(), ServeFault> {
     serve_stream(&mut hub, &mut input, said, 1000)
-}
-
-/// Serves one client over a reader and a writer by a hub, whose end it is.
-pub fn serve_between<D: BlockStore + Drop, H: BlockStore + Drop, R: Read, W: Write>(
-    mut hub: Hub<D, H>,
-    reader: &mut R,
-    writer: &mut W,
-    limit: u64,
-) -> Result<(), ServeFault> {
-    serve_stream(&mut hub, reader, writer, limit)
 }
 
 /// Does events with a hub, whose end it is.
