@@ -83,14 +83,14 @@ impl<C: Connection + Drop> Connected<C> {
         ensures numbers { OnErr result (self.new.numbers.items ≡ self.old.numbers.items) }
     {
         let none = ServeFault::Hub(HubFault::NoMemory);
+        if self.seats.reserve(1).is_err() || self.numbers.reserve(1).is_err() {
+            return Err(none);
+        }
         if connection.prepare().is_err() {
             return Err(ServeFault::Read);
         }
         let fd = connection.as_raw_fd();
         let socket = Socket::new(self.alloc, connection).map_err(|_| none)?;
-        if self.seats.reserve(1).is_err() || self.numbers.reserve(1).is_err() {
-            return Err(none);
-        }
         if let Err(fault) = accept(&mut self.clients, self.alloc, socket, hub) {
             return Err(ServeFault::Hub(fault));
         }

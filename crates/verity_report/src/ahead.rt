@@ -24,7 +24,7 @@ pub fn longest_run(block_size: usize) -> usize
         .max(block_size)
 }
 
-/// How many data blocks the next run has: no more than `room` bytes hold, than `most`, or than eight.
+/// How many data blocks the next run has: as many as `room` bytes hold, but no more than `most`, or than eight.
 pub fn run_len(block_size: usize, room: usize, most: u64) -> usize
     requires size { 0 < block_size }
     requires room { block_size ≤ room }
@@ -33,6 +33,7 @@ pub fn run_len(block_size: usize, room: usize, most: u64) -> usize
     ensures few { result ≤ 8 }
     ensures most { result ≤ most }
     ensures fits { result * block_size ≤ room }
+    ensures full { result < 8 → result < most → room < (result + 1) * block_size }
 {
     (room / block_size).min(AT_A_TIME).min(most as usize)
 }

@@ -1,5 +1,6 @@
 //! How the commits of an editor reach a volume's files.
-ghost use Rattle.std.specs.Prelude.{◌≡◌, ◌⊎◌, Bool, IfOk};
+ghost use Rattle.std.specs.Prelude.{◌≡◌, ◌⊎◌, Bool, IfOk, IfErr, false};
+ghost use Rattle.verity_files.specs.Errors.{IsOfSystem};
 
 use crate::edits::Edits;
 use crate::staging::StagedEdits;
@@ -71,7 +72,13 @@ impl<'a, P: Paths + AllocGlobal> Journalled<'a, P> {
         data: Opened,
         hash: Opened,
         keeper: Option<FileKeeper>,
-    ) -> Journalled<'a, P> {
+    ) -> Journalled<'a, P>
+        ensures data_device { result.«data» ≡ «data» }
+        ensures hash_device { result.hash ≡ hash }
+        ensures names { result.names ≡ names.entry }
+        ensures path { result.path ≡ path.entry }
+        ensures stopped { result.is_broken ≡ false }
+    {
         Journalled {
             rt,
             path,
@@ -85,7 +92,11 @@ impl<'a, P: Paths + AllocGlobal> Journalled<'a, P> {
     }
 
     /// The volume's files, once more: DATA and HASH.
-    pub fn files(&self) -> Result<(Opened, Opened), StoreFault> {
+    pub fn files(&self) -> Result<(Opened, Opened), StoreFault>
+        ensures data_device { IfOk result (λ both. (both.0.identity ≡ self.now.«data».identity) × (both.0.len ≡ self.now.«data».len)) }
+        ensures hash_device { IfOk result (λ both. (both.1.identity ≡ self.now.hash.identity) × (both.1.len ≡ self.now.hash.len)) }
+        ensures refused { IfErr result IsOfSystem }
+    {
         Ok((self.data.again()?, self.hash.again()?))
     }
 
