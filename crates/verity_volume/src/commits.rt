@@ -77,6 +77,8 @@ impl<'a, P: Paths + AllocGlobal> Journalled<'a, P> {
         ensures hash_device { result.hash ≡ hash }
         ensures names { result.names ≡ names.entry }
         ensures path { result.path ≡ path.entry }
+        ensures keeper { result.keeper ≡ keeper }
+        ensures staged { result.is_staged ≡ false }
         ensures stopped { result.is_broken ≡ false }
     {
         Journalled {
