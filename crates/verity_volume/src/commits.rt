@@ -93,7 +93,7 @@ impl<'a, P: Paths + AllocGlobal> Journalled<'a, P> {
         }
     }
 
-    /// The volume's files, once more: DATA and HASH.
+    /// The volume's files, once more: DATA and HASH. S1 or want of memory, where the system refuses one of them.
     pub fn files(&self) -> Result<(Opened, Opened), StoreFault>
         ensures data_device { IfOk result (λ both. (both.0.identity ≡ self.now.«data».identity) × (both.0.len ≡ self.now.«data».len)) }
         ensures hash_device { IfOk result (λ both. (both.1.identity ≡ self.now.hash.identity) × (both.1.len ≡ self.now.hash.len)) }
