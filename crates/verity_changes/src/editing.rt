@@ -57,6 +57,8 @@ impl<'a> Work for Lines<'a> {
 
     ghost blamed = { λ _. ⊥ };
 
+    ghost reason = { λ _ _ _. ⊥ };
+
     fn begin<R: Paths + AllocGlobal>(
         &mut self,
         _rt: &R,

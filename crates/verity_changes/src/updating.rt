@@ -38,7 +38,7 @@ pub fn update<R: Paths + Clock + Eprint + AllocGlobal, W: Write, E: Write + IsTe
 ) -> Result<u8, Failure>
     ensures done { IfOk result (λ status. IsDoneAt IsUpdated words.now.data_path.now words.now.hash_path.now (W.contents output.old)
         (W.contents output.new) status) }
-    ensures blames { IfErr result (UpdateBlames words.now) }
+    ensures blames { IfErr result (UpdateBlames (R.opens rt.now) words.now) }
 {
     check_paths(words.data_path, words.hash_path)?;
     let is_watched = is_watched(words.is_quiet, errors.is_terminal());
@@ -76,11 +76,14 @@ struct Taking<'a> {
 impl<'a> Work for Taking<'a> {
     ghost use Rattle.std.specs.Prelude.{◌≡◌};
     ghost use Rattle.verity_files.specs.declared.failure.Word.TheVariants as word;
+    ghost use Rattle.verity_changes.specs.Blamed.{IsTaken};
     ghost use Rattle.verity_changes.specs.Printing.{IsUpdated};
 
     ghost prints = { λ _ _. IsUpdated };
 
     ghost blamed = { λ w. w ≡ word.New };
+
+    ghost reason = { λ taking. IsTaken taking.path.now };
 
     fn begin<R: Paths + AllocGlobal>(
         &mut self,
@@ -148,7 +151,9 @@ impl<'a> Work for Taking<'a> {
 }
 
 /// Opens NEW to be read.
-fn open_new<R: Paths>(rt: &R, path: &str) -> Result<Opened, StoreFault> {
+fn open_new<R: Paths>(rt: &R, path: &str) -> Result<Opened, StoreFault>
+    ensures { IfOk result (R.opens rt.now path.now) }
+{
     open_there(rt, path, Command::Verify, Which::Data)
 }
 

@@ -1,9 +1,11 @@
--- What is printed where a work is done over a volume.
-use Rattle.std.specs.Prelude.{◌≡◌, ℕ, List, Option, ⊤}
+-- What is printed where a work is done over a volume, and which words it blames.
+use Rattle.std.specs.Prelude.{◌≡◌, ◌⊎◌, ℕ, List, Option, IfSome, MatchOption, ⊤}
 use Rattle.verity_files.specs.declared.failure.Failure.{Failure}
 use Rattle.verity_files.specs.declared.failure.Failure.TheVariants as failure
 use Rattle.verity_files.specs.declared.failure.Word.{Word}
 use Rattle.verity_files.specs.declared.failure.Word.TheVariants as word
+use Rattle.verity_files.specs.declared.identity.Identity.{Identity}
+use Rattle.verity_files.specs.declared.opening.Opened.{Opened}
 use Rattle.verity_volume.specs.declared.lines.Devices.{Devices}
 
 -- what a work prints, by the bytes that are read at a path, over a volume on these devices, and its status
@@ -21,9 +23,29 @@ abbrev pub IsDoneAt : (Devices → Option (List ℕ) → Option (List ℕ) → �
 IsDoneAt prints data_path hash_path old new status = (devices : Devices)
     × (devices.data_path.now ≡ data_path) × (devices.hash_path.now ≡ hash_path) × prints devices old new status
 
--- no word is blamed but HASH, the journal and these; of the two it isn't said when
-abbrev pub BlamesOver : (Word → Type 0) → Failure → Type 0
-BlamesOver own (failure.Word word.Hash) = ⊤
-BlamesOver own (failure.Word word.Journal) = ⊤
-BlamesOver own (failure.Word other) = own other
-BlamesOver own _ = ⊤
+-- why a work blames a word of its own: by what was opened at a path, and which files are taken
+abbrev pub Reason : Type 0 → Type 1
+Reason T = T → (List ℕ → Opened → Type 0) → (Identity → Type 0) → Type 0
+
+-- the file of the hash device or, where that was opened, of the image
+abbrev pub IsEither : Option Opened → Opened → Identity → Type 0
+IsEither image device identity = (identity ≡ device.identity) ⊎ MatchOption image ⊥ (λ opened. identity ≡ opened.identity)
+
+-- this reason, where what was opened at these paths is taken; at the image's there may be nothing
+abbrev pub IsReasonAt : ((Identity → Type 0) → Type 0) → (List ℕ → Opened → Type 0) → (data_path hash_path : List ℕ) → Type 0
+IsReasonAt reason opens data_path hash_path = (image : Option Opened) × (device : Opened)
+    × IfSome image (opens data_path) × opens hash_path device × reason (IsEither image device)
+
+-- no word is blamed but HASH, the journal and, for this reason, these; of the two it isn't said when
+abbrev pub BlamesOver : (Word → Type 0) → Type 0 → Failure → Type 0
+BlamesOver own reason (failure.Word word.Hash) = ⊤
+BlamesOver own reason (failure.Word word.Journal) = ⊤
+BlamesOver own reason (failure.Word other) = own other × reason
+BlamesOver own reason _ = ⊤
+
+-- no word is blamed but HASH and the journal
+abbrev pub BlamesVolume : Failure → Type 0
+BlamesVolume (failure.Word word.Hash) = ⊤
+BlamesVolume (failure.Word word.Journal) = ⊤
+BlamesVolume (failure.Word _) = ⊥
+BlamesVolume _ = ⊤

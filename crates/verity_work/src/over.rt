@@ -2,7 +2,7 @@
 ghost use Rattle.std.specs.Prelude.{◌≡◌, IfOk, IfErr};
 ghost use Rattle.verity_files.specs.declared.failure.Word.TheVariants as word;
 ghost use Rattle.verity_gate.specs.Refusals.{BlamesNone, BlamesAtMost};
-ghost use Rattle.verity_work.specs.Work.{BlamesOver, IsDoneAt};
+ghost use Rattle.verity_work.specs.Work.{BlamesOver, BlamesVolume, IsDoneAt, IsReasonAt, PrintsAsBefore};
 
 use crate::ways::{do_in_place, do_staged};
 use crate::work::{Words, Work};
@@ -25,14 +25,15 @@ pub fn do_over<R: Paths + Clock + Eprint + AllocGlobal, T: Work, W: Write, E: Wr
 ) -> Result<u8, Failure>
     ensures done { IfOk result (λ status. IsDoneAt (T.prints work.old (R.text rt.now)) words.now.data_path.now words.now.hash_path.now
         (W.contents output.old) (W.contents output.new) status) }
-    ensures blames { IfErr result (BlamesOver T.blamed) }
+    ensures blames { IfErr result (BlamesOver T.blamed (IsReasonAt (T.reason work.old (R.opens rt.now)) (R.opens rt.now)
+        words.now.data_path.now words.now.hash_path.now)) }
 {
     let line = match words.table {
         Some(text) => Some(Table::parse(rt.alloc(), text)?),
         None => None,
     };
     let (data, hash) = open_both(rt, words.data_path, words.hash_path, words.command)?;
-    work.begin(rt, data.as_ref().ok(), &hash)?;
+    begin(rt, words, work, &data, &hash)?;
     match journal_of(rt, words, &hash)? {
         Some(path) => do_through(rt, words, line, work, &path, data, hash, output, errors),
         None => {
@@ -41,6 +42,26 @@ pub fn do_over<R: Paths + Clock + Eprint + AllocGlobal, T: Work, W: Write, E: Wr
             }
             do_in_place(rt, words, line, work, data, hash, output, errors)
         }
+    }
+}
+
+/// Begins the work over what was opened at both paths, of which DATA may be missing.
+fn begin<R: Paths + AllocGlobal, T: Work>(
+    rt: &R,
+    words: &Words<'_>,
+    work: &mut T,
+    data: &Result<Opened, StoreFault>,
+    hash: &Opened,
+) -> Result<(), Failure>
+    requires data { IfOk «data».now (R.opens rt.now words.now.data_path.now) }
+    requires hash { R.opens rt.now words.now.hash_path.now hash.now }
+    ensures prints { PrintsAsBefore T.prints work.old work.new }
+    ensures blames { IfErr result (BlamesOver T.blamed (IsReasonAt (T.reason work.old (R.opens rt.now)) (R.opens rt.now)
+        words.now.data_path.now words.now.hash_path.now)) }
+{
+    match data {
+        Ok(image) => work.begin(rt, Some(image), hash),
+        Err(_) => work.begin(rt, None, hash),
     }
 }
 
@@ -72,7 +93,7 @@ fn do_through<R: Paths + Clock + Eprint + AllocGlobal, T: Work, W: Write, E: Wri
 ) -> Result<u8, Failure>
     ensures done { IfOk result (λ status. IsDoneAt (T.prints work.old (R.text rt.now)) words.now.data_path.now words.now.hash_path.now
         (W.contents output.old) (W.contents output.new) status) }
-    ensures blames { IfErr result (BlamesOver T.blamed) }
+    ensures blames { IfErr result BlamesVolume }
 {
     let Ok(data) = data else {
         return do_in_place(rt, words, line, work, data, hash, output, errors);

@@ -1,6 +1,6 @@
 //! The two ways to a volume's files: at once, or by what is staged and a journal.
 ghost use Rattle.std.specs.Prelude.{◌≡◌, IfOk, IfErr};
-ghost use Rattle.verity_work.specs.Work.{BlamesOver, IsDoneAt};
+ghost use Rattle.verity_work.specs.Work.{BlamesVolume, IsDoneAt};
 
 use crate::rest::{Rest, rest_of};
 use crate::running::{open_whole, run_under, run_whole};
@@ -29,7 +29,7 @@ pub(crate) fn do_in_place<R: Paths + Clock + Eprint + AllocGlobal, T: Work, W: W
 ) -> Result<u8, Failure>
     ensures done { IfOk result (λ status. IsDoneAt (T.prints work.old (R.text rt.now)) words.now.data_path.now words.now.hash_path.now
         (W.contents output.old) (W.contents output.new) status) }
-    ensures blames { IfErr result (BlamesOver T.blamed) }
+    ensures blames { IfErr result BlamesVolume }
 {
     let volume = open_volume(rt.alloc(), &line, words.offset, data, hash)?;
     work.see(volume.sizes.data_block_size)?;
@@ -51,7 +51,7 @@ fn run_in_place_under<R: Paths + Clock + Eprint + AllocGlobal, T: Work, W: Write
 ) -> Result<u8, Failure>
     ensures done { IfOk result (λ status. IsDoneAt (T.prints work.old (R.text rt.now)) words.now.data_path.now words.now.hash_path.now
         (W.contents output.old) (W.contents output.new) status) }
-    ensures blames { IfErr result (BlamesOver T.blamed) }
+    ensures blames { IfErr result BlamesVolume }
 {
     let rest = rest_of(words, volume.again, volume.sizes);
     let data_store = volume.data_store;
@@ -80,7 +80,7 @@ fn run_in_place_whole<R: Paths + Clock + Eprint + AllocGlobal, T: Work, W: Write
 ) -> Result<u8, Failure>
     ensures done { IfOk result (λ status. IsDoneAt (T.prints work.old (R.text rt.now)) words.now.data_path.now words.now.hash_path.now
         (W.contents output.old) (W.contents output.new) status) }
-    ensures blames { IfErr result (BlamesOver T.blamed) }
+    ensures blames { IfErr result BlamesVolume }
 {
     let rest = rest_of(words, volume.again, volume.sizes);
     let progress = progress_of(rt, words.is_watched, &volume.data_store);
@@ -119,7 +119,7 @@ fn run_direct<
 ) -> Result<u8, Failure>
     ensures done { IfOk result (λ status. T.prints work.old (R.text rt.now) rest.entry.devices
         (W.contents output.old) (W.contents output.new) status) }
-    ensures blames { IfErr result (BlamesOver T.blamed) }
+    ensures blames { IfErr result BlamesVolume }
 {
     let opened = open_whole(rt.alloc(), data_store, hash_store, offset);
     end_progress(progress);
@@ -138,7 +138,7 @@ pub(crate) fn do_staged<R: Paths + Clock + Eprint + AllocGlobal, T: Work, W: Wri
 ) -> Result<u8, Failure>
     ensures done { IfOk result (λ status. IsDoneAt (T.prints work.old (R.text rt.now)) words.now.data_path.now words.now.hash_path.now
         (W.contents output.old) (W.contents output.new) status) }
-    ensures blames { IfErr result (BlamesOver T.blamed) }
+    ensures blames { IfErr result BlamesVolume }
 {
     let (data, hash) = commits.files()?;
     let volume = open_volume(rt.alloc(), &line, words.offset, Ok(data), hash)?;
@@ -162,7 +162,7 @@ fn run_staged_under<R: Paths + Clock + Eprint + AllocGlobal, T: Work, W: Write, 
 ) -> Result<u8, Failure>
     ensures done { IfOk result (λ status. IsDoneAt (T.prints work.old (R.text rt.now)) words.now.data_path.now words.now.hash_path.now
         (W.contents output.old) (W.contents output.new) status) }
-    ensures blames { IfErr result (BlamesOver T.blamed) }
+    ensures blames { IfErr result BlamesVolume }
 {
     let rest = rest_of(words, volume.again, volume.sizes);
     let data_store = volume.data_store;
@@ -193,7 +193,7 @@ fn run_staged_line<
 ) -> Result<u8, Failure>
     ensures done { IfOk result (λ status. T.prints work.old (R.text rt.now) rest.entry.devices
         (W.contents output.old) (W.contents output.new) status) }
-    ensures blames { IfErr result (BlamesOver T.blamed) }
+    ensures blames { IfErr result BlamesVolume }
 {
     let data = Staged::new(rt.alloc(), data_store)?;
     let hash = Staged::new(rt.alloc(), hash_store)?;
@@ -212,7 +212,7 @@ fn run_staged_whole<R: Paths + Clock + Eprint + AllocGlobal, T: Work, W: Write, 
 ) -> Result<u8, Failure>
     ensures done { IfOk result (λ status. IsDoneAt (T.prints work.old (R.text rt.now)) words.now.data_path.now words.now.hash_path.now
         (W.contents output.old) (W.contents output.new) status) }
-    ensures blames { IfErr result (BlamesOver T.blamed) }
+    ensures blames { IfErr result BlamesVolume }
 {
     let rest = rest_of(words, volume.again, volume.sizes);
     let progress = progress_of(rt, words.is_watched, &volume.data_store);
@@ -253,7 +253,7 @@ fn run_staged<
 ) -> Result<u8, Failure>
     ensures done { IfOk result (λ status. T.prints work.old (R.text rt.now) rest.entry.devices
         (W.contents output.old) (W.contents output.new) status) }
-    ensures blames { IfErr result (BlamesOver T.blamed) }
+    ensures blames { IfErr result BlamesVolume }
 {
     let data = Staged::new(rt.alloc(), data_store)?;
     let hash = Staged::new(rt.alloc(), hash_store)?;

@@ -1,7 +1,7 @@
 //! What is done over a volume, and over which one.
-ghost use Rattle.std.specs.Prelude.{◌≡◌, IfOk, IfErr};
+ghost use Rattle.std.specs.Prelude.{◌≡◌, ◌⊎◌, IfOk, IfErr, MatchOption};
 ghost use Rattle.verity_files.specs.declared.failure.Word.{Word};
-ghost use Rattle.verity_work.specs.Work.{BlamesOver, Prints, PrintsAsBefore};
+ghost use Rattle.verity_work.specs.Work.{BlamesOver, BlamesVolume, Prints, PrintsAsBefore, Reason};
 
 use std::io::{Eprint, Write};
 use std::time::Clock;
@@ -27,8 +27,11 @@ pub trait Work {
     /// What it prints over a volume on these devices, and its status, by the bytes that are read at a path, where they are known.
     ghost prints: { Prints Self };
 
-    /// Which words it may blame.
+    /// Which words it may blame, as it begins.
     ghost blamed: { Word → Type 0 };
+
+    /// Why it blames one.
+    ghost reason: { Reason Self };
 
     /// Opens what more is read, once both files are opened, of which DATA may be missing.
     fn begin<R: Paths + AllocGlobal>(
@@ -38,12 +41,13 @@ pub trait Work {
         hash: &Opened,
     ) -> Result<(), Failure>
         ensures prints { PrintsAsBefore prints self.old self.new }
-        ensures blames { IfErr result (BlamesOver blamed) };
+        ensures blames { IfErr result (BlamesOver blamed (reason self.old (R.opens rt.now) (λ identity. (identity ≡ hash.now.identity)
+            ⊎ MatchOption «data».entry ⊥ (λ opened. identity ≡ opened.now.identity)))) };
 
     /// Looks at it, once the size of a data block is known.
     fn see(&mut self, data_block_size: usize) -> Result<(), Failure>
         ensures prints { PrintsAsBefore prints self.old self.new }
-        ensures blames { IfErr result (BlamesOver blamed) };
+        ensures blames { IfErr result BlamesVolume };
 
     /// Does it. `hash` is HASH, to be read once more.
     fn run<
@@ -64,5 +68,5 @@ pub trait Work {
     ) -> Result<u8, Failure>
         ensures done { IfOk result (λ status. prints self.old (R.text rt.now) devices.entry
             (W.contents output.old) (W.contents output.new) status) }
-        ensures blames { IfErr result (BlamesOver blamed) };
+        ensures blames { IfErr result BlamesVolume };
 }
