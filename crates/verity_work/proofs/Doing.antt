@@ -37,6 +37,7 @@ blamed_for own near far far_of (failure.Refused fault) is_blamed = tt
 blamed_for own near far far_of failure.NoMemory is_blamed = tt
 blamed_for own near far far_of failure.Output is_blamed = tt
 
+-- so it is where a work was begun
 pub begun_for : {T : Type 0} (own : Word → Type 0) (near far : Type 0) → (near → far) → (done : Result T Failure)
     → IfErr done (BlamesOver own near) → IfErr done (BlamesOver own far)
 begun_for own near far far_of (Ok done) is_blamed = tt

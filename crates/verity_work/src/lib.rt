@@ -6,7 +6,7 @@
 //! volume's stores are those of the files at these paths, and that a journal is made whole first, the layers below say of each call,
 //! and tests of them all.
 //!
-//! The definitions stand in `specs/`: `Work` (what a work prints).
+//! The definitions stand in `specs/`: `Work` (what a work prints, and which words it blames).
 #![tactic(auto)]
 
 mod over;
