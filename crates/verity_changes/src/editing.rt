@@ -26,7 +26,7 @@ pub fn edit<R: Paths + Clock + Eprint + AllocGlobal, W: Write, E: Write + IsTerm
 ) -> Result<u8, Failure>
     ensures done { IfOk result (λ status. IsDoneAt (IsEdited (R.text rt.now words.now.script_path.now)) words.now.data_path.now
         words.now.hash_path.now (W.contents output.old) (W.contents output.new) status) }
-    ensures blames { IfErr result (EditBlames words.now) }
+    ensures blames { IfErr result (EditBlames R.Paths rt.now words.now) }
 {
     check_paths(words.data_path, words.hash_path)?;
     let over = Words {

@@ -38,7 +38,7 @@ pub fn update<R: Paths + Clock + Eprint + AllocGlobal, W: Write, E: Write + IsTe
 ) -> Result<u8, Failure>
     ensures done { IfOk result (λ status. IsDoneAt IsUpdated words.now.data_path.now words.now.hash_path.now (W.contents output.old)
         (W.contents output.new) status) }
-    ensures blames { IfErr result (UpdateBlames (R.opens rt.now) words.now) }
+    ensures blames { IfErr result (UpdateBlames R.Paths rt.now words.now) }
 {
     check_paths(words.data_path, words.hash_path)?;
     let is_watched = is_watched(words.is_quiet, errors.is_terminal());

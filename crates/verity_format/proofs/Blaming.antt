@@ -1,5 +1,5 @@
 -- Refusals, and the words that they blame.
-use Rattle.std.proofs.Common.{◌≡◌, Bool, true, false, ℕ, List, Option, Some, None, Ok, Err, subst, sym, ap, ◌∙◌}
+use Rattle.std.proofs.Common.{◌≡◌, Bool, true, false, ℕ, List, Option, Some, None, Ok, Err, subst, sym, ap, inr, ◌∙◌}
 use Rattle.std.specs.Prelude.{if◌then◌else◌, ok_or}
 use Rattle.std.specs.Str.Parse.{digits_value}
 use Rattle.uuid.specs.Text.{parsed}
@@ -8,8 +8,11 @@ use Rattle.verity_files.specs.declared.failure.Failure.{Failure}
 use Rattle.verity_files.specs.declared.failure.Failure.TheVariants as failure
 use Rattle.verity_files.specs.declared.failure.Word.{Word}
 use Rattle.verity_files.specs.declared.failure.Word.TheVariants as word
+use Rattle.verity_files.specs.declared.paths.Paths.{Ghosts}
+use Rattle.verity_gate.specs.Refusals.{BlamesAtMost}
+use Rattle.verity_volume.specs.Opening.{IsOneFile}
 use Rattle.verity_words.specs.declared.words.format.FormatWords.{FormatWords}
-use Rattle.verity_format.specs.Blamed.{FormatBlames}
+use Rattle.verity_format.specs.Blamed.{FormatBlames, Misreads}
 
 only : (read : Bool) (n : ℕ) (known e : Failure) → (if read then Ok n else Err known) ≡ Err e → e ≡ known
 only true n known e is = absurd (cc is)
@@ -24,18 +27,49 @@ by_number w text e is = only (is_decimal text) (digits_value 10 text) (failure.W
 
 -- a number that `format` doesn't read blames its word
 pub of_hash_block_size : (words : FormatWords) (e : Failure) → number_in word.HashBlockSize words.hash_block_size.now ≡ Err e
-    → FormatBlames words e
+    → Misreads words e
 of_hash_block_size words e is =
     let same = by_number word.HashBlockSize words.hash_block_size.now e is in
-    subst (FormatBlames words) (sym same) (is ∙ ap Err same)
+    subst (Misreads words) (sym same) (is ∙ ap Err same)
 
-pub of_hash_offset : (words : FormatWords) (e : Failure) → number_in word.HashOffset words.hash_offset.now ≡ Err e → FormatBlames words e
+pub of_hash_offset : (words : FormatWords) (e : Failure) → number_in word.HashOffset words.hash_offset.now ≡ Err e → Misreads words e
 of_hash_offset words e is =
     let same = by_number word.HashOffset words.hash_offset.now e is in
-    subst (FormatBlames words) (sym same) (is ∙ ap Err same)
+    subst (Misreads words) (sym same) (is ∙ ap Err same)
 
 -- and so does a UUID
-pub of_uuid : (words : FormatWords) (e : Failure) → uuid_in words.uuid.now ≡ Err e → FormatBlames words e
+pub of_uuid : (words : FormatWords) (e : Failure) → uuid_in words.uuid.now ≡ Err e → Misreads words e
 of_uuid words e is =
     let same = unread (parsed words.uuid.now) (failure.Word word.Uuid) e is in
-    subst (FormatBlames words) (sym same) (is ∙ ap Err same)
+    subst (Misreads words) (sym same) (is ∙ ap Err same)
+
+-- what isn't understood is blamed
+pub of_misread : {P : Type 0} (facts : Ghosts P) (p : P) (words : FormatWords) (e : Failure) → Misreads words e
+    → FormatBlames facts p words e
+of_misread facts p words (failure.Word word.Data) is_misread = absurd is_misread
+of_misread facts p words (failure.Word word.Hash) is_misread = absurd is_misread
+of_misread facts p words (failure.Word word.Salt) is_misread = is_misread
+of_misread facts p words (failure.Word word.Uuid) is_misread = is_misread
+of_misread facts p words (failure.Word word.DataBlocks) is_misread = is_misread
+of_misread facts p words (failure.Word word.DataBlockSize) is_misread = is_misread
+of_misread facts p words (failure.Word word.HashBlockSize) is_misread = is_misread
+of_misread facts p words (failure.Word word.Algorithm) is_misread = is_misread
+of_misread facts p words (failure.Word word.HashOffset) is_misread = is_misread
+of_misread facts p words (failure.Word word.New) is_misread = is_misread
+of_misread facts p words (failure.Word word.Journal) is_misread = is_misread
+of_misread facts p words (failure.Word word.Cache) is_misread = is_misread
+of_misread facts p words (failure.Word word.Sessions) is_misread = is_misread
+of_misread facts p words (failure.Word word.Memory) is_misread = is_misread
+of_misread facts p words (failure.Word word.Idle) is_misread = is_misread
+of_misread facts p words (failure.Refused fault) is_misread = is_misread
+of_misread facts p words failure.NoMemory is_misread = is_misread
+of_misread facts p words failure.Output is_misread = is_misread
+
+-- HASH is blamed where one file was opened at both paths
+pub of_hash : {P : Type 0} (facts : Ghosts P) (p : P) (words : FormatWords) (e : Failure) → BlamesAtMost word.Hash e
+    → (e ≡ failure.Word word.Hash → IsOneFile facts p words.data_path.now words.hash_path.now) → FormatBlames facts p words e
+of_hash facts p words (failure.Word other) most is_one = subst (λ w. FormatBlames facts p words (failure.Word w)) (sym most)
+    (inr (is_one (ap failure.Word most)))
+of_hash facts p words (failure.Refused fault) most is_one = tt
+of_hash facts p words failure.NoMemory most is_one = tt
+of_hash facts p words failure.Output most is_one = tt

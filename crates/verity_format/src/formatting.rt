@@ -4,12 +4,14 @@ ghost use Rattle.std.specs.Prelude.{◌≡◌, None, Ok, IfSome, IfOk, IfErr, On
 ghost use Rattle.verity_files.specs.Words.{number_in};
 ghost use Rattle.verity_files.specs.declared.failure.Failure.TheVariants as failure;
 ghost use Rattle.verity_files.specs.declared.failure.Word.TheVariants as word;
+ghost use Rattle.verity_files.specs.declared.opening.Opened.{Opened};
 ghost use Rattle.verity_superblock.specs.Line.{IsTableLine, canonical};
 ghost use Rattle.verity_superblock.specs.Image.{start_behind};
 ghost use Rattle.verity_volume.specs.Lines.{IsOfLine};
 ghost use Rattle.verity_gate.specs.Refusals.{BlamesAtMost};
 ghost use Rattle.verity_files.specs.Misread.{IsMisread};
-ghost use Rattle.verity_format.specs.Blamed.{FormatBlames};
+ghost use Rattle.verity_volume.specs.Opening.{IsOneFile};
+ghost use Rattle.verity_format.specs.Blamed.{FormatBlames, Misreads};
 ghost use Rattle.verity_format.specs.Formatting.{line_made, some_blocks, IsAsked};
 ghost use Rattle.verity_format.specs.Printed.{IsFormatted};
 
@@ -62,7 +64,7 @@ pub fn format<R: Paths + Clock + Eprint + AllocGlobal, W: Write, E: IsTerminal>(
     errors: &E,
 ) -> Result<(), Failure>
     ensures printed { OnOk result (IsFormatted words.now (W.contents output.old) (W.contents output.new)) }
-    ensures blames { IfErr result (FormatBlames words.now) }
+    ensures blames { IfErr result (FormatBlames R.Paths rt.now words.now) }
 {
     check_paths(words.data_path, words.hash_path)?;
     let shape = read_shape(words)?;
@@ -106,7 +108,7 @@ fn made_line(
 #[tactic(auto, using(crate::proofs::Blaming::of_hash_block_size, crate::proofs::Blaming::of_hash_offset, crate::proofs::Blaming::of_uuid))]
 fn read_shape(words: &FormatWords<'_>) -> Result<Shape, Failure>
     ensures asked { IfOk result (IsAsked words.now) }
-    ensures blames { IfErr result (FormatBlames words.now) }
+    ensures blames { IfErr result (Misreads words.now) }
 {
     Ok(Shape {
         data_block_size: block_size(Word::DataBlockSize, words.data_block_size)?,
@@ -126,6 +128,8 @@ fn make<R: Paths + Clock + Eprint + AllocGlobal>(
     is_watched: bool,
 ) -> Result<Made, Failure>
     ensures start { IfOk result (λ made. made.hash_start_block ≡ start_behind shape.now.hash_offset shape.now.hash_block_size) }
+    ensures one { IfErr result (λ e. e ≡ Failure.Word word.Hash
+        → IsOneFile R.Paths rt.now words.now.data_path.now words.now.hash_path.now) }
     ensures blames { IfErr result (BlamesAtMost word.Hash) }
 {
     let params = BuildParameters::new(salt(rt.alloc(), salt_bytes)?, shape.uuid, shape.algorithm);
@@ -187,11 +191,9 @@ fn data_blocks(asked: Option<&str>) -> Result<Option<u64>, Failure>
 }
 
 /// DATA, and which file it is.
-fn open_data<R: Paths>(
-    rt: &R,
-    path: &str,
-    shape: &Shape,
-) -> Result<(VolumeStore, Identity), Fault> {
+fn open_data<R: Paths>(rt: &R, path: &str, shape: &Shape) -> Result<(VolumeStore, Identity), Fault>
+    ensures { IfOk result (λ opened. (image : Opened) × R.opens rt.now path.now image × (image.identity ≡ opened.1)) }
+{
     check_block_size(shape.data_block_size)?;
     let data = open_locked(rt, path, Command::Format, Which::Data)?;
     let identity = data.identity;
@@ -215,6 +217,8 @@ fn open_hash<R: Paths + AllocGlobal>(
     data: Identity,
 ) -> Result<(VolumeStore, bool), Failure>
     ensures size { IfOk result (λ opened. ⟦<VolumeStore as BlockStore>⟧.size opened.0 ≡ shape.now.hash_block_size) }
+    ensures one { IfErr result (λ e. e ≡ Failure.Word word.Hash
+        → (device : Opened) × R.opens rt.now path.now device × («data» ≡ device.identity)) }
     ensures blames { IfErr result (BlamesAtMost word.Hash) }
 {
     check_block_size(shape.hash_block_size)?;

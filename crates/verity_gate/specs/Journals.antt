@@ -1,8 +1,8 @@
 -- Where a volume's journal stands, what is found there, and whom a call that failed is laid to.
-use Rattle.std.specs.Prelude.{◌≡◌, ◌≢◌, ◌⊎◌, ℕ, Bool, List, [], ◌∷◌, ◌++◌, length, codes, Option, None, Some, IfSome}
-use Rattle.std.specs.Prelude.{is_some, unwrap_or, string_bytes}
+use Rattle.std.specs.Prelude.{◌≡◌, ◌≢◌, ◌⊎◌, ℕ, Bool, List, [], ◌∷◌, ◌++◌, length, codes, Option, None, Some, IfSome, MatchOption}
+use Rattle.std.specs.Prelude.{is_some, unwrap_or, ⊤}
+use Rattle.std.specs.Borrow.{Bor}
 use Rattle.std.specs.Path.{path_file_name}
-use Rattle.std.specs.declared.string.String.{String}
 use Rattle.verity_files.specs.declared.opening.Opened.{Opened}
 use Rattle.verity_files.specs.declared.paths.Paths.{Ghosts}
 use Rattle.verity_files.specs.declared.identity.Identity.{Identity}
@@ -19,25 +19,22 @@ use Rattle.verity_pending.specs.declared.fault.EditFault.TheVariants as edit
 use Rattle.verity_store.specs.declared.fault.StoreFault.TheVariants as store
 use Rattle.verity_store.specs.declared.fault.Which.TheVariants as which
 
--- a path that has this text
-abbrev pub IsAt : {A : Type 0} → List ℕ → Option (String A) → Type 0
-IsAt text (Some path) = string_bytes path ≡ text
-IsAt text None = ⊥
+-- a block device
+abbrev pub IsDevice : Identity → Type 0
+IsDevice (identity.Device number) = ⊤
+IsDevice (identity.File device number) = ⊥
 
--- at the path that is named, or nowhere by the word `none`
-pub record IsNamed {A : Type 0} (text : List ℕ) (path : Option (String A)) : Type 0 where
-  pub none : text ≡ codes "none" → path ≡ None
-  pub named : text ≢ codes "none" → IsAt text path
+-- no journal is named, and HASH, as a device, has none beside it; or none is asked for
+abbrev pub IsWithoutJournal : Option (Bor (List ℕ)) → Identity → Type 0
+IsWithoutJournal named device = MatchOption named (IsDevice device) (λ text. text.now ≡ codes "none")
 
 -- the path beside a hash device: that of the file that its path leads to, with `.journal` behind it
 abbrev pub Beside : {P : Type 0} → Ghosts P → P → List ℕ → List ℕ → Type 0
 Beside facts p hash_path path = (led : List ℕ) × facts.leads p hash_path led × (path ≡ led ++ codes ".journal")
 
--- a regular file has one beside it
-abbrev pub IsBeside : {P A : Type 0} → Ghosts P → P → Identity → List ℕ → Option (String A) → Type 0
-IsBeside facts p (identity.File device number) hash_path (Some path) = Beside facts p hash_path (string_bytes path)
-IsBeside facts p (identity.File device number) hash_path None = ⊥
-IsBeside facts p (identity.Device number) hash_path path = path ≡ None
+-- the journal's path: the one that is named, or the one beside HASH
+abbrev pub IsJournalPath : {P : Type 0} → Ghosts P → P → Option (Bor (List ℕ)) → List ℕ → List ℕ → Type 0
+IsJournalPath facts p named hash_path path = MatchOption named (Beside facts p hash_path path) (λ text. path ≡ text.now)
 
 -- what stands at a path was opened, or there is nothing
 abbrev pub IsFound : {P : Type 0} → Ghosts P → P → List ℕ → Option Opened → Type 0
@@ -89,6 +86,11 @@ AreNames facts p image data_path device hash_path names = (data_name hash_name :
 abbrev pub IsOneOf : {P : Type 0} → Ghosts P → P → List ℕ → (image device : Identity) → Type 0
 IsOneOf facts p path image device = (opened : Opened) × facts.opens p path opened
     × ((opened.identity ≡ image) ⊎ (opened.identity ≡ device))
+
+-- what was opened at the journal's path is one of a volume's two files
+abbrev pub IsInVolume : {P : Type 0} → Ghosts P → P → Option (Bor (List ℕ)) → List ℕ → (image device : Identity) → Type 0
+IsInVolume facts p named hash_path image device = (path : List ℕ) × IsJournalPath facts p named hash_path path
+    × IsOneOf facts p path image device
 
 -- something was opened at a path
 abbrev pub Stands : {P : Type 0} → Ghosts P → P → List ℕ → Type 0

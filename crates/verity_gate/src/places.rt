@@ -1,6 +1,6 @@
 //! Where a volume's journal stands, and the names that it has of the volume's files.
-ghost use Rattle.std.specs.Prelude.{◌≡◌, None, IfSome, IfOk, IfErr, string_bytes};
-ghost use Rattle.verity_gate.specs.Journals.{AreNames, Beside, IsBeside, IsName, IsNamed};
+ghost use Rattle.std.specs.Prelude.{◌≡◌, ◌↔◌, None, IfSome, IfOk, IfErr, string_bytes};
+ghost use Rattle.verity_gate.specs.Journals.{AreNames, Beside, IsJournalPath, IsName, IsWithoutJournal};
 
 use std::path::Path;
 use verity_files::{Failure, Identity, Opened, Paths};
@@ -16,8 +16,8 @@ pub fn journal_path<P: Paths + AllocGlobal>(
     hash: Identity,
     hash_path: &str,
 ) -> Result<Option<String>, Failure>
-    ensures named { IfSome named.entry (λ text. IfOk result (IsNamed text.now)) }
-    ensures beside { named.entry ≡ None → IfOk result (IsBeside P.Paths rt.now hash hash_path.now) }
+    ensures none { IfOk result (λ path. (path ≡ None) ↔ IsWithoutJournal named.entry hash) }
+    ensures path { IfOk result (λ path. IfSome path (λ path. IsJournalPath P.Paths rt.now named.entry hash_path.now (string_bytes path))) }
     ensures refused { IfErr result (λ e. e ≡ Failure.NoMemory) }
 {
     match (named, hash) {

@@ -1,7 +1,12 @@
--- What a volume's files are opened with.
-use Rattle.std.specs.Prelude.{◌≡◌, ℕ, Option, Some, None}
+-- What a volume's files are opened with, and when they are one.
+use Rattle.std.specs.Prelude.{◌≡◌, ◌⊎◌, ℕ, List, Option, Some, None}
 use Rattle.verity_superblock.specs.Image.{CanBegin, start_behind}
 use Rattle.verity_superblock.specs.Line.{TableLine}
+use Rattle.verity_files.specs.Words.{paths_refusal}
+use Rattle.verity_files.specs.declared.failure.Failure.TheVariants as failure
+use Rattle.verity_files.specs.declared.failure.Word.TheVariants as word
+use Rattle.verity_files.specs.declared.opening.Opened.{Opened}
+use Rattle.verity_files.specs.declared.paths.Paths.{Ghosts}
 use Rattle.verity_volume.specs.declared.opened_volume.Sizes.{Sizes}
 
 -- what a table line says
@@ -20,3 +25,13 @@ pub record AreAt (offset : ℕ) (sizes : Sizes) : Type 0 where
 abbrev pub AreSizes : Option TableLine → ℕ → Sizes → Type 0
 AreSizes (Some table) offset sizes = AreOf table sizes
 AreSizes None offset sizes = AreAt offset sizes
+
+-- one file was opened at both paths
+abbrev pub IsOneFile : {P : Type 0} → Ghosts P → P → (data_path hash_path : List ℕ) → Type 0
+IsOneFile facts p data_path hash_path = (image device : Opened) × facts.opens p data_path image × facts.opens p hash_path device
+    × (image.identity ≡ device.identity)
+
+-- HASH isn't understood: its path doesn't fit beside DATA's, or one file was opened at both
+abbrev pub MisnamesHash : {P : Type 0} → Ghosts P → P → (data_path hash_path : List ℕ) → Type 0
+MisnamesHash facts p data_path hash_path = (paths_refusal data_path hash_path ≡ Some (failure.Word word.Hash))
+    ⊎ IsOneFile facts p data_path hash_path

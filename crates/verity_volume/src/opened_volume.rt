@@ -5,7 +5,7 @@ ghost use Rattle.verity_files.specs.Misread.{IsMisread};
 ghost use Rattle.verity_files.specs.VolumeFiles.{LiesIn, room_in};
 ghost use Rattle.verity_files.specs.Words.{number_in};
 ghost use Rattle.verity_files.specs.declared.failure.Word.TheVariants as word;
-ghost use Rattle.verity_volume.specs.Opening.{AreAt, AreSizes};
+ghost use Rattle.verity_volume.specs.Opening.{AreAt, AreSizes, IsOneFile};
 ghost use Rattle.verity_gate.specs.Refusals.{BlamesNone, BlamesAtMost};
 
 use crate::superblock::read_superblock;
@@ -39,7 +39,8 @@ pub struct Sizes {
     pub hash_room: u64,
 }
 
-/// Opens both files and takes their locks. That there is no DATA is told only once HASH was found to hold a superblock.
+/// Opens both files and takes their locks. That there is no DATA is told only once HASH was found to hold a superblock. HASH isn't
+/// understood where it leads to the file that DATA leads to.
 pub fn open_both<P: Paths>(
     rt: &P,
     data_path: &str,
@@ -49,6 +50,7 @@ pub fn open_both<P: Paths>(
     ensures data { IfOk result (λ both. IfOk both.0 (P.opens rt.now data_path.now)) }
     ensures hash { IfOk result (λ both. P.opens rt.now hash_path.now both.1) }
     ensures apart { IfOk result (λ both. IfOk both.0 (λ opened. opened.identity ≢ both.1.identity)) }
+    ensures one { IfErr result (λ e. e ≡ Failure.Word word.Hash → IsOneFile P.Paths rt.now data_path.now hash_path.now) }
     ensures refused { IfErr result (BlamesAtMost word.Hash) }
 {
     let hash = open_there(rt, hash_path, command, Which::Hash)?;

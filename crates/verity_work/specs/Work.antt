@@ -1,12 +1,17 @@
 -- What is printed where a work is done over a volume, and which words it blames.
 use Rattle.std.specs.Prelude.{◌≡◌, ◌⊎◌, ℕ, List, Option, IfSome, MatchOption, ⊤}
+use Rattle.std.specs.Borrow.{Bor}
 use Rattle.verity_files.specs.declared.failure.Failure.{Failure}
 use Rattle.verity_files.specs.declared.failure.Failure.TheVariants as failure
 use Rattle.verity_files.specs.declared.failure.Word.{Word}
 use Rattle.verity_files.specs.declared.failure.Word.TheVariants as word
 use Rattle.verity_files.specs.declared.identity.Identity.{Identity}
 use Rattle.verity_files.specs.declared.opening.Opened.{Opened}
+use Rattle.verity_files.specs.declared.paths.Paths.{Ghosts}
+use Rattle.verity_gate.specs.Journals.{IsInVolume}
+use Rattle.verity_volume.specs.Opening.{IsOneFile}
 use Rattle.verity_volume.specs.declared.lines.Devices.{Devices}
+use Rattle.verity_work.specs.declared.work.Words.{Words}
 
 -- what a work prints, by the bytes that are read at a path, over a volume on these devices, and its status
 abbrev pub Prints : Type 0 → Type 1
@@ -36,16 +41,19 @@ abbrev pub IsReasonAt : ((Identity → Type 0) → Type 0) → (List ℕ → Ope
 IsReasonAt reason opens data_path hash_path = (image : Option Opened) × (device : Opened)
     × IfSome image (opens data_path) × opens hash_path device × reason (IsEither image device)
 
--- no word is blamed but HASH, the journal and, for this reason, these; of the two it isn't said when
-abbrev pub BlamesOver : (Word → Type 0) → Type 0 → Failure → Type 0
-BlamesOver own reason (failure.Word word.Hash) = ⊤
-BlamesOver own reason (failure.Word word.Journal) = ⊤
-BlamesOver own reason (failure.Word other) = own other × reason
-BlamesOver own reason _ = ⊤
+-- no word is blamed but, for this reason, these
+abbrev pub BlamesOwn : (Word → Type 0) → Type 0 → Failure → Type 0
+BlamesOwn own reason (failure.Word other) = own other × reason
+BlamesOwn own reason _ = ⊤
 
--- no word is blamed but HASH and the journal
-abbrev pub BlamesVolume : Failure → Type 0
-BlamesVolume (failure.Word word.Hash) = ⊤
-BlamesVolume (failure.Word word.Journal) = ⊤
-BlamesVolume (failure.Word _) = ⊥
-BlamesVolume _ = ⊤
+-- what was opened at the journal's path is what was opened at one of the volume's
+abbrev pub IsTakenForJournal : {P : Type 0} → Ghosts P → P → Option (Bor (List ℕ)) → (data_path hash_path : List ℕ) → Type 0
+IsTakenForJournal facts p journal data_path hash_path = (image device : Opened) × facts.opens p data_path image
+    × facts.opens p hash_path device × IsInVolume facts p journal hash_path image.identity device.identity
+
+-- no word is blamed but HASH, as one file was opened at both paths, the journal, as one of the two was opened at its own, and these
+abbrev pub BlamesOver : {P : Type 0} → Ghosts P → P → Words → (Word → Type 0) → Type 0 → Failure → Type 0
+BlamesOver facts p words own reason (failure.Word other) = (own other × reason)
+    ⊎ (((other ≡ word.Hash) × IsOneFile facts p words.data_path.now words.hash_path.now)
+    ⊎ ((other ≡ word.Journal) × IsTakenForJournal facts p words.journal words.data_path.now words.hash_path.now))
+BlamesOver facts p words own reason _ = ⊤

@@ -1,8 +1,10 @@
 //! A volume, opened to be edited, and its journal.
-ghost use Rattle.std.specs.Prelude.{◌≡◌, IfOk, IfErr};
+ghost use Rattle.std.specs.Prelude.{◌≡◌, Ok, IfSome, IfOk, IfErr, string_bytes};
 ghost use Rattle.verity_files.specs.declared.failure.Word.TheVariants as word;
+ghost use Rattle.verity_files.specs.declared.opening.Opened.{Opened};
+ghost use Rattle.verity_gate.specs.Journals.{IsJournalPath, IsOneOf};
 ghost use Rattle.verity_gate.specs.Refusals.{BlamesNone, BlamesAtMost};
-ghost use Rattle.verity_work.specs.Work.{BlamesOver, BlamesVolume, IsDoneAt, IsReasonAt, PrintsAsBefore};
+ghost use Rattle.verity_work.specs.Work.{BlamesOver, BlamesOwn, IsDoneAt, IsReasonAt, PrintsAsBefore};
 
 use crate::ways::{do_in_place, do_staged};
 use crate::work::{Words, Work};
@@ -25,8 +27,8 @@ pub fn do_over<R: Paths + Clock + Eprint + AllocGlobal, T: Work, W: Write, E: Wr
 ) -> Result<u8, Failure>
     ensures done { IfOk result (λ status. IsDoneAt (T.prints work.old (R.text rt.now)) words.now.data_path.now words.now.hash_path.now
         (W.contents output.old) (W.contents output.new) status) }
-    ensures blames { IfErr result (BlamesOver T.blamed (IsReasonAt (T.reason work.old (R.opens rt.now)) (R.opens rt.now)
-        words.now.data_path.now words.now.hash_path.now)) }
+    ensures blames { IfErr result (BlamesOver R.Paths rt.now words.now T.blamed (IsReasonAt (T.reason work.old (R.opens rt.now))
+        (R.opens rt.now) words.now.data_path.now words.now.hash_path.now)) }
 {
     let line = match words.table {
         Some(text) => Some(Table::parse(rt.alloc(), text)?),
@@ -56,7 +58,7 @@ fn begin<R: Paths + AllocGlobal, T: Work>(
     requires data { IfOk «data».now (R.opens rt.now words.now.data_path.now) }
     requires hash { R.opens rt.now words.now.hash_path.now hash.now }
     ensures prints { PrintsAsBefore T.prints work.old work.new }
-    ensures blames { IfErr result (BlamesOver T.blamed (IsReasonAt (T.reason work.old (R.opens rt.now)) (R.opens rt.now)
+    ensures blames { IfErr result (BlamesOwn T.blamed (IsReasonAt (T.reason work.old (R.opens rt.now)) (R.opens rt.now)
         words.now.data_path.now words.now.hash_path.now)) }
 {
     match data {
@@ -71,7 +73,9 @@ fn journal_of<R: Paths + AllocGlobal>(
     words: &Words<'_>,
     hash: &Opened,
 ) -> Result<Option<String>, Failure>
-    ensures { IfErr result BlamesNone }
+    ensures path { IfOk result (λ path. IfSome path (λ path. IsJournalPath R.Paths rt.now words.now.journal words.now.hash_path.now
+        (string_bytes path))) }
+    ensures refused { IfErr result BlamesNone }
 {
     if let Some(named) = words.journal {
         check_other_gate(rt, words.hash_path, named)?;
@@ -93,7 +97,9 @@ fn do_through<R: Paths + Clock + Eprint + AllocGlobal, T: Work, W: Write, E: Wri
 ) -> Result<u8, Failure>
     ensures done { IfOk result (λ status. IsDoneAt (T.prints work.old (R.text rt.now)) words.now.data_path.now words.now.hash_path.now
         (W.contents output.old) (W.contents output.new) status) }
-    ensures blames { IfErr result BlamesVolume }
+    ensures word { IfErr result (λ e. e ≡ Failure.Word word.Journal → (image : Opened) × («data» ≡ Ok image)
+        × IsOneOf R.Paths rt.now path.now image.identity hash.identity) }
+    ensures refused { IfErr result (BlamesAtMost word.Journal) }
 {
     let Ok(data) = data else {
         return do_in_place(rt, words, line, work, data, hash, output, errors);
@@ -115,7 +121,9 @@ fn journalled<'a, R: Paths + AllocGlobal, E: Write>(
     hash: &Opened,
     errors: &mut E,
 ) -> Result<Journalled<'a, R>, Failure>
-    ensures { IfErr result (BlamesAtMost word.Journal) }
+    ensures word { IfErr result (λ e. e ≡ Failure.Word word.Journal
+        → IsOneOf R.Paths rt.now path.now data.now.identity hash.now.identity) }
+    ensures refused { IfErr result (BlamesAtMost word.Journal) }
 {
     let keeper = make_whole(rt, words, path, data, hash, names, errors)?;
     let data = data.seen_again()?;
@@ -133,7 +141,9 @@ fn make_whole<R: Paths + AllocGlobal, E: Write>(
     names: &str,
     errors: &mut E,
 ) -> Result<Option<FileKeeper>, Failure>
-    ensures { IfErr result (BlamesAtMost word.Journal) }
+    ensures word { IfErr result (λ e. e ≡ Failure.Word word.Journal
+        → IsOneOf R.Paths rt.now path.now data.now.identity hash.now.identity) }
+    ensures refused { IfErr result (BlamesAtMost word.Journal) }
 {
     let Some(found) = recover_files(rt, path, data, hash, names)? else {
         return Ok(None);

@@ -1,6 +1,6 @@
 //! A work over an editor, of the volume whole or under a table line.
 ghost use Rattle.std.specs.Prelude.{◌≡◌, IfOk, IfErr};
-ghost use Rattle.verity_work.specs.Work.{BlamesVolume};
+ghost use Rattle.verity_gate.specs.Refusals.{BlamesNone};
 
 use crate::rest::Rest;
 use crate::work::Work;
@@ -36,7 +36,7 @@ pub(crate) fn run_under<
 ) -> Result<u8, Failure>
     ensures done { IfOk result (λ status. T.prints work.old (R.text rt.now) rest.entry.devices
         (W.contents output.old) (W.contents output.new) status) }
-    ensures blames { IfErr result BlamesVolume }
+    ensures blames { IfErr result BlamesNone }
 {
     match LineEditor::open_under(rt.alloc(), data_store, hash_store, table) {
         Ok(editor) => work.run(
@@ -72,7 +72,7 @@ pub(crate) fn run_whole<
 ) -> Result<u8, Failure>
     ensures done { IfOk result (λ status. T.prints work.old (R.text rt.now) rest.entry.devices
         (W.contents output.old) (W.contents output.new) status) }
-    ensures blames { IfErr result BlamesVolume }
+    ensures blames { IfErr result BlamesNone }
 {
     match opened {
         Ok(editor) => work.run(

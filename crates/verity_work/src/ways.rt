@@ -1,6 +1,7 @@
 //! The two ways to a volume's files: at once, or by what is staged and a journal.
 ghost use Rattle.std.specs.Prelude.{◌≡◌, IfOk, IfErr};
-ghost use Rattle.verity_work.specs.Work.{BlamesVolume, IsDoneAt};
+ghost use Rattle.verity_gate.specs.Refusals.{BlamesNone};
+ghost use Rattle.verity_work.specs.Work.{IsDoneAt};
 
 use crate::rest::{Rest, rest_of};
 use crate::running::{open_whole, run_under, run_whole};
@@ -29,7 +30,7 @@ pub(crate) fn do_in_place<R: Paths + Clock + Eprint + AllocGlobal, T: Work, W: W
 ) -> Result<u8, Failure>
     ensures done { IfOk result (λ status. IsDoneAt (T.prints work.old (R.text rt.now)) words.now.data_path.now words.now.hash_path.now
         (W.contents output.old) (W.contents output.new) status) }
-    ensures blames { IfErr result BlamesVolume }
+    ensures blames { IfErr result BlamesNone }
 {
     let volume = open_volume(rt.alloc(), &line, words.offset, data, hash)?;
     work.see(volume.sizes.data_block_size)?;
@@ -51,7 +52,7 @@ fn run_in_place_under<R: Paths + Clock + Eprint + AllocGlobal, T: Work, W: Write
 ) -> Result<u8, Failure>
     ensures done { IfOk result (λ status. IsDoneAt (T.prints work.old (R.text rt.now)) words.now.data_path.now words.now.hash_path.now
         (W.contents output.old) (W.contents output.new) status) }
-    ensures blames { IfErr result BlamesVolume }
+    ensures blames { IfErr result BlamesNone }
 {
     let rest = rest_of(words, volume.again, volume.sizes);
     let data_store = volume.data_store;
@@ -80,7 +81,7 @@ fn run_in_place_whole<R: Paths + Clock + Eprint + AllocGlobal, T: Work, W: Write
 ) -> Result<u8, Failure>
     ensures done { IfOk result (λ status. IsDoneAt (T.prints work.old (R.text rt.now)) words.now.data_path.now words.now.hash_path.now
         (W.contents output.old) (W.contents output.new) status) }
-    ensures blames { IfErr result BlamesVolume }
+    ensures blames { IfErr result BlamesNone }
 {
     let rest = rest_of(words, volume.again, volume.sizes);
     let progress = progress_of(rt, words.is_watched, &volume.data_store);
@@ -119,7 +120,7 @@ fn run_direct<
 ) -> Result<u8, Failure>
     ensures done { IfOk result (λ status. T.prints work.old (R.text rt.now) rest.entry.devices
         (W.contents output.old) (W.contents output.new) status) }
-    ensures blames { IfErr result BlamesVolume }
+    ensures blames { IfErr result BlamesNone }
 {
     let opened = open_whole(rt.alloc(), data_store, hash_store, offset);
     end_progress(progress);
@@ -138,7 +139,7 @@ pub(crate) fn do_staged<R: Paths + Clock + Eprint + AllocGlobal, T: Work, W: Wri
 ) -> Result<u8, Failure>
     ensures done { IfOk result (λ status. IsDoneAt (T.prints work.old (R.text rt.now)) words.now.data_path.now words.now.hash_path.now
         (W.contents output.old) (W.contents output.new) status) }
-    ensures blames { IfErr result BlamesVolume }
+    ensures blames { IfErr result BlamesNone }
 {
     let (data, hash) = commits.files()?;
     let volume = open_volume(rt.alloc(), &line, words.offset, Ok(data), hash)?;
@@ -162,7 +163,7 @@ fn run_staged_under<R: Paths + Clock + Eprint + AllocGlobal, T: Work, W: Write, 
 ) -> Result<u8, Failure>
     ensures done { IfOk result (λ status. IsDoneAt (T.prints work.old (R.text rt.now)) words.now.data_path.now words.now.hash_path.now
         (W.contents output.old) (W.contents output.new) status) }
-    ensures blames { IfErr result BlamesVolume }
+    ensures blames { IfErr result BlamesNone }
 {
     let rest = rest_of(words, volume.again, volume.sizes);
     let data_store = volume.data_store;
@@ -193,7 +194,7 @@ fn run_staged_line<
 ) -> Result<u8, Failure>
     ensures done { IfOk result (λ status. T.prints work.old (R.text rt.now) rest.entry.devices
         (W.contents output.old) (W.contents output.new) status) }
-    ensures blames { IfErr result BlamesVolume }
+    ensures blames { IfErr result BlamesNone }
 {
     let data = Staged::new(rt.alloc(), data_store)?;
     let hash = Staged::new(rt.alloc(), hash_store)?;
@@ -212,7 +213,7 @@ fn run_staged_whole<R: Paths + Clock + Eprint + AllocGlobal, T: Work, W: Write, 
 ) -> Result<u8, Failure>
     ensures done { IfOk result (λ status. IsDoneAt (T.prints work.old (R.text rt.now)) words.now.data_path.now words.now.hash_path.now
         (W.contents output.old) (W.contents output.new) status) }
-    ensures blames { IfErr result BlamesVolume }
+    ensures blames { IfErr result BlamesNone }
 {
     let rest = rest_of(words, volume.again, volume.sizes);
     let progress = progress_of(rt, words.is_watched, &volume.data_store);
@@ -253,7 +254,7 @@ fn run_staged<
 ) -> Result<u8, Failure>
     ensures done { IfOk result (λ status. T.prints work.old (R.text rt.now) rest.entry.devices
         (W.contents output.old) (W.contents output.new) status) }
-    ensures blames { IfErr result BlamesVolume }
+    ensures blames { IfErr result BlamesNone }
 {
     let data = Staged::new(rt.alloc(), data_store)?;
     let hash = Staged::new(rt.alloc(), hash_store)?;

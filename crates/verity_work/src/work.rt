@@ -1,7 +1,8 @@
 //! What is done over a volume, and over which one.
 ghost use Rattle.std.specs.Prelude.{◌≡◌, ◌⊎◌, IfOk, IfErr, MatchOption};
 ghost use Rattle.verity_files.specs.declared.failure.Word.{Word};
-ghost use Rattle.verity_work.specs.Work.{BlamesOver, BlamesVolume, Prints, PrintsAsBefore, Reason};
+ghost use Rattle.verity_gate.specs.Refusals.{BlamesNone};
+ghost use Rattle.verity_work.specs.Work.{BlamesOwn, Prints, PrintsAsBefore, Reason};
 
 use std::io::{Eprint, Write};
 use std::time::Clock;
@@ -41,13 +42,13 @@ pub trait Work {
         hash: &Opened,
     ) -> Result<(), Failure>
         ensures prints { PrintsAsBefore prints self.old self.new }
-        ensures blames { IfErr result (BlamesOver blamed (reason self.old (R.opens rt.now) (λ identity. (identity ≡ hash.now.identity)
+        ensures blames { IfErr result (BlamesOwn blamed (reason self.old (R.opens rt.now) (λ identity. (identity ≡ hash.now.identity)
             ⊎ MatchOption «data».entry ⊥ (λ opened. identity ≡ opened.now.identity)))) };
 
     /// Looks at it, once the size of a data block is known.
     fn see(&mut self, data_block_size: usize) -> Result<(), Failure>
         ensures prints { PrintsAsBefore prints self.old self.new }
-        ensures blames { IfErr result BlamesVolume };
+        ensures blames { IfErr result BlamesNone };
 
     /// Does it. `hash` is HASH, to be read once more.
     fn run<
@@ -68,5 +69,5 @@ pub trait Work {
     ) -> Result<u8, Failure>
         ensures done { IfOk result (λ status. prints self.old (R.text rt.now) devices.entry
             (W.contents output.old) (W.contents output.new) status) }
-        ensures blames { IfErr result BlamesVolume };
+        ensures blames { IfErr result BlamesNone };
 }

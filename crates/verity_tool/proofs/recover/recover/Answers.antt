@@ -1,6 +1,6 @@
 use Rattle.std.proofs.Common.{rules, inl, inr, string_bytes, subst}
 use Rattle.verity_gate.specs.Journals.{IsOneOf}
-use Rattle.verity_tool.proofs.Journals.{blamed, none_named, some_named}
+use Rattle.verity_tool.proofs.Journals.{blamed}
 use Rattle.verity_tool.proofs.recover.recover.Goals.{then-is_recovered+in_ok-writeln, else-is_recovered+in_ok-writeln-2}
 use Rattle.verity_tool.proofs.recover.recover.Goals as goal
 
@@ -18,16 +18,13 @@ returns-in_default-clause-blames g c =
       c.in_ok-data.hash,
       opened,
       c.in_ok-data.ensures.hash,
-      inl (none_named g.R.Paths c.args.rt.now (λ text. text.now) c.in_ok-data.hash.identity words.hash_path.now c.in_ok-path.field-0
-          c.in_default.is words.journal c.in_ok-path.ensures.named c.in_ok-path.ensures.beside),
+      inl (c.in_ok-path.ensures.none.0 c.in_default.is),
     )
 
 pub returns-in_err-found-clause-blames : goal.returns-in_err-found-clause-blames
 returns-in_err-found-clause-blames g c =
     let words = c.args.words.now in
     let opened : g.R.Paths.opens c.args.rt.now words.data_path.now c.in_ok-data-2.data = search rules in
-    let at = some_named g.R.Paths c.args.rt.now (λ text. text.now) c.in_ok-data.hash.identity words.hash_path.now c.in_ok-path.field-0
-    c.in-Some.path c.in-Some.is words.journal c.in_ok-path.ensures.named c.in_ok-path.ensures.beside in
     blamed g.R.Paths c.args.rt.now words c.from_residual-in_err-found.result c.in_err-found.field-0.0
     c.from_residual-in_err-found.ensures.1 c.in_err-found.ensures.refused
     (λ is. (
@@ -37,7 +34,7 @@ returns-in_err-found-clause-blames g c =
       c.in_ok-data.ensures.hash,
       inr (
         string_bytes c.in-Some.path,
-        at,
+        search rules,
         subst (λ path. IsOneOf g.R.Paths c.args.rt.now path c.in_ok-data-2.data.identity c.in_ok-data.hash.identity) c.deref.ensures
             (c.in_err-found.ensures.word is),
       ),
