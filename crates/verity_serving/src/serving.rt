@@ -41,6 +41,24 @@ pub fn serve<
     let cache = number(Word::Cache, words.cache)? as usize;
     let count = sessions(words.sessions)?;
     let limits = limits(words)?;
+    serve_over(rt, words, cache, limits, count, output)
+}
+
+/// Opens the volume, and serves it at the address.
+fn serve_over<
+    R: Files<File = File> + Net<Stream = TcpStream, Listener = TcpListener> + Clock + AllocGlobal,
+    W: Write,
+>(
+    rt: &R,
+    words: &ServeWords<'_>,
+    cache: usize,
+    limits: Limits,
+    count: u64,
+    output: &mut W,
+) -> Result<u8, Failure>
+    ensures done { result ≡ Ok 0 → IsServed (W.contents output.old) (W.contents output.new) count true }
+    ensures blames { IfErr result BlamesNone }
+{
     let mut hub = open_hub(rt, words.table, words.name, cache, Command::Serve)?;
     listen(rt, &mut hub, words.listen, limits, count, output)
 }

@@ -6,7 +6,7 @@ ghost use Rattle.verity_gate.specs.Journals.{IsJournalPath, IsOneOf};
 ghost use Rattle.verity_gate.specs.Refusals.{BlamesNone, BlamesAtMost};
 ghost use Rattle.verity_work.specs.Work.{BlamesOver, BlamesOwn, IsDoneAt, IsReasonAt, PrintsAsBefore};
 
-use crate::ways::{do_in_place, do_staged};
+use crate::ways::{Given, do_in_place, do_staged};
 use crate::work::{Words, Work};
 use std::io::{Eprint, Write};
 use std::time::Clock;
@@ -35,14 +35,15 @@ pub fn do_over<R: Paths + Clock + Eprint + AllocGlobal, T: Work, W: Write, E: Wr
         None => None,
     };
     let (data, hash) = open_both(rt, words.data_path, words.hash_path, words.command)?;
-    begin(rt, words, work, &data, &hash)?;
-    match journal_of(rt, words, &hash)? {
-        Some(path) => do_through(rt, words, line, work, &path, data, hash, output, errors),
+    let given = Given { line, data, hash };
+    begin(rt, words, work, &given.data, &given.hash)?;
+    match journal_of(rt, words, &given.hash)? {
+        Some(path) => do_through(rt, words, work, &path, given, output, errors),
         None => {
             if words.journal.is_none() {
                 explain_no_journal(words.hash_path, errors);
             }
-            do_in_place(rt, words, line, work, data, hash, output, errors)
+            do_in_place(rt, words, work, given, output, errors)
         }
     }
 }
@@ -87,22 +88,21 @@ fn journal_of<R: Paths + AllocGlobal>(
 fn do_through<R: Paths + Clock + Eprint + AllocGlobal, T: Work, W: Write, E: Write>(
     rt: &R,
     words: &Words<'_>,
-    line: Option<Table>,
     work: &mut T,
     path: &str,
-    data: Result<Opened, StoreFault>,
-    hash: Opened,
+    given: Given,
     output: &mut W,
     errors: &mut E,
 ) -> Result<u8, Failure>
     ensures done { IfOk result (λ status. IsDoneAt (T.prints work.old (R.text rt.now)) words.now.data_path.now words.now.hash_path.now
         (W.contents output.old) (W.contents output.new) status) }
-    ensures word { IfErr result (λ e. e ≡ Failure.Word word.Journal → (image : Opened) × («data» ≡ Ok image)
-        × IsOneOf R.Paths rt.now path.now image.identity hash.identity) }
+    ensures word { IfErr result (λ e. e ≡ Failure.Word word.Journal → (image : Opened) × (given.«data» ≡ Ok image)
+        × IsOneOf R.Paths rt.now path.now image.identity given.hash.identity) }
     ensures refused { IfErr result (BlamesAtMost word.Journal) }
 {
+    let Given { line, data, hash } = given;
     let Ok(data) = data else {
-        return do_in_place(rt, words, line, work, data, hash, output, errors);
+        return do_in_place(rt, words, work, Given { line, data, hash }, output, errors);
     };
     let names = volume_names(rt, &data, words.data_path, &hash, words.hash_path)?;
     let mut commits = journalled(rt, words, path, &names, &data, &hash, errors)?;

@@ -12,24 +12,20 @@ use verity_files::{Failure, Paths};
 use verity_line::LineEditor;
 use verity_store::BlockStore;
 use verity_superblock::Table;
-use verity_volume::Commits;
+use verity_update::Edited;
+use verity_volume::{Direct, Edits, Journalled, StagedEdits};
 
-/// Does the work under a table line. The opening reads no data block.
-pub(crate) fn run_under<
+/// Does the work over an editor, where one was opened, whose stores are the files themselves.
+pub(crate) fn run_direct<
     R: Paths + Clock + Eprint + AllocGlobal,
     T: Work,
-    D: BlockStore + Drop,
-    H: BlockStore + Drop,
-    C: Commits<LineEditor<D, H>>,
+    V: Edits + Edited,
     W: Write,
     E: Write,
 >(
     rt: &R,
     work: &mut T,
-    table: Table,
-    data_store: D,
-    hash_store: H,
-    commits: &mut C,
+    opened: Result<V, EditFault>,
     rest: Rest<'_>,
     output: &mut W,
     errors: &mut E,
@@ -38,34 +34,32 @@ pub(crate) fn run_under<
         (W.contents output.old) (W.contents output.new) status) }
     ensures blames { IfErr result BlamesNone }
 {
-    match LineEditor::open_under(rt.alloc(), data_store, hash_store, table) {
+    match opened {
         Ok(editor) => work.run(
             rt,
             editor,
-            commits,
+            &mut Direct,
             rest.again,
             rest.devices,
             output,
             errors,
         ),
-        Err(refused) => Err(refused.fault.into()),
+        Err(fault) => Err(fault.into()),
     }
 }
 
-/// Does the work over a volume that was read whole, where it was opened.
-pub(crate) fn run_whole<
+/// Does the work over an editor, where one was opened, whose commits go through a journal.
+pub(crate) fn run_journalled<
     R: Paths + Clock + Eprint + AllocGlobal,
     T: Work,
-    D: BlockStore + Drop,
-    H: BlockStore + Drop,
-    C: Commits<Editor<D, H>>,
+    V: StagedEdits + Edited,
     W: Write,
     E: Write,
 >(
     rt: &R,
     work: &mut T,
-    opened: Result<Editor<D, H>, EditFault>,
-    commits: &mut C,
+    opened: Result<V, EditFault>,
+    commits: &mut Journalled<'_, R>,
     rest: Rest<'_>,
     output: &mut W,
     errors: &mut E,
@@ -85,6 +79,19 @@ pub(crate) fn run_whole<
             errors,
         ),
         Err(fault) => Err(fault.into()),
+    }
+}
+
+/// Opens the volume under a table line, which reads no data block.
+pub(crate) fn open_under<D: BlockStore + Drop, H: BlockStore + Drop>(
+    alloc: Global,
+    data_store: D,
+    hash_store: H,
+    table: Table,
+) -> Result<LineEditor<D, H>, EditFault> {
+    match LineEditor::open_under(alloc, data_store, hash_store, table) {
+        Ok(editor) => Ok(editor),
+        Err(refused) => Err(refused.fault),
     }
 }
 

@@ -4,7 +4,7 @@ ghost use Rattle.verity_gate.specs.Refusals.{BlamesNone};
 ghost use Rattle.verity_work.specs.Work.{IsDoneAt};
 
 use crate::rest::{Rest, rest_of};
-use crate::running::{open_whole, run_under, run_whole};
+use crate::running::{open_under, open_whole, run_direct, run_journalled};
 use crate::work::{Words, Work};
 use std::io::{Eprint, Write};
 use std::time::Clock;
@@ -12,19 +12,23 @@ use verity_files::{Failure, Opened, Paths};
 use verity_stage::Staged;
 use verity_store::{BlockStore, StoreFault};
 use verity_superblock::Table;
-use verity_volume::{
-    Direct, Journalled, OpenedVolume, OverFile, end_progress, open_volume, progress_of,
-};
+use verity_volume::{Journalled, OpenedVolume, OverFile, end_progress, open_volume, progress_of};
 use verity_watch::{Progress, Watched};
+
+/// What a work is done over: the table line, where one is trusted, and what was opened at both paths, of which DATA may be missing.
+#[derive(Drop)]
+pub(crate) struct Given {
+    pub(crate) line: Option<Table>,
+    pub(crate) data: Result<Opened, StoreFault>,
+    pub(crate) hash: Opened,
+}
 
 /// Works on the files themselves.
 pub(crate) fn do_in_place<R: Paths + Clock + Eprint + AllocGlobal, T: Work, W: Write, E: Write>(
     rt: &R,
     words: &Words<'_>,
-    line: Option<Table>,
     work: &mut T,
-    data: Result<Opened, StoreFault>,
-    hash: Opened,
+    given: Given,
     output: &mut W,
     errors: &mut E,
 ) -> Result<u8, Failure>
@@ -32,6 +36,7 @@ pub(crate) fn do_in_place<R: Paths + Clock + Eprint + AllocGlobal, T: Work, W: W
         (W.contents output.old) (W.contents output.new) status) }
     ensures blames { IfErr result BlamesNone }
 {
+    let Given { line, data, hash } = given;
     let volume = open_volume(rt.alloc(), &line, words.offset, data, hash)?;
     work.see(volume.sizes.data_block_size)?;
     match line {
@@ -55,19 +60,8 @@ fn run_in_place_under<R: Paths + Clock + Eprint + AllocGlobal, T: Work, W: Write
     ensures blames { IfErr result BlamesNone }
 {
     let rest = rest_of(words, volume.again, volume.sizes);
-    let data_store = volume.data_store;
-    let hash_store = volume.hash_store;
-    run_under(
-        rt,
-        work,
-        table,
-        data_store,
-        hash_store,
-        &mut Direct,
-        rest,
-        output,
-        errors,
-    )
+    let opened = open_under(rt.alloc(), volume.data_store, volume.hash_store, table);
+    run_direct(rt, work, opened, rest, output, errors)
 }
 
 /// Works on the stores of a volume that is read whole.
@@ -86,7 +80,7 @@ fn run_in_place_whole<R: Paths + Clock + Eprint + AllocGlobal, T: Work, W: Write
     let rest = rest_of(words, volume.again, volume.sizes);
     let progress = progress_of(rt, words.is_watched, &volume.data_store);
     let data_store = Watched::new(volume.data_store, progress.as_ref());
-    run_direct(
+    run_watched(
         rt,
         work,
         data_store,
@@ -100,7 +94,7 @@ fn run_in_place_whole<R: Paths + Clock + Eprint + AllocGlobal, T: Work, W: Write
 }
 
 /// Opens two stores, which reads them whole, and does the work. The meter's line is cleared in between.
-fn run_direct<
+fn run_watched<
     R: Paths + Clock + Eprint + AllocGlobal,
     T: Work,
     D: BlockStore + Drop,
@@ -124,7 +118,7 @@ fn run_direct<
 {
     let opened = open_whole(rt.alloc(), data_store, hash_store, offset);
     end_progress(progress);
-    run_whole(rt, work, opened, &mut Direct, rest, output, errors)
+    run_direct(rt, work, opened, rest, output, errors)
 }
 
 /// Works on stores that are staged over the files.
@@ -198,7 +192,8 @@ fn run_staged_line<
 {
     let data = Staged::new(rt.alloc(), data_store)?;
     let hash = Staged::new(rt.alloc(), hash_store)?;
-    run_under(rt, work, table, data, hash, commits, rest, output, errors)
+    let opened = open_under(rt.alloc(), data, hash, table);
+    run_journalled(rt, work, opened, commits, rest, output, errors)
 }
 
 /// Works on stores that are staged over a volume that is read whole.
@@ -260,5 +255,5 @@ fn run_staged<
     let hash = Staged::new(rt.alloc(), hash_store)?;
     let opened = open_whole(rt.alloc(), data, hash, offset);
     end_progress(progress);
-    run_whole(rt, work, opened, commits, rest, output, errors)
+    run_journalled(rt, work, opened, commits, rest, output, errors)
 }

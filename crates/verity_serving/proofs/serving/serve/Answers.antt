@@ -5,5 +5,5 @@ pub returns-clause-done : goal.returns-clause-done
 returns-clause-done g c is = record {
   sessions = c.in_ok-count.count;
   asked = sym c.sessions.ensures ∙ c.in_ok-count.was;
-  served = c.listen.ensures.done is;
+  served = c.serve_over.ensures.done is;
 }
