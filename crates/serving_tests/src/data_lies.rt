@@ -4,14 +4,22 @@ use crate::clients::{Reads, Script, hash_17, other_image, scripted};
 use crate::hubs::tells_over;
 use std::alloc::Global;
 use std::test::Fail;
+use test_stores::ScriptStore;
 use test_volumes::image;
 
 /// Whether both sessions are told what they should where the data store lies.
 fn tells_of_data(alloc: Global, cache: usize, script: Script, reads: Reads) -> Result<bool, Fail> {
+    let hash = hash_17(alloc)?;
+    let data = lying(alloc, script)?;
+    tells_over(alloc, data, hash, cache, reads)
+}
+
+/// A data store that does as scripted, and has the blocks of both volumes to give.
+fn lying(alloc: Global, script: Script) -> Result<ScriptStore, Fail> {
+    let other = other_image(alloc)?;
     let mut gives = image(alloc, 17)?;
-    gives.extend_from_slice(&other_image(alloc)?)?;
-    let data = scripted(alloc, 17, &gives, script)?;
-    tells_over(alloc, data, hash_17(alloc)?, cache, reads)
+    gives.extend_from_slice(&other)?;
+    scripted(alloc, 17, &gives, script)
 }
 
 /// Lies of a data store, which has the volume's 17 blocks to give, and then those of another volume.
@@ -63,11 +71,14 @@ static DATA_LIES: [(&str, Script, Reads); 7] = [
     ),
 ];
 
+/// How many blocks the caches hold.
+const CACHES: [usize; 2] = [1, 4];
+
 #[test]
 fn a_data_store_that_lies(rt: HostRuntime) -> Result<(), Fail> {
     let alloc = rt.alloc();
     for &(name, script, reads) in &DATA_LIES {
-        for cache in [1, 4] {
+        for &cache in &CACHES {
             assert!(rt;
                 tells_of_data(alloc, cache, script, reads)?,
                 "{name}, cache of {cache}"

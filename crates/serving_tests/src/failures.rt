@@ -1,8 +1,8 @@
 //! Each call of a store failing in turn.
 
 use crate::clients::{EIO, WELCOME_17, add_reply, client};
-use crate::hubs::{failing_hub, serve};
-use std::alloc::Global;
+use crate::hubs::serve;
+use std::alloc::{AllocError, Global};
 use std::test::Fail;
 use test_volumes::image;
 
@@ -13,16 +13,26 @@ const RANGES: [(u64, u32); 2] = [(2048, 1536), (7168, 1536)];
 fn expected(alloc: Global, refused: [bool; 2]) -> Result<Vec<u8>, Fail> {
     let bytes = image(alloc, 17)?;
     let mut said = Vec::from_slice(alloc, WELCOME_17)?;
-    for ((offset, len), is_refused) in RANGES.into_iter().zip(refused) {
-        let behind = bytes.get(offset as usize..).unwrap_or(&[]);
-        let (error, data) = if is_refused {
-            (EIO, behind.get(..0))
-        } else {
-            (0, behind.get(..len as usize))
-        };
-        add_reply(&mut said, offset, error, data.unwrap_or(&[]))?;
+    for (range, is_refused) in RANGES.iter().zip(&refused) {
+        add_expected(&mut said, &bytes, *range, *is_refused)?;
     }
     Ok(said)
+}
+
+/// Adds what is said to the READ of a range of these bytes.
+fn add_expected(
+    said: &mut Vec<u8>,
+    bytes: &[u8],
+    range: (u64, u32),
+    is_refused: bool,
+) -> Result<(), AllocError> {
+    let (offset, len) = range;
+    let behind = bytes.get(offset as usize..).unwrap_or(&[]);
+    if is_refused {
+        add_reply(said, offset, EIO, b"")
+    } else {
+        add_reply(said, offset, 0, behind.get(..len as usize).unwrap_or(&[]))
+    }
 }
 
 /// Whether that is said where the stores fail at their calls of these numbers; of number 0, none does.
@@ -34,8 +44,7 @@ fn is_told(
 ) -> Result<bool, Fail> {
     let client = client(alloc, &RANGES)?;
     let expected = expected(alloc, refused)?;
-    let hub = failing_hub(alloc, data_call, hash_call)?;
-    let served = serve(alloc, hub, 0, &client, usize::MAX, 1000);
+    let served = serve(alloc, (data_call, hash_call), 0, &client, usize::MAX, 1000)?;
     Ok(served.fault.is_none() && served.said == expected)
 }
 

@@ -1,9 +1,10 @@
 //! Hash stores that lie.
 
-use crate::clients::{Reads, Script, data_17, hash_17, other_image, scripted, tree};
+use crate::clients::{Reads, Script, data_17, other_image, scripted, tree};
 use crate::hubs::tells_over;
 use std::alloc::Global;
 use std::test::Fail;
+use test_stores::ScriptStore;
 use test_volumes::image;
 
 /// Whether both sessions are told what they should where the hash store lies.
@@ -13,10 +14,17 @@ fn tells_of_hashes(
     script: Script,
     reads: Reads,
 ) -> Result<bool, Fail> {
+    let data = data_17(alloc)?;
+    let hash = lying(alloc, script)?;
+    tells_over(alloc, data, hash, cache, reads)
+}
+
+/// A hash store that does as scripted, and has the hash blocks of both volumes to give.
+fn lying(alloc: Global, script: Script) -> Result<ScriptStore, Fail> {
+    let other = tree(alloc, &other_image(alloc)?)?;
     let mut gives = tree(alloc, &image(alloc, 17)?)?;
-    gives.extend_from_slice(&tree(alloc, &other_image(alloc)?)?)?;
-    let hash = scripted(alloc, 3, &gives, script)?;
-    tells_over(alloc, data_17(alloc)?, hash, cache, reads)
+    gives.extend_from_slice(&other)?;
+    scripted(alloc, 3, &gives, script)
 }
 
 /// Lies of a hash store, which has the volume's top, first and second block of level 0 to give, and then those of another

@@ -4,10 +4,11 @@ use crate::clients::{
     GREETING, Want, data_17, events, hash_17, hub_within, is_wanted, kind, run_once, wants, words,
 };
 use linked_list_allocator::LocalHeap;
-use std::alloc::{Allocator, Global};
+use std::alloc::{AllocError, Allocator, Global};
 use std::test::Fail;
 use test_volumes::STEP;
-use verity_hub::{Event, HubReply};
+use verity_hub::{Event, Hub, HubReply};
+use verity_store::BlockStore;
 
 /// What lacked memory.
 #[derive(Clone, Copy, Debug, PartialEq, Eq)]
@@ -117,6 +118,27 @@ enum Outcome {
     Wrong,
 }
 
+/// How a run goes by these replies.
+fn outcome_of<A: Allocator>(events: &[Event], replies: &[HubReply<A>], wants: &[Want]) -> Outcome {
+    let stays = stays_starved(events, replies, 0) && stays_starved(events, replies, 1);
+    match judge(replies, wants) {
+        Some(seen) if stays && replies.len() == wants.len() => Outcome::Ran(seen),
+        _ => Outcome::Wrong,
+    }
+}
+
+/// How a run of a hub goes, whose end it is.
+fn outcome_by<D: BlockStore + Drop, H: BlockStore + Drop, A: Allocator + Copy + Drop>(
+    alloc: Global,
+    hub: Hub<D, H, A>,
+    events: &[Event],
+    wants: &[Want],
+) -> Result<Outcome, AllocError> {
+    let mut replies = Vec::new(alloc);
+    run_once(hub, events, &mut replies)?;
+    Ok(outcome_of(events, &replies, wants))
+}
+
 /// How a run goes where the hub's memory, and what sessions say, have so much room.
 fn run_within(
     alloc: Global,
@@ -124,16 +146,12 @@ fn run_within(
     events: &[Event],
     wants: &[Want],
 ) -> Result<Outcome, Fail> {
+    let data = data_17(alloc)?;
+    let hash = hash_17(alloc)?;
     let heap = LocalHeap::new(alloc, room)?;
-    let Some(hub) = hub_within(&heap, data_17(alloc)?, hash_17(alloc)?) else {
-        return Ok(Outcome::None);
-    };
-    let mut replies = Vec::new(alloc);
-    run_once(hub, events, &mut replies)?;
-    let stays = stays_starved(events, &replies, 0) && stays_starved(events, &replies, 1);
-    match judge(&replies, wants) {
-        Some(seen) if stays && replies.len() == wants.len() => Ok(Outcome::Ran(seen)),
-        _ => Ok(Outcome::Wrong),
+    match hub_within(&heap, data, hash) {
+        Some(hub) => Ok(outcome_by(alloc, hub, events, wants)?),
+        None => Ok(Outcome::None),
     }
 }
 

@@ -1,28 +1,18 @@
 //! Hubs over the volume of 17 blocks, streams that they serve and events that they do.
 
-use crate::clients::{Reads, data_17, hash_17, hub_17, tells};
+use crate::clients::{
+    Reads, are_told, data_17, events_of, hash_17, hub_17, run_by, run_once, serve_by,
+};
 use linked_list_allocator::LocalHeap;
 use std::alloc::{AllocError, Allocator, Global};
 use std::io::{self, Write};
 use std::test::Fail;
 use test_stores::FailStore;
-use verity_hub::{Event, Hub, HubReply, ServeFault, serve_stream};
-use verity_store::{BlockStore, MemStore};
+use verity_hub::{Event, Hub, HubFault, HubReply, ServeFault};
+use verity_store::BlockStore;
 
-/// A hub whose stores fail where they are told to.
-pub type FailingHub = Hub<FailStore<MemStore>, FailStore<MemStore>>;
-
-/// A hub with room for one cached block, whose stores fail at their calls of these numbers; of number 0, none does.
-pub fn failing_hub(alloc: Global, data_call: u64, hash_call: u64) -> Result<FailingHub, Fail> {
-    let data = FailStore::at(data_17(alloc)?, data_call);
-    let hash = FailStore::at(hash_17(alloc)?, hash_call);
-    hub_17(alloc, data, hash, 1)
-}
-
-/// A hub whose stores don't fail.
-pub fn sound_hub(alloc: Global) -> Result<FailingHub, Fail> {
-    failing_hub(alloc, 0, 0)
-}
+/// No call of the data store fails, and none of the hash store.
+pub const NO_FAILURE: (u64, u64) = (0, 0);
 
 /// A writer that takes so many bytes, and then none.
 #[derive(Drop)]
@@ -57,57 +47,86 @@ pub struct Served {
     pub left: usize,
 }
 
-/// Opens sessions, and then serves one more over a reader and a writer by a hub, whose end it is.
-fn serve_after<D: BlockStore + Drop, H: BlockStore + Drop>(
-    mut hub: Hub<D, H>,
+/// Opens so many sessions.
+fn open_all<D: BlockStore + Drop, H: BlockStore + Drop>(
+    hub: &mut Hub<D, H>,
     sessions: usize,
-    reader: &mut &[u8],
-    writer: &mut Narrow,
-    limit: u64,
-) -> Result<(), ServeFault> {
-    let mut greetings = Vec::new(*writer.taken.allocator());
+    alloc: Global,
+) -> Result<(), HubFault> {
+    let mut greetings = Vec::new(alloc);
     for _ in 0..sessions {
-        if let Err(fault) = hub.open(&mut greetings) {
-            return Err(ServeFault::Hub(fault));
-        }
+        hub.open(&mut greetings)?;
     }
-    serve_stream(&mut hub, reader, writer, limit)
+    Ok(())
 }
 
-/// Serves one client by a hub that has opened so many sessions before, into a writer of so much room, for so many turns at most.
-pub fn serve(
+/// Opens sessions, and then serves one more over a reader and a writer by a hub.
+fn serve_after<D: BlockStore + Drop, H: BlockStore + Drop, W: Write>(
     alloc: Global,
-    hub: FailingHub,
+    hub: &mut Hub<D, H>,
+    sessions: usize,
+    reader: &mut &[u8],
+    writer: &mut W,
+    limit: u64,
+) -> Result<(), ServeFault> {
+    match open_all(hub, sessions, alloc) {
+        Ok(()) => serve_by(hub, reader, writer, limit),
+        Err(fault) => Err(ServeFault::Hub(fault)),
+    }
+}
+
+/// Serves one client as [`serve`] does, over these stores.
+fn serve_over<S: BlockStore + Drop>(
+    alloc: Global,
+    data: S,
+    hash: S,
     sessions: usize,
     input: &[u8],
     room: usize,
     limit: u64,
-) -> Served {
+) -> Result<Served, Fail> {
+    let mut hub = hub_17(alloc, data, hash, 1)?;
     let mut writer = Narrow {
         taken: Vec::new(alloc),
         room,
     };
     let mut reader = input;
-    let fault = serve_after(hub, sessions, &mut reader, &mut writer, limit).err();
-    Served {
+    let fault = serve_after(alloc, &mut hub, sessions, &mut reader, &mut writer, limit).err();
+    Ok(Served {
         said: writer.taken,
         fault,
         left: reader.len(),
-    }
+    })
 }
 
-/// Does events with a hub, whose end it is, and where memory is refused for a reply, all that have none with other memory
+/// Serves one client by a hub that has opened so many sessions before, into a writer of so much room, for so many turns at most. The
+/// hub has room for one cached block, and its data store and its hash store fail at their calls of these numbers; of number 0, none
+/// does.
+pub fn serve(
+    alloc: Global,
+    failing: (u64, u64),
+    sessions: usize,
+    input: &[u8],
+    room: usize,
+    limit: u64,
+) -> Result<Served, Fail> {
+    let data = FailStore::at(data_17(alloc)?, failing.0);
+    let hash = FailStore::at(hash_17(alloc)?, failing.1);
+    serve_over(alloc, data, hash, sessions, input, room, limit)
+}
+
+/// Does events with a hub, and where memory is refused for a reply, all that have none with other memory
 /// for replies. It tells whether that was so.
 fn run_on<D: BlockStore + Drop, H: BlockStore + Drop, C: Allocator>(
-    mut hub: Hub<D, H>,
+    hub: &mut Hub<D, H>,
     events: &[Event],
     replies: &mut Vec<HubReply, C>,
     others: &mut Vec<HubReply>,
 ) -> Result<bool, AllocError> {
-    let is_refused = hub.run(events, replies).is_err();
+    let is_refused = run_by(hub, events, replies).is_err();
     if is_refused {
         let rest = events.get(replies.len()..).unwrap_or(&[]);
-        hub.run(rest, others)?;
+        run_by(hub, rest, others)?;
     }
     Ok(is_refused)
 }
@@ -129,15 +148,28 @@ pub fn replies_in<'a>(
     heap: &'a LocalHeap,
     events: &[Event],
 ) -> Result<Replies<'a>, Fail> {
-    let hub = sound_hub(alloc)?;
-    let mut within = Vec::new(heap);
-    let mut others = Vec::new(alloc);
-    let is_refused = run_on(hub, events, &mut within, &mut others)?;
-    Ok(Replies {
-        within,
-        others,
-        is_refused,
-    })
+    let data = data_17(alloc)?;
+    let hash = hash_17(alloc)?;
+    let mut replies = Replies {
+        within: Vec::new(heap),
+        others: Vec::new(alloc),
+        is_refused: false,
+    };
+    add_replies(alloc, data, hash, events, &mut replies)?;
+    Ok(replies)
+}
+
+/// Adds what a hub over these stores, with room for one cached block, replies to events.
+fn add_replies<S: BlockStore + Drop>(
+    alloc: Global,
+    data: S,
+    hash: S,
+    events: &[Event],
+    replies: &mut Replies,
+) -> Result<(), Fail> {
+    let mut hub = hub_17(alloc, data, hash, 1)?;
+    replies.is_refused = run_on(&mut hub, events, &mut replies.within, &mut replies.others)?;
+    Ok(())
 }
 
 /// Whether both sessions of a hub over these stores are told what they should.
@@ -148,6 +180,21 @@ pub fn tells_over<D: BlockStore + Drop, H: BlockStore + Drop>(
     cache: usize,
     reads: Reads,
 ) -> Result<bool, Fail> {
+    let events = events_of(alloc, reads)?;
+    let replies = replies_over(alloc, data, hash, cache, &events)?;
+    Ok(are_told(alloc, reads, &events, &replies)?)
+}
+
+/// What a hub over these stores replies to events.
+fn replies_over<D: BlockStore + Drop, H: BlockStore + Drop>(
+    alloc: Global,
+    data: D,
+    hash: H,
+    cache: usize,
+    events: &[Event],
+) -> Result<Vec<HubReply>, Fail> {
     let hub = hub_17(alloc, data, hash, cache)?;
-    tells(alloc, hub, reads)
+    let mut replies = Vec::new(alloc);
+    run_once(hub, events, &mut replies)?;
+    Ok(replies)
 }

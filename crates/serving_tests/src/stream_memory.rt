@@ -4,10 +4,11 @@ use crate::clients::{
     ENOMEM, GO, GO_REPLY, GREETING, add_read, add_reply, data_17, hash_17, hub_within, serve_once,
 };
 use linked_list_allocator::LocalHeap;
-use std::alloc::{AllocError, Global};
+use std::alloc::{AllocError, Allocator, Global};
 use std::test::Fail;
 use test_volumes::STEP;
-use verity_hub::{HubFault, ServeFault};
+use verity_hub::{Hub, HubFault, ServeFault};
+use verity_store::BlockStore;
 
 /// What is said to GO and the READ of block 3, which is served or told this error.
 fn expected(alloc: Global, error: u32, data: &[u8]) -> Result<Vec<u8>, AllocError> {
@@ -43,24 +44,41 @@ enum Seen {
 fn seen_of(alloc: Global, fault: Option<ServeFault>, said: &[u8]) -> Result<Seen, AllocError> {
     let whole = expected(alloc, 0, &[3; 512])?;
     let lacking = expected(alloc, ENOMEM, b"")?;
-    Ok(match fault {
+    Ok(seen_beside(fault, said, &whole, &lacking))
+}
+
+/// The same, where all that is to be said is `whole`, or `lacking` without memory for the block.
+fn seen_beside(fault: Option<ServeFault>, said: &[u8], whole: &[u8], lacking: &[u8]) -> Seen {
+    match fault {
         Some(ServeFault::Hub(HubFault::NoMemory)) if said.is_empty() => Seen::Unopened,
         Some(ServeFault::Starved) if whole.starts_with(said) => Seen::Starved,
-        None if said == whole.as_slice() => Seen::Whole,
-        None if said == lacking.as_slice() => Seen::Lacking,
+        None if said == whole => Seen::Whole,
+        None if said == lacking => Seen::Lacking,
         _ => Seen::Wrong(fault),
-    })
+    }
+}
+
+/// What is seen of the stream of a hub, whose end it is.
+fn seen_by<D: BlockStore + Drop, H: BlockStore + Drop, A: Allocator + Copy + Drop>(
+    alloc: Global,
+    hub: Hub<D, H, A>,
+    asked: &[u8],
+) -> Result<Seen, AllocError> {
+    let mut said = Vec::new(alloc);
+    let fault = serve_once(hub, asked, &mut said).err();
+    seen_of(alloc, fault, &said)
 }
 
 /// What is seen of the stream where the hub's memory has so much room and the verifier fits into it.
 fn seen_within(alloc: Global, room: usize) -> Result<Option<Seen>, Fail> {
+    let asked = asked(alloc)?;
+    let data = data_17(alloc)?;
+    let hash = hash_17(alloc)?;
     let heap = LocalHeap::new(alloc, room)?;
-    let Some(hub) = hub_within(&heap, data_17(alloc)?, hash_17(alloc)?) else {
-        return Ok(None);
-    };
-    let mut said = Vec::new(alloc);
-    let fault = serve_once(hub, &asked(alloc)?, &mut said).err();
-    Ok(Some(seen_of(alloc, fault, &said)?))
+    match hub_within(&heap, data, hash) {
+        Some(hub) => Ok(Some(seen_by(alloc, hub, &asked)?)),
+        None => Ok(None),
+    }
 }
 
 #[test]

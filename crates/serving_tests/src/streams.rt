@@ -1,7 +1,7 @@
 //! Streams that are left, and writers that take no more. Streams that end in the middle of a message are in `tests/program`.
 
 use crate::clients::{GREETING, WELCOME_17, add_reply, client};
-use crate::hubs::{Served, serve, sound_hub};
+use crate::hubs::{NO_FAILURE, Served, serve};
 use std::alloc::{AllocError, Global};
 use std::test::Fail;
 use verity_hub::{HubFault, ServeFault};
@@ -53,7 +53,7 @@ fn two_blocks(alloc: Global) -> Result<Vec<u8>, AllocError> {
 fn left_at_its_limit(alloc: Global) -> Result<(Left, usize, usize), Fail> {
     let input = client(alloc, &[(0, 512), (512, 512), (1024, 512), (1536, 512)])?;
     let wanted = two_blocks(alloc)?;
-    let served = serve(alloc, sound_hub(alloc)?, 0, &input, usize::MAX, 3);
+    let served = serve(alloc, NO_FAILURE, 0, &input, usize::MAX, 3)?;
     Ok((left_of(&served, &wanted), wanted.len(), input.len()))
 }
 
@@ -72,7 +72,7 @@ fn a_stream_is_left_at_its_limit(rt: HostRuntime) -> Result<(), Fail> {
 
 /// How the stream of the input is left after so many sessions, by a writer of this room.
 fn left_after(alloc: Global, sessions: usize, room: usize) -> Result<Left, Fail> {
-    let served = serve(alloc, sound_hub(alloc)?, sessions, INPUT, room, 100);
+    let served = serve(alloc, NO_FAILURE, sessions, INPUT, room, 100)?;
     Ok(left_of(&served, SAID))
 }
 

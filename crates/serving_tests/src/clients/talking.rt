@@ -2,6 +2,7 @@
 
 use nbd_session::Status;
 use std::alloc::{AllocError, Allocator, Global};
+use std::io::Write;
 use verity_hub::{Event, Hub, HubFault, HubReply, Piece, ServeFault, serve_stream};
 use verity_store::BlockStore;
 
@@ -78,13 +79,39 @@ pub fn piece(alloc: Global, bytes: &[u8]) -> Result<Piece, AllocError> {
     Ok(Piece::new(Vec::from_slice(alloc, bytes)?))
 }
 
+/// Puts behind other events that a session is fed these bytes.
+pub fn feed(events: &mut Vec<Event>, session: u64, bytes: &[u8]) -> Result<(), AllocError> {
+    let piece = piece(*events.allocator(), bytes)?;
+    events.push(Event::Feed(session, piece))?;
+    Ok(())
+}
+
+/// Serves one client by a hub, for so many turns at most.
+pub fn serve_by<D: BlockStore + Drop, H: BlockStore + Drop, A: Allocator + Copy + Drop, W: Write>(
+    hub: &mut Hub<D, H, A>,
+    reader: &mut &[u8],
+    writer: &mut W,
+    limit: u64,
+) -> Result<(), ServeFault> {
+    serve_stream(hub, reader, writer, limit)
+}
+
 /// Serves one client by a hub, whose end it is.
 pub fn serve_once<D: BlockStore + Drop, H: BlockStore + Drop, A: Allocator + Copy + Drop>(
     mut hub: Hub<D, H, A>,
     mut input: &[u8],
     said: &mut Vec<u8>,
 ) -> Result<(), ServeFault> {
-    serve_stream(&mut hub, &mut input, said, 1000)
+    serve_by(&mut hub, &mut input, said, 1000)
+}
+
+/// Does events with a hub.
+pub fn run_by<D: BlockStore + Drop, H: BlockStore + Drop, A: Allocator + Copy + Drop, C: Allocator>(
+    hub: &mut Hub<D, H, A>,
+    events: &[Event],
+    replies: &mut Vec<HubReply<A>, C>,
+) -> Result<(), AllocError> {
+    hub.run(events, replies)
 }
 
 /// Does events with a hub, whose end it is.
@@ -93,7 +120,7 @@ pub fn run_once<D: BlockStore + Drop, H: BlockStore + Drop, A: Allocator + Copy 
     events: &[Event],
     replies: &mut Vec<HubReply<A>>,
 ) -> Result<(), AllocError> {
-    hub.run(events, replies)
+    run_by(&mut hub, events, replies)
 }
 
 /// The kind of a reply, or a refusal's number, and the number that it carries.
@@ -119,26 +146,25 @@ pub fn words<A: Allocator>(reply: &HubReply<A>) -> &[u8] {
     }
 }
 
-/// What sessions 0 and 1 said.
-pub fn said_by_two(
+/// Which session says something by the reply to an event.
+fn speaker(event: &Event, reply: &HubReply) -> Option<u64> {
+    match (event, reply) {
+        (Event::Open, HubReply::Opened(id, _)) => Some(*id),
+        (Event::Feed(id, _), HubReply::Fed(_, _)) => Some(*id),
+        _ => None,
+    }
+}
+
+/// Adds what a session said.
+pub fn said_by(
+    session: u64,
     events: &[Event],
     replies: &[HubReply],
-    first: &mut Vec<u8>,
-    second: &mut Vec<u8>,
+    said: &mut Vec<u8>,
 ) -> Result<(), AllocError> {
     for (event, reply) in events.iter().zip(replies) {
-        match (event, reply) {
-            (Event::Open, HubReply::Opened(0, piece)) => first.extend_from_slice(piece.as_slice())?,
-            (Event::Open, HubReply::Opened(1, piece)) => second.extend_from_slice(
-                piece.as_slice(),
-            )?,
-            (Event::Feed(0, _), HubReply::Fed(_, piece)) => first.extend_from_slice(
-                piece.as_slice(),
-            )?,
-            (Event::Feed(1, _), HubReply::Fed(_, piece)) => second.extend_from_slice(
-                piece.as_slice(),
-            )?,
-            _ => {}
+        if speaker(event, reply) == Some(session) {
+            said.extend_from_slice(words(reply))?;
         }
     }
     Ok(())

@@ -6,19 +6,39 @@ use verity_hub::{Event, HubReply};
 
 /// Two sessions: each asks for a block, of which the first session's request comes in two pieces.
 pub fn events(alloc: Global) -> Result<Vec<Event>, AllocError> {
-    let first = read(alloc, 1536, 512)?;
-    let (head, rest) = first.split_at(first.len().min(10));
     let mut events = Vec::new(alloc);
-    events.push(Event::Open)?;
-    events.push(Event::Open)?;
-    events.push(Event::Feed(0, piece(alloc, GO)?))?;
-    events.push(Event::Feed(1, piece(alloc, GO)?))?;
-    events.push(Event::Feed(0, piece(alloc, head)?))?;
-    events.push(Event::Feed(1, piece(alloc, &read(alloc, 8192, 512)?)?))?;
-    events.push(Event::Feed(0, piece(alloc, rest)?))?;
-    events.push(Event::End(0))?;
-    events.push(Event::End(1))?;
+    add_events(&mut events)?;
     Ok(events)
+}
+
+/// Puts all the events of the two sessions behind others.
+fn add_events(events: &mut Vec<Event>) -> Result<(), AllocError> {
+    for _ in 0..2 {
+        events.push(Event::Open)?;
+    }
+    feed_each(events, &[(0, GO), (1, GO)])?;
+    feed_reads(events)?;
+    for session in 0..2 {
+        events.push(Event::End(session))?;
+    }
+    Ok(())
+}
+
+/// Puts behind other events that the first session's request comes in two pieces, and the second's between them.
+fn feed_reads(events: &mut Vec<Event>) -> Result<(), AllocError> {
+    let alloc = *events.allocator();
+    let first = read(alloc, 1536, 512)?;
+    let second = read(alloc, 8192, 512)?;
+    let (head, rest) = first.split_at(first.len().min(10));
+    feed_each(events, &[(0, head), (1, &second), (0, rest)])
+}
+
+/// Puts behind other events that these sessions are fed these bytes.
+fn feed_each(events: &mut Vec<Event>, rows: &[(u64, &[u8])]) -> Result<(), AllocError> {
+    for (session, bytes) in rows {
+        feed(events, *session, bytes)?;
+    }
+    Ok(())
 }
 
 /// What is to come of an event: the reply's kind and number, what the session says, and what it says where there is no
@@ -30,6 +50,28 @@ pub struct Want {
     pub words: Vec<u8>,
     pub lacking: Option<Vec<u8>>,
 }
+
+/// A row of the table of what is to come.
+#[derive(Clone, Copy)]
+enum Row {
+    /// An event that reads no block: the reply's kind and number, and what the session says.
+    Words(&'static str, u64, &'static [u8]),
+    /// The READ of this block.
+    Block(u8),
+}
+
+/// What is to come of the events, in their order.
+const ROWS: [Row; 9] = [
+    Row::Words("opened", 0, GREETING),
+    Row::Words("opened", 1, GREETING),
+    Row::Words("open", 0, GO_REPLY),
+    Row::Words("open", 0, GO_REPLY),
+    Row::Words("open", 0, b""),
+    Row::Block(16),
+    Row::Block(3),
+    Row::Words("closed", 0, b""),
+    Row::Words("closed", 0, b""),
+];
 
 /// What is to come of an event that reads no block.
 fn want_words(
@@ -57,18 +99,20 @@ fn want_block(alloc: Global, n: u8) -> Result<Want, AllocError> {
     })
 }
 
+/// What is to come as a row says.
+fn want_of(alloc: Global, row: Row) -> Result<Want, AllocError> {
+    match row {
+        Row::Words(kind, number, words) => want_words(alloc, kind, number, words),
+        Row::Block(n) => want_block(alloc, n),
+    }
+}
+
 /// What is to come of the events.
 pub fn wants(alloc: Global) -> Result<Vec<Want>, AllocError> {
     let mut wants = Vec::new(alloc);
-    wants.push(want_words(alloc, "opened", 0, GREETING)?)?;
-    wants.push(want_words(alloc, "opened", 1, GREETING)?)?;
-    wants.push(want_words(alloc, "open", 0, GO_REPLY)?)?;
-    wants.push(want_words(alloc, "open", 0, GO_REPLY)?)?;
-    wants.push(want_words(alloc, "open", 0, b"")?)?;
-    wants.push(want_block(alloc, 16)?)?;
-    wants.push(want_block(alloc, 3)?)?;
-    wants.push(want_words(alloc, "closed", 0, b"")?)?;
-    wants.push(want_words(alloc, "closed", 0, b"")?)?;
+    for row in &ROWS {
+        wants.push(want_of(alloc, *row)?)?;
+    }
     Ok(wants)
 }
 

@@ -5,7 +5,7 @@ use linked_list_allocator::LocalHeap;
 use nbd_session::ExportName;
 use std::alloc::{AllocError, Allocator, Global};
 use std::test::Fail;
-use verity_check::Verifier;
+use verity_check::{CheckFault, Verifier};
 use verity_digest::{Algorithm, Digest, Hasher, Salt};
 use verity_hub::Hub;
 use verity_store::{BlockStore, MemStore};
@@ -16,9 +16,8 @@ pub const ROOT_17: [u8; 32] = [
     0x33, 0x3d, 0xb1, 0xc4, 0x84, 0x31, 0xed, 0xdc, 0x6e, 0x0d, 0xc5, 0x04, 0x80, 0x73, 0x87, 0xf8,
 ];
 
-/// The hash blocks that hold the digests of these blocks.
-fn packed(alloc: Global, hasher: &mut Hasher, blocks: &[u8]) -> Result<Vec<u8>, AllocError> {
-    let mut bytes = Vec::new(alloc);
+/// Adds the hash blocks that hold the digests of these blocks.
+fn pack(hasher: &mut Hasher, blocks: &[u8], bytes: &mut Vec<u8>) -> Result<(), AllocError> {
     for block in blocks.chunks(512) {
         bytes.extend_from_slice(hasher.digest(block).bytes())?;
     }
@@ -27,16 +26,29 @@ fn packed(alloc: Global, hasher: &mut Hasher, blocks: &[u8]) -> Result<Vec<u8>, 
             bytes.push(0)?;
         }
     }
-    Ok(bytes)
+    Ok(())
 }
 
 /// A tree of two levels.
 pub fn tree(alloc: Global, image: &[u8]) -> Result<Vec<u8>, Fail> {
-    let mut hasher = Hasher::new(Salt::new(alloc, b"")?, Algorithm::Sha256);
-    let leaves = packed(alloc, &mut hasher, image)?;
-    let mut bytes = packed(alloc, &mut hasher, &leaves)?;
-    bytes.extend_from_slice(&leaves)?;
+    let mut leaves = Vec::new(alloc);
+    let mut bytes = Vec::new(alloc);
+    add_tree(alloc, image, &mut leaves, &mut bytes)?;
     Ok(bytes)
+}
+
+/// Adds the hash blocks of both levels: those of the lower one, and behind the top those once more.
+fn add_tree(
+    alloc: Global,
+    image: &[u8],
+    leaves: &mut Vec<u8>,
+    bytes: &mut Vec<u8>,
+) -> Result<(), Fail> {
+    let mut hasher = Hasher::new(Salt::new(alloc, b"")?, Algorithm::Sha256);
+    pack(&mut hasher, image, leaves)?;
+    pack(&mut hasher, leaves, bytes)?;
+    bytes.extend_from_slice(leaves)?;
+    Ok(())
 }
 
 /// A store of these bytes.
@@ -70,8 +82,22 @@ pub fn hub_17<D: BlockStore + Drop, H: BlockStore + Drop>(
     hash_store: H,
     cache: usize,
 ) -> Result<Hub<D, H>, Fail> {
-    let verifier = Verifier::new(alloc, line_17(alloc)?, data_store, hash_store, cache)?;
-    Ok(Hub::new(alloc, verifier, ExportName::new(b"vol")?))
+    let name = ExportName::new(b"vol")?;
+    let table = line_17(alloc)?;
+    Ok(hub_of(alloc, name, table, data_store, hash_store, cache)?)
+}
+
+/// A hub over an export of this name, of a verifier over these stores by this table line.
+fn hub_of<D: BlockStore + Drop, H: BlockStore + Drop, A: Allocator + Copy + Drop>(
+    alloc: A,
+    name: ExportName,
+    table: Table<A>,
+    data_store: D,
+    hash_store: H,
+    cache: usize,
+) -> Result<Hub<D, H, A>, CheckFault> {
+    let verifier = Verifier::new(alloc, table, data_store, hash_store, cache)?;
+    Ok(Hub::new(alloc, verifier, name))
 }
 
 /// A hub over these stores whose memory is a heap's, if the heap has room for its verifier.
@@ -80,8 +106,7 @@ pub fn hub_within<'a>(
     data_store: MemStore,
     hash_store: MemStore,
 ) -> Option<Hub<MemStore, MemStore, &'a LocalHeap>> {
-    let table = line_17(heap).ok()?;
-    let verifier = Verifier::new(heap, table, data_store, hash_store, 1).ok()?;
     let name = ExportName::new(b"vol").ok()?;
-    Some(Hub::new(heap, verifier, name))
+    let table = line_17(heap).ok()?;
+    hub_of(heap, name, table, data_store, hash_store, 1).ok()
 }
