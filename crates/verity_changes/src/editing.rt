@@ -1,5 +1,7 @@
 //! The command `edit`: does a script's lines over a volume.
 ghost use Rattle.std.specs.Prelude.{IfOk, IfErr};
+ghost use Rattle.verity_files.specs.Errors.{IsS1For};
+ghost use Rattle.verity_gate.specs.Journals.{IsAsked};
 ghost use Rattle.verity_work.specs.Work.{IsDoneAt};
 ghost use Rattle.verity_changes.specs.Blamed.{EditBlames};
 ghost use Rattle.verity_changes.specs.Printing.{IsEdited};
@@ -27,6 +29,7 @@ pub fn edit<R: Paths + Clock + Eprint + AllocGlobal, W: Write, E: Write + IsTerm
     ensures done { IfOk result (λ status. IsDoneAt (IsEdited (R.text rt.now words.now.script_path.now)) words.now.data_path.now
         words.now.hash_path.now (W.contents output.old) (W.contents output.new) status) }
     ensures blames { IfErr result (EditBlames R.Paths rt.now words.now) }
+    ensures system { IfErr result (IsS1For (IsAsked R.Paths rt.now words.now.hash_path.now)) }
 {
     check_paths(words.data_path, words.hash_path)?;
     let over = Words {

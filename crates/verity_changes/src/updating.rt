@@ -1,5 +1,7 @@
 //! The command `update`: makes a volume that of another image.
 ghost use Rattle.std.specs.Prelude.{IfOk, IfErr};
+ghost use Rattle.verity_files.specs.Errors.{IsS1For};
+ghost use Rattle.verity_gate.specs.Journals.{IsAsked};
 ghost use Rattle.verity_gate.specs.Refusals.{BlamesNone};
 ghost use Rattle.verity_work.specs.Work.{IsDoneAt};
 ghost use Rattle.verity_changes.specs.Blamed.{UpdateBlames};
@@ -13,7 +15,7 @@ use verity_chain::{Tree, geometry_of};
 use verity_edit::EditFault;
 use verity_files::{
     Command, DONE, Failure, Fault, Opened, Paths, VolumeStore, Word, check_paths, open_there,
-    store_of_most, take_lock, whole_store,
+    store_of_most, whole_store,
 };
 use verity_store::{BlockStore, StoreFault, Which};
 use verity_update::{Edited, UpdateFault};
@@ -39,6 +41,7 @@ pub fn update<R: Paths + Clock + Eprint + AllocGlobal, W: Write, E: Write + IsTe
     ensures done { IfOk result (λ status. IsDoneAt IsUpdated words.now.data_path.now words.now.hash_path.now (W.contents output.old)
         (W.contents output.new) status) }
     ensures blames { IfErr result (UpdateBlames R.Paths rt.now words.now) }
+    ensures system { IfErr result (IsS1For (IsAsked R.Paths rt.now words.now.hash_path.now)) }
 {
     check_paths(words.data_path, words.hash_path)?;
     let is_watched = is_watched(words.is_quiet, errors.is_terminal());
@@ -100,7 +103,7 @@ impl<'a> Work for Taking<'a> {
                 return Err(Failure::Word(Word::New));
             }
         }
-        lock_new(&opened)?;
+        lock_new(rt, &opened)?;
         self.opened = Some(opened);
         Ok(())
     }
@@ -158,8 +161,8 @@ fn open_new<R: Paths>(rt: &R, path: &str) -> Result<Opened, StoreFault>
 }
 
 /// Takes the lock on NEW that those have that only read.
-fn lock_new(opened: &Opened) -> Result<(), Fault> {
-    match take_lock(&opened.file, Command::Verify.lock(), Which::Data) {
+fn lock_new<R: Paths>(rt: &R, opened: &Opened) -> Result<(), Fault> {
+    match rt.lock(opened, Command::Verify.lock(), Which::Data) {
         Err(Fault::InUse(_)) => Err(Fault::NewInUse),
         taken => taken,
     }

@@ -41,14 +41,18 @@ told_of (Ok x) = told.Locked
 told_of (Err lock.WouldBlock) = told.InUse
 told_of (Err (lock.Error error)) = if is_memory (error_kind error) then told.NoMemory else told.Failed
 
--- S1 and S3 are what the system answers; S2 and S4 are for the store to say
-abbrev pub IsOfSystem : StoreFault → Type 0
-IsOfSystem store.Device = ⊤
-IsOfSystem store.NoMemory = ⊤
-IsOfSystem _ = ⊥
+-- S1, where the system refuses, and S3 are what it answers; S2 and S4 are for the store to say
+abbrev pub IsOfSystem : Type 0 → StoreFault → Type 0
+IsOfSystem refuses store.Device = refuses
+IsOfSystem refuses store.NoMemory = ⊤
+IsOfSystem refuses _ = ⊥
 
 -- and S5, of this store, where its lock is asked for too
-abbrev pub IsOfLock : Which → Fault → Type 0
-IsOfLock which (InUse other) = other ≡ which
-IsOfLock which (Store fault) = IsOfSystem fault
-IsOfLock which _ = ⊥
+abbrev pub IsOfLock : Type 0 → Which → Fault → Type 0
+IsOfLock refuses which (InUse other) = other ≡ which
+IsOfLock refuses which (Store fault) = IsOfSystem refuses fault
+IsOfLock refuses which _ = ⊥
+
+-- where it is S1, for this reason
+abbrev pub IsS1For : Type 0 → Failure → Type 0
+IsS1For reason e = e ≡ failure.Refused (Store store.Device) → reason

@@ -19,7 +19,6 @@ pub use command::{Command, Lock};
 pub use failure::{Failure, Word, print_failure, status_after};
 pub use fault::Fault;
 pub use identity::{Identity, check_apart, file_identity};
-pub use locks::take_lock;
 pub use opening::{Opened, fault_of, open_locked, open_there};
 pub use paths::Paths;
 pub use reading::read_script;

@@ -1,5 +1,5 @@
 //! The locks on a volume's files.
-ghost use Rattle.std.specs.Prelude.{◌≡◌, ◌↔◌, IsOk, IfErr, Err};
+ghost use Rattle.std.specs.Prelude.{◌≡◌, ◌↔◌, ⊤, IsOk, IfErr, Err};
 ghost use Rattle.verity_files.specs.Errors.{IsOfLock, told_of};
 ghost use Rattle.verity_files.specs.declared.fault.Fault.TheVariants as fault;
 
@@ -20,9 +20,9 @@ enum Told {
 
 /// Takes a lock on one of a volume's files, which holds until the file is closed. S5 where another has one that shuts it
 /// out; S1 where the system fails, S3 for want of memory.
-pub fn take_lock(file: &File, lock: Lock, which: Which) -> Result<(), Fault>
+pub(crate) fn take_lock(file: &File, lock: Lock, which: Which) -> Result<(), Fault>
     ensures open { lock ≡ Lock.Open → IsOk result }
-    ensures refused { IfErr result (IsOfLock which) }
+    ensures refused { IfErr result (IsOfLock ⊤ which) }
 {
     answer(ask(file, lock), which)
 }
@@ -52,7 +52,7 @@ fn answer(told: Told, which: Which) -> Result<(), Fault>
     ensures locked { IsOk result ↔ (told ≡ Told.Locked) }
     ensures in_use { (result ≡ Err (fault.InUse which)) ↔ (told ≡ Told.InUse) }
     ensures memory { (result ≡ Err (fault.Store StoreFault.NoMemory)) ↔ (told ≡ Told.NoMemory) }
-    ensures refused { IfErr result (IsOfLock which) }
+    ensures refused { IfErr result (IsOfLock ⊤ which) }
     ensures failed { (result ≡ Err (fault.Store StoreFault.Device)) ↔ (told ≡ Told.Failed) }
 {
     match told {

@@ -1,6 +1,7 @@
 //! Files are opened here, looked at, and nothing is changed in them.
-ghost use Rattle.std.specs.Prelude.{◌≡◌, IfOk, IfErr};
+ghost use Rattle.std.specs.Prelude.{◌≡◌, ⊤, IfOk, IfErr};
 ghost use Rattle.std.specs.IoError.{error_kind};
+ghost use Rattle.verity_files.specs.Commands.{lock_of, writes};
 ghost use Rattle.verity_files.specs.Errors.{IsOfLock, IsOfSystem, is_memory, store_fault_of};
 ghost use Rattle.verity_files.specs.declared.failure.Failure.TheVariants as failure;
 
@@ -8,7 +9,6 @@ use crate::command::Command;
 use crate::failure::Failure;
 use crate::fault::Fault;
 use crate::identity::{Identity, file_identity};
-use crate::locks::take_lock;
 use crate::paths::Paths;
 use std::alloc::Global;
 use std::fs::{File, Metadata, OpenOptions};
@@ -25,30 +25,6 @@ pub struct Opened {
     pub len: u64,
 }
 
-impl Opened {
-    /// The same, once more. The lock is on both.
-    pub fn again(&self) -> Result<Opened, StoreFault>
-        ensures same { IfOk result (λ opened. (opened.identity ≡ self.now.identity) × (opened.len ≡ self.now.len)) }
-        ensures refused { IfErr result IsOfSystem }
-    {
-        match self.file.try_clone() {
-            Ok(file) => Ok(Opened {
-                file,
-                identity: self.identity,
-                len: self.len,
-            }),
-            Err(error) => Err(fault_of(error)),
-        }
-    }
-
-    /// The same, once more, with as many bytes as it has by now.
-    pub fn seen_again(&self) -> Result<Opened, StoreFault>
-        ensures { IfErr result IsOfSystem }
-    {
-        looked_at(self.again()?.file)
-    }
-}
-
 /// Opens one of a volume's files for a command. S1 where it isn't there, or is neither a file nor a block device, which is not
 /// waited for; S3 for want of memory.
 pub fn open_there<P: Paths>(
@@ -58,7 +34,8 @@ pub fn open_there<P: Paths>(
     which: Which,
 ) -> Result<Opened, StoreFault>
     ensures opened { IfOk result (P.opens rt.now path.now) }
-    ensures refused { IfErr result IsOfSystem }
+    ensures permitted { IfOk result (λ opened. P.permits rt.now opened (writes command which)) }
+    ensures refused { IfErr result (IsOfSystem (P.refuses rt.now)) }
 {
     rt.open(path, command.is_writing(which))
 }
@@ -71,11 +48,35 @@ pub fn open_locked<P: Paths>(
     which: Which,
 ) -> Result<Opened, Fault>
     ensures opened { IfOk result (P.opens rt.now path.now) }
-    ensures refused { IfErr result (IsOfLock which) }
+    ensures permitted { IfOk result (λ opened. P.permits rt.now opened (writes command which)) }
+    ensures locked { IfOk result (λ opened. P.locks rt.now opened (lock_of command)) }
+    ensures refused { IfErr result (IsOfLock (P.refuses rt.now) which) }
 {
     let opened = open_there(rt, path, command, which)?;
-    take_lock(&opened.file, command.lock(), which)?;
+    rt.lock(&opened, command.lock(), which)?;
     Ok(opened)
+}
+
+/// What was opened, once more.
+pub(crate) fn open_again(opened: &Opened) -> Result<Opened, StoreFault>
+    ensures same { IfOk result (λ again. (again.identity ≡ opened.now.identity) × (again.len ≡ opened.now.len)) }
+    ensures refused { IfErr result (IsOfSystem ⊤) }
+{
+    match opened.file.try_clone() {
+        Ok(file) => Ok(Opened {
+            file,
+            identity: opened.identity,
+            len: opened.len,
+        }),
+        Err(error) => Err(fault_of(error)),
+    }
+}
+
+/// The same, with as many bytes as it has by now.
+pub(crate) fn look_again(opened: &Opened) -> Result<Opened, StoreFault>
+    ensures { IfErr result (IsOfSystem ⊤) }
+{
+    looked_at(open_again(opened)?.file)
 }
 
 /// Opens a file or a block device that stands at a path.
@@ -84,7 +85,7 @@ pub(crate) fn open_at<R: Files<File = File>>(
     path: &str,
     is_written: bool,
 ) -> Result<Opened, StoreFault>
-    ensures { IfErr result IsOfSystem }
+    ensures { IfErr result (IsOfSystem ⊤) }
 {
     match fs::metadata(rt, path) {
         Ok(metadata) => open_seen(rt, path, is_written, &metadata),
@@ -98,7 +99,7 @@ pub(crate) fn make_or_open<R: Files<File = File>>(
     alloc: Global,
     path: &str,
 ) -> Result<(Opened, bool), StoreFault>
-    ensures { IfErr result IsOfSystem }
+    ensures { IfErr result (IsOfSystem ⊤) }
 {
     match fs::metadata(rt, path) {
         Ok(metadata) => match open_seen(rt, path, true, &metadata) {
@@ -162,7 +163,7 @@ fn remove_led_to<R: Files<File = File>>(rt: &R, alloc: Global, path: &str) -> io
 }
 
 fn make<R: Files<File = File>>(rt: &R, alloc: Global, path: &str) -> Result<Opened, StoreFault>
-    ensures { IfErr result IsOfSystem }
+    ensures { IfErr result (IsOfSystem ⊤) }
 {
     let made = OpenOptions::new()
         .read(true)
@@ -188,7 +189,7 @@ fn open_seen<R: Files<File = File>>(
     is_written: bool,
     metadata: &Metadata,
 ) -> Result<Opened, StoreFault>
-    ensures { IfErr result IsOfSystem }
+    ensures { IfErr result (IsOfSystem ⊤) }
 {
     if file_identity(metadata).is_none() {
         return Err(StoreFault::Device);
@@ -205,7 +206,7 @@ fn open_seen<R: Files<File = File>>(
 
 fn looked_at(file: File) -> Result<Opened, StoreFault>
     ensures file { IfOk result (λ opened. opened.file ≡ file) }
-    ensures refused { IfErr result IsOfSystem }
+    ensures refused { IfErr result (IsOfSystem ⊤) }
 {
     match identity_and_len(&file) {
         Ok(Some((identity, len))) => Ok(Opened {
@@ -234,7 +235,7 @@ fn identity_and_len(file: &File) -> io::Result<Option<(Identity, u64)>> {
 /// S3 for want of memory, S1 for all else.
 pub fn fault_of(error: io::Error) -> StoreFault
     ensures fault { result ≡ store_fault_of error }
-    ensures system { IsOfSystem result }
+    ensures system { IsOfSystem ⊤ result }
 {
     if is_want_of_memory(&error) {
         StoreFault::NoMemory

@@ -3,25 +3,40 @@
 //! What stands at a path only the system knows. Here that has a name, for each question one, which a contract can say of any system: code
 //! that works over any [`Paths`] has no other way to such a fact than to ask by that very path. Of the system itself, whose calls have no
 //! clauses, nothing is known: that it answers so is trusted.
-ghost use Rattle.std.specs.Prelude.{◌≡◌, ℕ, true, false, List, Option, IfOk, IfErr, IfSome, OnOk, string_bytes};
-ghost use Rattle.verity_files.specs.Errors.{IsOfScript, IsOfSystem};
+ghost use Rattle.std.specs.Prelude.{◌≡◌, ℕ, Bool, true, false, List, Option, IsOk, IfOk, IfErr, IfSome, OnOk, string_bytes};
+ghost use Rattle.verity_files.specs.Errors.{IsOfLock, IsOfScript, IsOfSystem};
+ghost use Rattle.verity_files.specs.declared.command.Lock.{Lock};
 ghost use Rattle.verity_files.specs.declared.failure.Failure.TheVariants as failure;
 ghost use Rattle.verity_files.specs.declared.opening.Opened.{Opened};
 
+use crate::command::Lock;
 use crate::failure::Failure;
+use crate::fault::Fault;
 use crate::identity::{Identity, file_identity};
-use crate::opening::{Opened, make_or_open, open_at, path_led_to, stands_at, unmake_at};
+use crate::locks::take_lock;
+use crate::opening::{
+    Opened, look_again, make_or_open, open_again, open_at, path_led_to, stands_at, unmake_at,
+};
 use crate::reading::{read_script, unread};
 use std::alloc::Global;
 use std::fs::File;
 use std::rt::Files;
 use std::{fs, io};
-use verity_store::{RawFile, StoreFault};
+use verity_store::{RawFile, StoreFault, Which};
 
 /// The files of a system, by their paths.
 pub trait Paths {
+    /// The system refused a call.
+    ghost refuses: { Self → Type 0 };
+
     /// What was opened stood at this path.
     ghost opens: { Self → List ℕ → Opened → Type 0 };
+
+    /// What was opened can be written too, or only be read.
+    ghost permits: { Self → Opened → Bool → Type 0 };
+
+    /// This lock was taken on what was opened.
+    ghost locks: { Self → Opened → Lock → Type 0 };
 
     /// A path leads to the file whose own path this is, or has no other.
     ghost leads: { Self → List ℕ → List ℕ → Type 0 };
@@ -42,13 +57,31 @@ pub trait Paths {
     /// neither, which is not waited for; S3 for want of memory.
     fn open(&self, path: &str, is_written: bool) -> Result<Opened, StoreFault>
         ensures opened { IfOk result (opens self.now path.now) }
-        ensures refused { IfErr result IsOfSystem };
+        ensures permitted { IfOk result (λ opened. permits self.now opened is_written) }
+        ensures refused { IfErr result (IsOfSystem (refuses self.now)) };
 
     /// Opens a file or a block device to be written, and makes a file where there is nothing. It tells whether it did. Nothing is cut.
     /// S1 and S3 as in `open`.
     fn open_or_make(&self, alloc: Global, path: &str) -> Result<(Opened, bool), StoreFault>
         ensures opened { IfOk result (λ made. opens self.now path.now made.0) }
-        ensures refused { IfErr result IsOfSystem };
+        ensures permitted { IfOk result (λ made. permits self.now made.0 true) }
+        ensures refused { IfErr result (IsOfSystem (refuses self.now)) };
+
+    /// What was opened, once more. The lock is on both. S1 where the system refuses, S3 for want of memory.
+    fn again(&self, opened: &Opened) -> Result<Opened, StoreFault>
+        ensures same { IfOk result (λ again. (again.identity ≡ opened.now.identity) × (again.len ≡ opened.now.len)) }
+        ensures refused { IfErr result (IsOfSystem (refuses self.now)) };
+
+    /// The same, with as many bytes as it has by now.
+    fn seen_again(&self, opened: &Opened) -> Result<Opened, StoreFault>
+        ensures refused { IfErr result (IsOfSystem (refuses self.now)) };
+
+    /// Takes a lock on what was opened, which holds until its file is closed. S5 where another has one that shuts it out; S1 where the
+    /// system refuses, S3 for want of memory.
+    fn lock(&self, opened: &Opened, lock: Lock, which: Which) -> Result<(), Fault>
+        ensures locked { OnOk result (locks self.now opened.now lock) }
+        ensures open { lock ≡ Lock.Open → IsOk result }
+        ensures refused { IfErr result (IsOfLock (refuses self.now) which) };
 
     /// The path of what a path leads to; the path itself where there is nothing, or the system doesn't say. No error but want of memory.
     fn real_path(&self, alloc: Global, path: &str) -> Result<String, Failure>
@@ -86,7 +119,13 @@ pub trait Paths {
 impl<R: Files<File = File>> Paths for R {
     ghost use Rattle.std.specs.Prelude.{⊤, None};
 
+    ghost refuses = { λ _. ⊤ };
+
     ghost opens = { λ _ _ _. ⊤ };
+
+    ghost permits = { λ _ _ _. ⊤ };
+
+    ghost locks = { λ _ _ _. ⊤ };
 
     ghost leads = { λ _ _ _. ⊤ };
 
@@ -104,6 +143,18 @@ impl<R: Files<File = File>> Paths for R {
 
     fn open_or_make(&self, alloc: Global, path: &str) -> Result<(Opened, bool), StoreFault> {
         make_or_open(self, alloc, path)
+    }
+
+    fn again(&self, opened: &Opened) -> Result<Opened, StoreFault> {
+        open_again(opened)
+    }
+
+    fn seen_again(&self, opened: &Opened) -> Result<Opened, StoreFault> {
+        look_again(opened)
+    }
+
+    fn lock(&self, opened: &Opened, lock: Lock, which: Which) -> Result<(), Fault> {
+        take_lock(&opened.file, lock, which)
     }
 
     fn real_path(&self, alloc: Global, path: &str) -> Result<String, Failure> {

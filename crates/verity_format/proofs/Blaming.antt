@@ -1,8 +1,10 @@
 -- Refusals, and the words that they blame.
-use Rattle.std.proofs.Common.{◌≡◌, Bool, true, false, ℕ, List, Option, Some, None, Ok, Err, subst, sym, ap, inr, ◌∙◌}
+use Rattle.std.proofs.Common.{◌≡◌, Bool, true, false, ℕ, List, Option, Some, None, Result, Ok, Err, IfErr, IsErrAnd}
+use Rattle.std.proofs.Common.{subst, sym, ap, inr, ◌∙◌}
 use Rattle.std.specs.Prelude.{if◌then◌else◌, ok_or}
 use Rattle.std.specs.Str.Parse.{digits_value}
 use Rattle.uuid.specs.Text.{parsed}
+use Rattle.verity_files.specs.Errors.{IsS1For}
 use Rattle.verity_files.specs.Words.{is_decimal, number_in, uuid_in}
 use Rattle.verity_files.specs.declared.failure.Failure.{Failure}
 use Rattle.verity_files.specs.declared.failure.Failure.TheVariants as failure
@@ -42,6 +44,12 @@ pub of_uuid : (words : FormatWords) (e : Failure) → uuid_in words.uuid.now ≡
 of_uuid words e is =
     let same = unread (parsed words.uuid.now) (failure.Word word.Uuid) e is in
     subst (Misreads words) (sym same) (is ∙ ap Err same)
+
+-- which isn't S1
+pub never_s1 : {T : Type 0} (done : Result T Failure) (text : List ℕ) (e : Failure) → IsErrAnd done (λ other. other ≡ e)
+    → uuid_in text ≡ Err e → IfErr done (IsS1For ⊥)
+never_s1 (Ok done) text e is was = tt
+never_s1 (Err other) text e is was = λ at. cc (sym (unread (parsed text) (failure.Word word.Uuid) e was) ∙ (sym is ∙ at))
 
 -- what isn't understood is blamed
 pub of_misread : {P : Type 0} (facts : Ghosts P) (p : P) (words : FormatWords) (e : Failure) → Misreads words e

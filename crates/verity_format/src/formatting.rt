@@ -8,6 +8,8 @@ ghost use Rattle.verity_files.specs.declared.opening.Opened.{Opened};
 ghost use Rattle.verity_superblock.specs.Line.{IsTableLine, canonical};
 ghost use Rattle.verity_superblock.specs.Image.{start_behind};
 ghost use Rattle.verity_volume.specs.Lines.{IsOfLine};
+ghost use Rattle.verity_files.specs.Errors.{IsS1For};
+ghost use Rattle.verity_gate.specs.Journals.{IsAsked as IsAskedFor};
 ghost use Rattle.verity_gate.specs.Refusals.{BlamesAtMost};
 ghost use Rattle.verity_files.specs.Misread.{IsMisread};
 ghost use Rattle.verity_volume.specs.Opening.{IsOneFile};
@@ -24,7 +26,7 @@ use verity_digest::{Algorithm, Digest};
 use verity_files::{
     Command, Failure, Fault, Identity, Opened, Paths, VolumeStore, Word, algorithm, block_size,
     check_apart, check_block_size, check_paths, new_store, number, open_locked, open_there, salt,
-    salt_bytes, store_of_first, store_of_most, take_lock, uuid, whole_store,
+    salt_bytes, store_of_first, store_of_most, uuid, whole_store,
 };
 use verity_gate::check_gate;
 use verity_store::{BlockStore, StoreFault, Which};
@@ -65,6 +67,7 @@ pub fn format<R: Paths + Clock + Eprint + AllocGlobal, W: Write, E: IsTerminal>(
 ) -> Result<(), Failure>
     ensures printed { OnOk result (IsFormatted words.now (W.contents output.old) (W.contents output.new)) }
     ensures blames { IfErr result (FormatBlames R.Paths rt.now words.now) }
+    ensures system { IfErr result (IsS1For (IsAskedFor R.Paths rt.now words.now.data_path.now)) }
 {
     check_paths(words.data_path, words.hash_path)?;
     let shape = read_shape(words)?;
@@ -109,6 +112,7 @@ fn made_line(
 fn read_shape(words: &FormatWords<'_>) -> Result<Shape, Failure>
     ensures asked { IfOk result (IsAsked words.now) }
     ensures blames { IfErr result (Misreads words.now) }
+    ensures system { IfErr result (IsS1For ⊥) }
 {
     Ok(Shape {
         data_block_size: block_size(Word::DataBlockSize, words.data_block_size)?,
@@ -131,6 +135,7 @@ fn make<R: Paths + Clock + Eprint + AllocGlobal>(
     ensures one { IfErr result (λ e. e ≡ Failure.Word word.Hash
         → IsOneFile R.Paths rt.now words.now.data_path.now words.now.hash_path.now) }
     ensures blames { IfErr result (BlamesAtMost word.Hash) }
+    ensures system { IfErr result (IsS1For (IsAskedFor R.Paths rt.now words.now.data_path.now)) }
 {
     let params = BuildParameters::new(salt(rt.alloc(), salt_bytes)?, shape.uuid, shape.algorithm);
     let (data_store, data) = open_data(rt, words.data_path, shape)?;
@@ -192,7 +197,8 @@ fn data_blocks(asked: Option<&str>) -> Result<Option<u64>, Failure>
 
 /// DATA, and which file it is.
 fn open_data<R: Paths>(rt: &R, path: &str, shape: &Shape) -> Result<(VolumeStore, Identity), Fault>
-    ensures { IfOk result (λ opened. (image : Opened) × R.opens rt.now path.now image × (image.identity ≡ opened.1)) }
+    ensures opened { IfOk result (λ opened. (image : Opened) × R.opens rt.now path.now image × (image.identity ≡ opened.1)) }
+    ensures system { IfErr result (λ e. e ≡ Fault.Store StoreFault.Device → IsAskedFor R.Paths rt.now path.now) }
 {
     check_block_size(shape.data_block_size)?;
     let data = open_locked(rt, path, Command::Format, Which::Data)?;
@@ -230,7 +236,7 @@ fn open_hash<R: Paths + AllocGlobal>(
     } else {
         let hash = open_there(rt, path, Command::Format, Which::Hash)?;
         check_apart(data, hash.identity)?;
-        take_lock(&hash.file, Command::Format.lock(), Which::Hash)?;
+        rt.lock(&hash, Command::Format.lock(), Which::Hash)?;
         Ok((store_of_most(hash, shape.hash_block_size, u64::MAX)?, false))
     }
 }
@@ -243,7 +249,7 @@ fn lock_or_unmake<R: Paths + AllocGlobal>(
     hash: &Opened,
     is_new: bool,
 ) -> Result<(), Fault> {
-    let taken = take_lock(&hash.file, Command::Format.lock(), Which::Hash);
+    let taken = rt.lock(hash, Command::Format.lock(), Which::Hash);
     if is_new && matches!(taken, Err(Fault::Store(_))) {
         rt.unmake(rt.alloc(), path);
     }

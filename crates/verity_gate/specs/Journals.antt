@@ -96,6 +96,10 @@ IsInVolume facts p named hash_path image device = (path : List ℕ) × IsJournal
 abbrev pub Stands : {P : Type 0} → Ghosts P → P → List ℕ → Type 0
 Stands facts p path = (opened : Opened) × facts.opens p path opened
 
+-- a file was asked for at a path: the system refused a call, or what stands there was opened
+abbrev pub IsAsked : {P : Type 0} → Ghosts P → P → List ℕ → Type 0
+IsAsked facts p path = facts.refuses p ⊎ Stands facts p path
+
 -- what a journal of these bytes makes of two files that have so many bytes
 abbrev pub Starts : (data_len hash_len : ℕ) → List ℕ → Contents → Type 0
 Starts data_len hash_len journal contents = (image device : List ℕ) × (length image ≡ data_len) × (length device ≡ hash_len)

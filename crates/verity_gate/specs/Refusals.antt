@@ -20,6 +20,12 @@ IsUnopened (fault.Store store.NoMemory) = ⊤
 IsUnopened fault.Journal = ⊤
 IsUnopened _ = ⊥
 
+-- nor is it read
+abbrev pub IsUnread : Failure → Type 0
+IsUnread failure.NoMemory = ⊤
+IsUnread (failure.Refused fault.Journal) = ⊤
+IsUnread _ = ⊥
+
 -- a gate isn't shut: want of memory, it is open, or it can't be looked at
 abbrev pub IsUnshut : Failure → Type 0
 IsUnshut failure.NoMemory = ⊤
@@ -33,13 +39,13 @@ BlamesAtMost word (failure.Word other) = other ≡ word
 BlamesAtMost word _ = ⊤
 
 -- a file can't be opened once more
-abbrev pub IsOfFile : Fault → Type 0
-IsOfFile (fault.Store fault) = IsOfSystem fault
-IsOfFile _ = ⊥
+abbrev pub IsOfFile : Type 0 → Fault → Type 0
+IsOfFile refuses (fault.Store fault) = IsOfSystem refuses fault
+IsOfFile refuses _ = ⊥
 
 -- the system refused, a file failed, or the journal can't be used
-abbrev pub IsOfJournal : Fault → Type 0
-IsOfJournal (fault.Store fault) = IsOfSystem fault
-IsOfJournal (fault.Edit (edit.Store which)) = ⊤
-IsOfJournal fault.Journal = ⊤
-IsOfJournal _ = ⊥
+abbrev pub IsOfJournal : Type 0 → Fault → Type 0
+IsOfJournal refuses (fault.Store fault) = IsOfSystem refuses fault
+IsOfJournal refuses (fault.Edit (edit.Store which)) = ⊤
+IsOfJournal refuses fault.Journal = ⊤
+IsOfJournal refuses _ = ⊥

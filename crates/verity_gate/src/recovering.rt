@@ -4,7 +4,8 @@ ghost use Rattle.verity_files.specs.declared.failure.Word.TheVariants as word;
 ghost use Rattle.verity_journal.specs.Journal.{plan_of};
 ghost use Rattle.verity_journal.specs.Tearing.{read_of};
 ghost use Rattle.verity_gate.specs.Journals.{IsOneOf, Recovers, Stands, Starts, laid_to};
-ghost use Rattle.verity_gate.specs.Refusals.{BlamesNone, BlamesAtMost, IsOfFile, IsOfJournal};
+ghost use Rattle.verity_files.specs.Errors.{IsS1For};
+ghost use Rattle.verity_gate.specs.Refusals.{BlamesAtMost, IsOfFile, IsOfJournal, IsUnread};
 
 use crate::gate::{open_journal, regular};
 use std::alloc::{AllocError, Global};
@@ -42,6 +43,7 @@ pub fn recover_files<P: Paths + AllocGlobal>(
         found.is_recovered (⟦<FileDisks<VolumeFile<File>> as Disks>⟧.seen found.keeper.disks))) }
     ensures word { IfErr result (λ e. e ≡ Failure.Word Word.Journal → IsOneOf P.Paths rt.now path.now data.now.identity hash.now.identity) }
     ensures refused { IfErr result (BlamesAtMost word.Journal) }
+    ensures system { IfErr result (IsS1For (P.refuses rt.now)) }
 {
     let Some(opened) = open_journal(rt, path, Command::Recover)? else {
         return Ok(None);
@@ -51,7 +53,7 @@ pub fn recover_files<P: Paths + AllocGlobal>(
     }
     let (opened, bytes) = bytes_of(rt, opened)?;
     let is_recovered = has_open_gate(rt.alloc(), &bytes, names)?;
-    let keeper = started(rt.alloc(), data, hash, opened, bytes)?;
+    let keeper = started(rt, data, hash, opened, bytes)?;
     Ok(Some(Found {
         keeper,
         is_recovered,
@@ -62,7 +64,7 @@ pub fn recover_files<P: Paths + AllocGlobal>(
 fn has_open_gate(alloc: Global, bytes: &[u8], names: &str) -> Result<bool, Failure>
     ensures open { IfOk result (λ is_open. is_open ≡ is_some (plan_of bytes.now)) }
     ensures named { OnOk result (IfSome (plan_of bytes.now) (λ plan. plan.names ≡ names.now)) }
-    ensures refused { IfErr result BlamesNone }
+    ensures refused { IfErr result IsUnread }
 {
     match parse_journal(alloc, bytes)? {
         Some(plan) if plan.names() != names.as_bytes() => Err(Fault::Journal.into()),
@@ -80,7 +82,7 @@ fn is_foreign(bytes: &[u8]) -> bool {
 /// All bytes of a journal.
 fn bytes_of<P: Paths + AllocGlobal>(rt: &P, journal: Opened) -> Result<(Opened, Vec<u8>), Failure>
     ensures begins { IfOk result (λ read. P.begins rt.now journal read.1.items × (length read.1.items ≡ journal.len)) }
-    ensures refused { IfErr result BlamesNone }
+    ensures refused { IfErr result IsUnread }
 {
     let mut journal = journal;
     let mut bytes = vec![in rt.alloc(); 0; journal.len as usize]?;
@@ -101,7 +103,7 @@ pub fn make_journal<P: Paths + AllocGlobal>(
     ensures made { OnOk result (Stands P.Paths rt.now path.now) }
     ensures started { IfOk result (λ keeper. Starts data.now.len hash.now.len []
         (⟦<FileDisks<VolumeFile<File>> as Disks>⟧.seen keeper.disks)) }
-    ensures refused { IfErr result IsOfJournal }
+    ensures refused { IfErr result (IsOfJournal (P.refuses rt.now)) }
 {
     let opened = match rt.open_or_make(rt.alloc(), path) {
         Ok((opened, _)) => regular(Ok(opened))?,
@@ -126,17 +128,17 @@ fn started_anew<P: Paths + AllocGlobal>(
 ) -> Result<FileKeeper, Fault>
     ensures started { IfOk result (λ keeper. Starts data.now.len hash.now.len []
         (⟦<FileDisks<VolumeFile<File>> as Disks>⟧.seen keeper.disks)) }
-    ensures refused { IfErr result IsOfJournal }
+    ensures refused { IfErr result (IsOfJournal (P.refuses rt.now)) }
 {
     if rt.sync_folder(path).is_err() {
         return Err(Fault::Journal);
     }
-    started(rt.alloc(), data, hash, journal, Vec::new(rt.alloc()))
+    started(rt, data, hash, journal, Vec::new(rt.alloc()))
 }
 
 /// S3 for want of memory, S7 for all else.
 fn journal_fault(fault: StoreFault) -> Fault
-    ensures { IsOfJournal result }
+    ensures { IsOfJournal ⊥ result }
 {
     match fault {
         StoreFault::NoMemory => Fault::Store(StoreFault::NoMemory),
@@ -145,8 +147,8 @@ fn journal_fault(fault: StoreFault) -> Fault
 }
 
 /// The three files, started.
-fn started(
-    alloc: Global,
+fn started<P: Paths + AllocGlobal>(
+    rt: &P,
     data: &Opened,
     hash: &Opened,
     journal: Opened,
@@ -154,24 +156,24 @@ fn started(
 ) -> Result<FileKeeper, Fault>
     ensures started { IfOk result (λ keeper. Starts data.now.len hash.now.len bytes.items
         (⟦<FileDisks<VolumeFile<File>> as Disks>⟧.seen keeper.disks)) }
-    ensures refused { IfErr result IsOfJournal }
+    ensures refused { IfErr result (IsOfJournal (P.refuses rt.now)) }
 {
-    let on_data = sized(data)?;
-    let on_hash = sized(hash)?;
+    let on_data = sized(rt, data)?;
+    let on_hash = sized(rt, hash)?;
     let mut keeper = Keeper::new(disks_of(on_data, on_hash, whole_file(journal), bytes));
-    match keeper.start(alloc) {
+    match keeper.start(rt.alloc()) {
         Ok(()) => Ok(keeper),
         Err(fault) => Err(fault_of_disks(&keeper, fault)),
     }
 }
 
 /// One of a volume's files, and how many bytes it has.
-fn sized(opened: &Opened) -> Result<(VolumeFile<File>, u64), Fault>
+fn sized<P: Paths>(rt: &P, opened: &Opened) -> Result<(VolumeFile<File>, u64), Fault>
     ensures unknown { IfOk result (λ file. ⟦<VolumeFile<File> as RawFile>⟧.bytes file.0 ≡ None) }
     ensures len { IfOk result (λ file. file.1 ≡ opened.now.len) }
-    ensures refused { IfErr result IsOfFile }
+    ensures refused { IfErr result (IsOfFile (P.refuses rt.now)) }
 {
-    let again = opened.again()?;
+    let again = rt.again(opened)?;
     let len = again.len;
     Ok((whole_file(again), len))
 }

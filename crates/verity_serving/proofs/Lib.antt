@@ -1,3 +1,4 @@
 mod Blaming
+mod Refusing
 mod Reporting
 mod Talks

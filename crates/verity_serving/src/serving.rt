@@ -2,9 +2,12 @@
 
 ghost use Rattle.std.specs.Prelude.{◌≡◌, true, Ok, IfErr};
 ghost use Rattle.nbd_serve.specs.Lines.{IsServed};
+ghost use Rattle.verity_files.specs.Errors.{IsS1For};
 ghost use Rattle.verity_gate.specs.Refusals.{BlamesNone};
+ghost use Rattle.verity_opening.specs.Opening.{IsAskedUnder};
 ghost use Rattle.verity_serving.specs.Blamed.{ServeBlames};
 ghost use Rattle.verity_serving.specs.Printed.{IsServedAsAsked};
+ghost use Rattle.verity_files.specs.declared.failure.Word.{Word};
 
 use crate::failing::fail;
 use nbd_serve::{Door, Limits, Stop, Watched};
@@ -14,7 +17,7 @@ use std::net::{Net, TcpListener, TcpStream};
 use std::os::unix::net::UnixListener;
 use std::rt::Files;
 use std::time::{Clock, Duration};
-use verity_files::{Command, DONE, Failure, Fault, REFUSED, Word, memory, number, sessions};
+use verity_files::{Command, DONE, Failure, Fault, Paths, REFUSED, Word, memory, number, sessions};
 use verity_hub::{Hub, serve_clients};
 use verity_opening::{FileHub, open_hub};
 use verity_store::BlockStore;
@@ -31,12 +34,17 @@ const MEBIBYTE: u64 = 1 << 20;
 /// Faults are found in this order: the words, the line, the name, the two files (data first), the verifier, the listener.
 /// The file of a Unix socket, which is made here, is removed at the end.
 pub fn serve<
-    R: Files<File = File> + Net<Stream = TcpStream, Listener = TcpListener> + Clock + AllocGlobal,
+    R: Paths
+        + Files<File = File>
+        + Net<Stream = TcpStream, Listener = TcpListener>
+        + Clock
+        + AllocGlobal,
     W: Write,
 >(rt: &R, words: &ServeWords<'_>, output: &mut W) -> Result<u8, Failure>
     ensures done { result ≡ Ok 0
         → IsServedAsAsked words.now.sessions.now (W.contents output.old) (W.contents output.new) }
     ensures blames { IfErr result (ServeBlames words.now) }
+    ensures system { IfErr result (IsS1For (IsAskedUnder R.Paths rt.now words.now.table.now)) }
 {
     let cache = number(Word::Cache, words.cache)? as usize;
     let count = sessions(words.sessions)?;
@@ -46,7 +54,11 @@ pub fn serve<
 
 /// Opens the volume, and serves it at the address.
 fn serve_over<
-    R: Files<File = File> + Net<Stream = TcpStream, Listener = TcpListener> + Clock + AllocGlobal,
+    R: Paths
+        + Files<File = File>
+        + Net<Stream = TcpStream, Listener = TcpListener>
+        + Clock
+        + AllocGlobal,
     W: Write,
 >(
     rt: &R,
@@ -58,6 +70,7 @@ fn serve_over<
 ) -> Result<u8, Failure>
     ensures done { result ≡ Ok 0 → IsServed (W.contents output.old) (W.contents output.new) count true }
     ensures blames { IfErr result BlamesNone }
+    ensures system { IfErr result (IsS1For (IsAskedUnder R.Paths rt.now words.now.table.now)) }
 {
     let mut hub = open_hub(rt, words.table, words.name, cache, Command::Serve)?;
     listen(rt, &mut hub, words.listen, limits, count, output)
@@ -77,6 +90,7 @@ fn listen<
 ) -> Result<u8, Failure>
     ensures done { result ≡ Ok 0 → IsServed (W.contents output.old) (W.contents output.new) count true }
     ensures blames { IfErr result BlamesNone }
+    ensures system { IfErr result (IsS1For ⊥) }
 {
     match address.strip_prefix(UNIX) {
         // The system would find a name of its own for an empty path.
@@ -95,7 +109,8 @@ fn listen<
 }
 
 fn limits(words: &ServeWords<'_>) -> Result<Limits, Failure>
-    ensures { IfErr result (ServeBlames words.now) }
+    ensures blames { IfErr result (ServeBlames words.now) }
+    ensures words { IfErr result (λ e. (w : Word) × (e ≡ Failure.Word w)) }
 {
     let mebibytes = memory(words.memory)?;
     let seconds = number(Word::Idle, words.idle)?;
@@ -119,7 +134,8 @@ fn watched<'a, L: Door, R: Clock>(clock: &'a R, door: L, limits: Limits) -> Watc
 
 /// N6; or want of memory, where that is what it was.
 fn socket(error: std::io::Error) -> Failure
-    ensures { BlamesNone result }
+    ensures blames { BlamesNone result }
+    ensures system { IsS1For ⊥ result }
 {
     if error.kind() == ErrorKind::OutOfMemory {
         Failure::NoMemory

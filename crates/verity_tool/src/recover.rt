@@ -3,6 +3,8 @@
 ghost use Rattle.std.specs.Prelude.{◌⊎◌, OnOk, IfErr, codes};
 ghost use Rattle.std.specs.Io.KnownBytes.{Appends};
 ghost use Rattle.verity_files.specs.Faults.{line};
+ghost use Rattle.verity_files.specs.Errors.{IsS1For};
+ghost use Rattle.verity_gate.specs.Journals.{IsAsked};
 ghost use Rattle.verity_tool.specs.Blamed.{RecoverBlames};
 
 use std::io::Write;
@@ -21,6 +23,7 @@ pub fn recover<R: Paths + AllocGlobal, W: Write>(
     ensures printed { OnOk result (Appends (W.contents output.old) (W.contents output.new) (line (codes "recovered"))
         ⊎ Appends (W.contents output.old) (W.contents output.new) (line (codes "nothing to recover"))) }
     ensures blames { IfErr result (RecoverBlames R.Paths rt.now words.now) }
+    ensures system { IfErr result (IsS1For (IsAsked R.Paths rt.now words.now.hash_path.now)) }
 {
     check_paths(words.data_path, words.hash_path)?;
     let (data, hash) = open_both(rt, words.data_path, words.hash_path, Command::Recover)?;

@@ -97,9 +97,9 @@ impl<'a, P: Paths + AllocGlobal> Journalled<'a, P> {
     pub fn files(&self) -> Result<(Opened, Opened), StoreFault>
         ensures data_device { IfOk result (λ both. (both.0.identity ≡ self.now.«data».identity) × (both.0.len ≡ self.now.«data».len)) }
         ensures hash_device { IfOk result (λ both. (both.1.identity ≡ self.now.hash.identity) × (both.1.len ≡ self.now.hash.len)) }
-        ensures refused { IfErr result IsOfSystem }
+        ensures refused { IfErr result (IsOfSystem (P.refuses self.now.rt.now)) }
     {
-        Ok((self.data.again()?, self.hash.again()?))
+        Ok((self.rt.again(&self.data)?, self.rt.again(&self.hash)?))
     }
 
     /// Removes the journal where its gate is closed.
@@ -114,7 +114,8 @@ impl<'a, P: Paths + AllocGlobal> Journalled<'a, P> {
         ensures { (editor.new ≡ editor.old) ⊎ V.restaged editor.old editor.new }
     {
         if self.is_staged {
-            editor.restage(self.rt.alloc(), self.data.again()?, self.hash.again()?)?;
+            let (data, hash) = self.files()?;
+            editor.restage(self.rt.alloc(), data, hash)?;
             self.is_staged = false;
         }
         if self.keeper.is_none() {

@@ -1,19 +1,21 @@
 //! A volume's files, opened to be edited.
 ghost use Rattle.std.specs.Prelude.{◌≡◌, ◌≢◌, ◌-◌, ◌*◌, ◌/◌, ◌^◌, false, min, None, Ok, Err};
 ghost use Rattle.std.specs.Prelude.{IfSome, IfOk, IfErr, IsErr, MatchOption};
+ghost use Rattle.verity_files.specs.Commands.{lock_of, writes};
+ghost use Rattle.verity_files.specs.Errors.{IsS1For};
 ghost use Rattle.verity_files.specs.Misread.{IsMisread};
 ghost use Rattle.verity_files.specs.VolumeFiles.{LiesIn, room_in};
 ghost use Rattle.verity_files.specs.Words.{number_in};
 ghost use Rattle.verity_files.specs.declared.failure.Word.TheVariants as word;
+ghost use Rattle.verity_store.specs.declared.fault.Which.TheVariants as which;
 ghost use Rattle.verity_volume.specs.Opening.{AreAt, AreSizes, IsOneFile};
 ghost use Rattle.verity_gate.specs.Refusals.{BlamesNone, BlamesAtMost};
 
 use crate::superblock::read_superblock;
-use std::alloc::Global;
 use verity_edit::EditFault;
 use verity_files::{
     Command, Failure, Fault, Opened, Paths, VolumeStore, Word, check_apart, number, open_there,
-    room_of, store_of_most, take_lock,
+    room_of, store_of_most,
 };
 use verity_store::{BlockStore, StoreFault, Which};
 use verity_superblock::{SuperFault, Table};
@@ -50,16 +52,21 @@ pub fn open_both<P: Paths>(
     ensures data { IfOk result (λ both. IfOk both.0 (P.opens rt.now data_path.now)) }
     ensures hash { IfOk result (λ both. P.opens rt.now hash_path.now both.1) }
     ensures apart { IfOk result (λ both. IfOk both.0 (λ opened. opened.identity ≢ both.1.identity)) }
+    ensures data_permitted { IfOk result (λ both. IfOk both.0 (λ opened. P.permits rt.now opened (writes command which.Data))) }
+    ensures hash_permitted { IfOk result (λ both. P.permits rt.now both.1 (writes command which.Hash)) }
+    ensures data_locked { IfOk result (λ both. IfOk both.0 (λ opened. P.locks rt.now opened (lock_of command))) }
+    ensures hash_locked { IfOk result (λ both. P.locks rt.now both.1 (lock_of command)) }
     ensures one { IfErr result (λ e. e ≡ Failure.Word word.Hash → IsOneFile P.Paths rt.now data_path.now hash_path.now) }
     ensures refused { IfErr result (BlamesAtMost word.Hash) }
+    ensures system { IfErr result (IsS1For (P.refuses rt.now)) }
 {
     let hash = open_there(rt, hash_path, command, Which::Hash)?;
     let data = open_there(rt, data_path, command, Which::Data);
     if let Ok(data) = &data {
         check_apart(data.identity, hash.identity)?;
-        take_lock(&data.file, command.lock(), Which::Data)?;
+        rt.lock(data, command.lock(), Which::Data)?;
     }
-    take_lock(&hash.file, command.lock(), Which::Hash)?;
+    rt.lock(&hash, command.lock(), Which::Hash)?;
     Ok((data, hash))
 }
 
@@ -81,8 +88,8 @@ pub fn offset_of(table: Option<&str>, offset: Option<&str>) -> Result<u64, Failu
 
 /// Opens a volume's stores: of what a table line says; or else the superblock at an offset of HASH. Of a device the data store is the
 /// volume's image, as far as the device goes, and the hash store all whole blocks. There is no volume where there is no DATA.
-pub fn open_volume(
-    alloc: Global,
+pub fn open_volume<P: Paths + AllocGlobal>(
+    rt: &P,
     line: &Option<Table>,
     offset: u64,
     data: Result<Opened, StoreFault>,
@@ -106,8 +113,8 @@ pub fn open_volume(
     ensures missing { IsErr «data» → IsErr result }
     ensures refused { IfErr result BlamesNone }
 {
-    let again = hash.again()?;
-    let sizes = sizes_of(alloc, line, &hash, offset)?;
+    let again = rt.again(&hash)?;
+    let sizes = sizes_of(rt, line, &hash, offset)?;
     let (data_store, hash_store, sizes) = open_stores(data, hash, sizes)?;
     Ok(OpenedVolume {
         data_store,
@@ -118,8 +125,8 @@ pub fn open_volume(
 }
 
 /// What a table line says of the files; or else the superblock at an offset of HASH.
-fn sizes_of(
-    alloc: Global,
+fn sizes_of<P: Paths + AllocGlobal>(
+    rt: &P,
     line: &Option<Table>,
     hash: &Opened,
     offset: u64,
@@ -137,17 +144,17 @@ fn sizes_of(
             data_room: 0,
             hash_room: room_of(hash, table.hash_block_size()),
         }),
-        None => read_sizes(alloc, hash, offset),
+        None => read_sizes(rt, hash, offset),
     }
 }
 
 /// What the superblock at an offset of HASH says of them.
-fn read_sizes(alloc: Global, hash: &Opened, offset: u64) -> Result<Sizes, Failure>
+fn read_sizes<P: Paths + AllocGlobal>(rt: &P, hash: &Opened, offset: u64) -> Result<Sizes, Failure>
     ensures sizes { IfOk result (AreAt offset) }
     ensures hash_room { IfOk result (λ sizes. sizes.hash_room ≡ room_in hash.now.identity hash.now.len sizes.hash_block_size) }
     ensures refused { IfErr result BlamesNone }
 {
-    match read_superblock(alloc, hash.again()?, offset) {
+    match read_superblock(rt.alloc(), rt.again(hash)?, offset) {
         Ok((superblock, hash_start_block)) => Ok(Sizes {
             data_block_size: superblock.data_block_size(),
             hash_block_size: superblock.hash_block_size(),

@@ -2,7 +2,8 @@
 ghost use Rattle.std.specs.Prelude.{◌≡◌, Ok, IfSome, IfOk, IfErr, string_bytes};
 ghost use Rattle.verity_files.specs.declared.failure.Word.TheVariants as word;
 ghost use Rattle.verity_files.specs.declared.opening.Opened.{Opened};
-ghost use Rattle.verity_gate.specs.Journals.{IsJournalPath, IsOneOf};
+ghost use Rattle.verity_files.specs.Errors.{IsS1For};
+ghost use Rattle.verity_gate.specs.Journals.{IsAsked, IsJournalPath, IsOneOf};
 ghost use Rattle.verity_gate.specs.Refusals.{BlamesNone, BlamesAtMost};
 ghost use Rattle.verity_work.specs.Work.{BlamesOver, BlamesOwn, IsDoneAt, IsReasonAt, PrintsAsBefore};
 
@@ -29,6 +30,7 @@ pub fn do_over<R: Paths + Clock + Eprint + AllocGlobal, T: Work, W: Write, E: Wr
         (W.contents output.old) (W.contents output.new) status) }
     ensures blames { IfErr result (BlamesOver R.Paths rt.now words.now T.blamed (IsReasonAt (T.reason work.old (R.opens rt.now))
         (R.opens rt.now) words.now.data_path.now words.now.hash_path.now)) }
+    ensures system { IfErr result (IsS1For (IsAsked R.Paths rt.now words.now.hash_path.now)) }
 {
     let line = match words.table {
         Some(text) => Some(Table::parse(rt.alloc(), text)?),
@@ -126,8 +128,8 @@ fn journalled<'a, R: Paths + AllocGlobal, E: Write>(
     ensures refused { IfErr result (BlamesAtMost word.Journal) }
 {
     let keeper = make_whole(rt, words, path, data, hash, names, errors)?;
-    let data = data.seen_again()?;
-    let hash = hash.seen_again()?;
+    let data = rt.seen_again(data)?;
+    let hash = rt.seen_again(hash)?;
     Ok(Journalled::new(rt, path, names, data, hash, keeper))
 }
 

@@ -37,7 +37,7 @@ pub(crate) fn do_in_place<R: Paths + Clock + Eprint + AllocGlobal, T: Work, W: W
     ensures blames { IfErr result BlamesNone }
 {
     let Given { line, data, hash } = given;
-    let volume = open_volume(rt.alloc(), &line, words.offset, data, hash)?;
+    let volume = open_volume(rt, &line, words.offset, data, hash)?;
     work.see(volume.sizes.data_block_size)?;
     match line {
         Some(table) => run_in_place_under(rt, words, table, work, volume, output, errors),
@@ -136,7 +136,7 @@ pub(crate) fn do_staged<R: Paths + Clock + Eprint + AllocGlobal, T: Work, W: Wri
     ensures blames { IfErr result BlamesNone }
 {
     let (data, hash) = commits.files()?;
-    let volume = open_volume(rt.alloc(), &line, words.offset, Ok(data), hash)?;
+    let volume = open_volume(rt, &line, words.offset, Ok(data), hash)?;
     work.see(volume.sizes.data_block_size)?;
     match line {
         Some(table) => run_staged_under(rt, words, table, work, volume, commits, output, errors),
