@@ -1,7 +1,7 @@
 //! The command `edit`: does a script's lines over a volume.
 ghost use Rattle.std.specs.Prelude.{IfOk, IfErr};
 ghost use Rattle.verity_files.specs.Errors.{IsS1For};
-ghost use Rattle.verity_gate.specs.Journals.{IsAsked};
+ghost use Rattle.verity_gate.specs.Journals.{RefusesOrStands};
 ghost use Rattle.verity_work.specs.Work.{IsDoneAt};
 ghost use Rattle.verity_changes.specs.Blamed.{EditBlames};
 ghost use Rattle.verity_changes.specs.Printing.{IsEdited};
@@ -29,14 +29,31 @@ pub fn edit<R: Paths + Clock + Eprint + AllocGlobal, W: Write, E: Write + IsTerm
     ensures done { IfOk result (λ status. IsDoneAt (IsEdited (R.text rt.now words.now.script_path.now)) words.now.data_path.now
         words.now.hash_path.now (W.contents output.old) (W.contents output.new) status) }
     ensures blames { IfErr result (EditBlames R.Paths rt.now words.now) }
-    ensures system { IfErr result (IsS1For (IsAsked R.Paths rt.now words.now.hash_path.now)) }
+    ensures system { IfErr result (IsS1For (RefusesOrStands R.Paths rt.now words.now.hash_path.now)) }
 {
     check_paths(words.data_path, words.hash_path)?;
+    let offset = offset_of(words.table, words.hash_offset)?;
+    edit_at(rt, words, offset, output, errors)
+}
+
+/// Does them over the volume at an offset of HASH.
+fn edit_at<R: Paths + Clock + Eprint + AllocGlobal, W: Write, E: Write + IsTerminal>(
+    rt: &R,
+    words: &EditWords<'_>,
+    offset: u64,
+    output: &mut W,
+    errors: &mut E,
+) -> Result<u8, Failure>
+    ensures done { IfOk result (λ status. IsDoneAt (IsEdited (R.text rt.now words.now.script_path.now)) words.now.data_path.now
+        words.now.hash_path.now (W.contents output.old) (W.contents output.new) status) }
+    ensures blames { IfErr result (EditBlames R.Paths rt.now words.now) }
+    ensures system { IfErr result (IsS1For (RefusesOrStands R.Paths rt.now words.now.hash_path.now)) }
+{
     let over = Words {
         command: Command::Edit,
         data_path: words.data_path,
         hash_path: words.hash_path,
-        offset: offset_of(words.table, words.hash_offset)?,
+        offset,
         table: words.table,
         journal: words.journal,
         is_watched: is_watched(words.is_quiet, errors.is_terminal()),
@@ -54,6 +71,7 @@ struct Lines<'a> {
 }
 
 impl<'a> Work for Lines<'a> {
+    ghost use Rattle.std.specs.Prelude.{⊤};
     ghost use Rattle.verity_changes.specs.Printing.{IsEdited};
 
     ghost prints = { λ lines text. IsEdited (text lines.path.now) };
@@ -61,6 +79,12 @@ impl<'a> Work for Lines<'a> {
     ghost blamed = { λ _. ⊥ };
 
     ghost reason = { λ _ _ _. ⊥ };
+
+    ghost begun = { λ _. ⊤ };
+
+    ghost seen = { λ _. ⊤ };
+
+    ghost reads_more = { λ _. ⊥ };
 
     fn begin<R: Paths + AllocGlobal>(
         &mut self,

@@ -3,6 +3,7 @@ ghost use Rattle.std.specs.Prelude.{IfOk, IfErr, OnOk};
 ghost use Rattle.verity_gate.specs.Refusals.{BlamesNone};
 ghost use Rattle.std.specs.Io.KnownBytes.{Appends};
 ghost use Rattle.verity_superblock.specs.Line.{canonical};
+ghost use Rattle.verity_files.specs.Errors.{IsS1For};
 ghost use Rattle.verity_files.specs.Faults.{line};
 ghost use Rattle.verity_volume.specs.Lines.{volume_line};
 ghost use Rattle.verity_changes.specs.Printing.{IsEdited, IsScratch};
@@ -14,7 +15,7 @@ use verity_answers::{Script, run_script};
 use verity_build::{BuildParameters, build};
 use verity_digest::Algorithm;
 use verity_edit::Editor;
-use verity_files::{Failure, read_script, salt};
+use verity_files::{Failure, Paths, salt};
 use verity_store::MemStore;
 use verity_volume::{Devices, Direct, committed_line};
 
@@ -31,23 +32,24 @@ const DEVICES: Devices<'static> = Devices {
 };
 
 /// Builds a volume of one zero block in memory, prints its table line, and does the input's lines over it.
-pub fn scratch<I: Read, W: Write, E: Write>(
-    alloc: Global,
+pub fn scratch<R: Paths + AllocGlobal, I: Read, W: Write, E: Write>(
+    rt: &R,
     input: &mut I,
     output: &mut W,
     errors: &mut E,
 ) -> Result<u8, Failure>
     ensures done { IfOk result (λ status. IsScratch (I.remaining input.old) (W.contents output.old) (W.contents output.new) status) }
     ensures blames { IfErr result BlamesNone }
+    ensures system { IfErr result (IsS1For (R.refuses rt.now)) }
 {
-    let editor = zero_volume(alloc)?;
-    print_line(alloc, &editor, DEVICES, output)?;
-    answer_all(alloc, editor, DEVICES, input, output, errors)
+    let editor = zero_volume(rt.alloc())?;
+    print_line(rt.alloc(), &editor, DEVICES, output)?;
+    answer_all(rt, editor, DEVICES, input, output, errors)
 }
 
 /// Does the input's lines over an editor.
-fn answer_all<I: Read, W: Write, E: Write>(
-    alloc: Global,
+fn answer_all<R: Paths + AllocGlobal, I: Read, W: Write, E: Write>(
+    rt: &R,
     editor: Editor<MemStore, MemStore>,
     devices: Devices<'_>,
     input: &mut I,
@@ -57,17 +59,27 @@ fn answer_all<I: Read, W: Write, E: Write>(
     ensures done { IfOk result (λ status. IsEdited (I.remaining input.old) devices.entry (W.contents output.old)
         (W.contents output.new) status) }
     ensures blames { IfErr result BlamesNone }
+    ensures system { IfErr result (IsS1For (R.refuses rt.now)) }
 {
-    let bytes = read_script(alloc, input)?;
+    let bytes = rt.script_in(rt.alloc(), input)?;
     let script = Script {
         path: "standard input",
         bytes: &bytes,
     };
-    run_script(alloc, editor, &mut Direct, devices, script, output, errors)
+    run_script(
+        rt.alloc(),
+        editor,
+        &mut Direct,
+        devices,
+        script,
+        output,
+        errors,
+    )
 }
 
 fn zero_volume(alloc: Global) -> Result<Editor<MemStore, MemStore>, Failure>
-    ensures { IfErr result BlamesNone }
+    ensures blames { IfErr result BlamesNone }
+    ensures system { IfErr result (IsS1For ⊥) }
 {
     let mut data_store = MemStore::zeroed(alloc, DATA_BLOCK_SIZE, 1)?;
     let mut hash_store = MemStore::zeroed(alloc, HASH_BLOCK_SIZE, 0)?;
@@ -88,6 +100,7 @@ fn print_line<W: Write>(
     ensures printed { OnOk result (Appends (W.contents output.old) (W.contents output.new)
         (line (canonical (volume_line devices.entry editor.now.volume editor.now.root)))) }
     ensures blames { IfErr result BlamesNone }
+    ensures system { IfErr result (IsS1For ⊥) }
 {
     let line = committed_line(alloc, devices, editor.superblock(), editor.root())?;
     writeln!(output, "{line}")?;

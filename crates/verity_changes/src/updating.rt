@@ -1,7 +1,8 @@
 //! The command `update`: makes a volume that of another image.
-ghost use Rattle.std.specs.Prelude.{IfOk, IfErr};
-ghost use Rattle.verity_files.specs.Errors.{IsS1For};
-ghost use Rattle.verity_gate.specs.Journals.{IsAsked};
+ghost use Rattle.std.specs.Prelude.{◌≡◌, IfOk, IfErr, OnOk};
+ghost use Rattle.verity_files.specs.Commands.{lock_of};
+ghost use Rattle.verity_files.specs.Errors.{IsOfSystem, IsS1For};
+ghost use Rattle.verity_gate.specs.Journals.{RefusesOrStands};
 ghost use Rattle.verity_gate.specs.Refusals.{BlamesNone};
 ghost use Rattle.verity_work.specs.Work.{IsDoneAt};
 ghost use Rattle.verity_changes.specs.Blamed.{UpdateBlames};
@@ -41,15 +42,32 @@ pub fn update<R: Paths + Clock + Eprint + AllocGlobal, W: Write, E: Write + IsTe
     ensures done { IfOk result (λ status. IsDoneAt IsUpdated words.now.data_path.now words.now.hash_path.now (W.contents output.old)
         (W.contents output.new) status) }
     ensures blames { IfErr result (UpdateBlames R.Paths rt.now words.now) }
-    ensures system { IfErr result (IsS1For (IsAsked R.Paths rt.now words.now.hash_path.now)) }
+    ensures system { IfErr result (IsS1For (RefusesOrStands R.Paths rt.now words.now.hash_path.now)) }
 {
     check_paths(words.data_path, words.hash_path)?;
+    let offset = offset_of(words.table, words.hash_offset)?;
+    update_at(rt, words, offset, output, errors)
+}
+
+/// Makes it that of NEW where it lies at an offset of HASH.
+fn update_at<R: Paths + Clock + Eprint + AllocGlobal, W: Write, E: Write + IsTerminal>(
+    rt: &R,
+    words: &UpdateWords<'_>,
+    offset: u64,
+    output: &mut W,
+    errors: &mut E,
+) -> Result<u8, Failure>
+    ensures done { IfOk result (λ status. IsDoneAt IsUpdated words.now.data_path.now words.now.hash_path.now (W.contents output.old)
+        (W.contents output.new) status) }
+    ensures blames { IfErr result (UpdateBlames R.Paths rt.now words.now) }
+    ensures system { IfErr result (IsS1For (RefusesOrStands R.Paths rt.now words.now.hash_path.now)) }
+{
     let is_watched = is_watched(words.is_quiet, errors.is_terminal());
     let over = Words {
         command: Command::Update,
         data_path: words.data_path,
         hash_path: words.hash_path,
-        offset: offset_of(words.table, words.hash_offset)?,
+        offset,
         table: words.table,
         journal: words.journal,
         is_watched,
@@ -77,7 +95,7 @@ struct Taking<'a> {
 }
 
 impl<'a> Work for Taking<'a> {
-    ghost use Rattle.std.specs.Prelude.{◌≡◌};
+    ghost use Rattle.std.specs.Prelude.{◌≡◌, ⊤, IsSome};
     ghost use Rattle.verity_files.specs.declared.failure.Word.TheVariants as word;
     ghost use Rattle.verity_changes.specs.Blamed.{IsTaken};
     ghost use Rattle.verity_changes.specs.Printing.{IsUpdated};
@@ -87,6 +105,12 @@ impl<'a> Work for Taking<'a> {
     ghost blamed = { λ w. w ≡ word.New };
 
     ghost reason = { λ taking. IsTaken taking.path.now };
+
+    ghost begun = { λ taking. IsSome taking.opened };
+
+    ghost seen = { λ taking. IsSome taking.store };
+
+    ghost reads_more = { λ _. ⊤ };
 
     fn begin<R: Paths + AllocGlobal>(
         &mut self,
@@ -109,9 +133,7 @@ impl<'a> Work for Taking<'a> {
     }
 
     fn see(&mut self, data_block_size: usize) -> Result<(), Failure> {
-        let Some(opened) = self.opened.take() else {
-            return Err(StoreFault::Device.into());
-        };
+        let opened = self.opened.take().unwrap();
         self.store = Some(whole_store(opened, data_block_size)?);
         Ok(())
     }
@@ -132,9 +154,7 @@ impl<'a> Work for Taking<'a> {
         output: &mut W,
         _errors: &mut E,
     ) -> Result<u8, Failure> {
-        let Some(new_store) = self.store.take() else {
-            return Err(StoreFault::Device.into());
-        };
+        let new_store = self.store.take().unwrap();
         let mut editor = editor;
         let taken = take_watched(rt, self.is_watched, &mut editor, new_store, hash, devices)?;
         let changed = taken.map_err(|fault| failure_of(fault, self.is_trusted))?;
@@ -155,13 +175,17 @@ impl<'a> Work for Taking<'a> {
 
 /// Opens NEW to be read.
 fn open_new<R: Paths>(rt: &R, path: &str) -> Result<Opened, StoreFault>
-    ensures { IfOk result (R.opens rt.now path.now) }
+    ensures opened { IfOk result (R.opens rt.now path.now) }
+    ensures refused { IfErr result (IsOfSystem (R.refuses rt.now)) }
 {
     open_there(rt, path, Command::Verify, Which::Data)
 }
 
 /// Takes the lock on NEW that those have that only read.
-fn lock_new<R: Paths>(rt: &R, opened: &Opened) -> Result<(), Fault> {
+fn lock_new<R: Paths>(rt: &R, opened: &Opened) -> Result<(), Fault>
+    ensures locked { OnOk result (R.locks rt.now opened.now (lock_of Command.Verify)) }
+    ensures refused { IfErr result (λ e. e ≡ Fault.Store StoreFault.Device → R.refuses rt.now) }
+{
     match rt.lock(opened, Command::Verify.lock(), Which::Data) {
         Err(Fault::InUse(_)) => Err(Fault::NewInUse),
         taken => taken,

@@ -1,11 +1,10 @@
--- What a commit of two staged stores makes of the devices that hold the stores below.
-use Rattle.std.proofs.Common.{◌≡◌, ◌⊎◌, ◌≤◌, ℕ, List, ⊎_elim, inl, inr, sym, ap, ◌∙◌, subst}
+-- What a commit of two staged stores makes of the devices that hold what stands below.
+use Rattle.std.proofs.Common.{◌≡◌, ℕ, List, ⊎_elim, inl, inr, sym, ap, ◌∙◌, subst}
 use Rattle.std.specs.List.{concat}
+use Rattle.verity_store.specs.declared.store.BlockStore as store
 use Rattle.verity_journal.specs.Disks.{Contents, LeavesOnly}
-use Rattle.verity_journal.specs.Plan.{Plan}
-use Rattle.verity_journal.specs.Journal.{Pair, Suits, IsOldOrNew, made_pair, recovered_pair}
-use Rattle.verity_stage.specs.Stage.{Stage, staged, below_of, plan_of}
-use Rattle.verity_stage.proofs.PlaceLemmas.{below-same}
+use Rattle.verity_journal.specs.Journal.{Pair, Suits, IsOldOrNew, made_pair}
+use Rattle.verity_stage.specs.Stage.{Stage, bytes_below, plan_of}
 use Rattle.verity_commit.specs.Committing.{IsOneOf}
 
 abbrev pub both : List ℕ → List ℕ → Pair
@@ -22,24 +21,34 @@ weaker moment left_since old new P Q f only = record {
   before = λ t c early left. ⊎_elim inl (λ p. inr (f c p)) (only.before t c early left);
 }
 
--- the stores below as the devices hold them, and the staged stores as they were looked at (xs, a; ys, b) and as they are (us, d; vs, e)
-module _ (names : List ℕ) (first : Pair) (os ps xs ys us vs : List (List ℕ)) (a b d e : Stage)
-    (holds : first ≡ both (concat os) (concat ps)) (data_fixed : below_of us ≡ below_of os) (hash_fixed : below_of vs ≡ below_of ps)
-    (data_below : xs ≡ us) (hash_below : ys ≡ vs) (data_stage : a ≡ d) (hash_stage : b ≡ e)
-    (made : made_pair (plan_of names a b) (both (concat xs) (concat ys)) ≡ both (concat (staged xs a)) (concat (staged ys b))) where
-  pub here : first ≡ (both (concat xs) (concat ys))
-  here = holds ∙ pair_same (concat os) (concat xs) (concat ps) (concat ys) (sym (ap concat (data_below ∙ below-same us os data_fixed)))
-      (sym (ap concat (hash_below ∙ below-same vs ps hash_fixed)))
+abbrev pub below : {D H : Type 0} → store.Ghosts D → store.Ghosts H → D → H → Pair
+below data_facts hash_facts data_store hash_store =
+    both (bytes_below (data_facts.fixed data_store)) (bytes_below (hash_facts.fixed hash_store))
 
-  pub makes : made_pair (plan_of names a b) first ≡ (both (concat (staged us d)) (concat (staged vs e)))
-  makes = ap (made_pair (plan_of names a b)) here ∙ made
-      ∙ pair_same (concat (staged xs a)) (concat (staged us d)) (concat (staged ys b)) (concat (staged vs e))
-      (ap (λ l. concat (staged l a)) data_below ∙ ap (λ s. concat (staged us s)) data_stage)
-      (ap (λ l. concat (staged l b)) hash_below ∙ ap (λ s. concat (staged vs s)) hash_stage)
+abbrev pub held : {D H : Type 0} → store.Ghosts D → store.Ghosts H → D → H → Pair
+held data_facts hash_facts data_store hash_store = both (concat (data_facts.content data_store)) (concat (hash_facts.content hash_store))
 
-  pub suits_here : Suits (plan_of names a b) (both (concat xs) (concat ys)) → Suits (plan_of names a b) first
-  suits_here suits = subst (Suits (plan_of names a b)) (sym here) suits
+-- two staged stores before a commit (d, h) and after it (e, i), and as they were looked at then (f, j)
+module _ {D H : Type 0} (data_facts : store.Ghosts D) (hash_facts : store.Ghosts H) (on_data : D → Stage) (on_hash : H → Stage)
+    (names : List ℕ) (first : Pair) (d e f : D) (h i j : H)
+    (holds : first ≡ below data_facts hash_facts d h) (data_fixed : data_facts.fixed e ≡ data_facts.fixed d)
+    (hash_fixed : hash_facts.fixed i ≡ hash_facts.fixed h) (data_same : f ≡ e) (hash_same : j ≡ i)
+    (made : made_pair (plan_of names (on_data f) (on_hash j)) (below data_facts hash_facts f j) ≡ held data_facts hash_facts f j) where
+  here : first ≡ below data_facts hash_facts f j
+  here = holds ∙ pair_same (bytes_below (data_facts.fixed d)) (bytes_below (data_facts.fixed f)) (bytes_below (hash_facts.fixed h))
+      (bytes_below (hash_facts.fixed j)) (sym (ap (λ s. bytes_below (data_facts.fixed s)) data_same ∙ ap bytes_below data_fixed))
+      (sym (ap (λ s. bytes_below (hash_facts.fixed s)) hash_same ∙ ap bytes_below hash_fixed))
 
-  pub one_of : (c : Contents) → IsOldOrNew (plan_of names a b) first c
-      → IsOneOf names first (both (concat (staged us d)) (concat (staged vs e))) c
+  pub makes : made_pair (plan_of names (on_data f) (on_hash j)) first ≡ held data_facts hash_facts e i
+  makes = ap (made_pair (plan_of names (on_data f) (on_hash j))) here ∙ made
+      ∙ pair_same (concat (data_facts.content f)) (concat (data_facts.content e)) (concat (hash_facts.content j))
+      (concat (hash_facts.content i)) (ap (λ s. concat (data_facts.content s)) data_same)
+      (ap (λ s. concat (hash_facts.content s)) hash_same)
+
+  pub suits_here : Suits (plan_of names (on_data f) (on_hash j)) (below data_facts hash_facts f j)
+      → Suits (plan_of names (on_data f) (on_hash j)) first
+  suits_here suits = subst (Suits (plan_of names (on_data f) (on_hash j))) (sym here) suits
+
+  pub one_of : (c : Contents) → IsOldOrNew (plan_of names (on_data f) (on_hash j)) first c
+      → IsOneOf names first (held data_facts hash_facts e i) c
   one_of c is_one = record { volume = ⊎_elim inl (λ is. inr (is ∙ makes)) is_one.volume; named = is_one.named }

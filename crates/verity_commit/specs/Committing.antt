@@ -1,9 +1,9 @@
 -- What a commit makes of the devices of a volume.
 use Rattle.std.specs.Prelude.{◌≡◌, ◌⊎◌, ℕ, List, ⊤, Result, Ok, Err}
-use Rattle.std.specs.List.{concat}
 use Rattle.verity_store.specs.declared.store.BlockStore as store
 use Rattle.verity_journal.specs.Disks.{Contents}
 use Rattle.verity_journal.specs.Journal.{Pair, pair_of, recovered_pair, IsNamed}
+use Rattle.verity_stage.specs.Stage.{bytes_below}
 use Rattle.verity_edit.specs.declared.command.Committed.{Committed}
 use Rattle.verity_edit.specs.Committing.{IsRefusal}
 use Rattle.verity_edit.specs.Editing.{Editing}
@@ -29,10 +29,10 @@ abbrev pub ExplainsEdit : {D H : Type 0} → store.Ghosts D → store.Ghosts H �
 ExplainsEdit data_facts hash_facts old new (fault.Edit e) = IsRefusalUnder data_facts hash_facts old new e
 ExplainsEdit data_facts hash_facts old new (fault.Disks e) = ⊤
 
--- the devices hold these two stores
+-- the devices hold what stands below these two staged stores
 abbrev pub Holds : {D H : Type 0} → store.Ghosts D → store.Ghosts H → D → H → Contents → Type 0
 Holds data_facts hash_facts data_store hash_store seen =
-    pair_of seen ≡ (concat (data_facts.content data_store), concat (hash_facts.content hash_store))
+    pair_of seen ≡ (bytes_below (data_facts.fixed data_store), bytes_below (hash_facts.fixed hash_store))
 
 -- recovery makes the one pair or the other, and a plan behind an open gate has these names
 pub record IsOneOf (names : List ℕ) (old new : Pair) (contents : Contents) : Type 0 where

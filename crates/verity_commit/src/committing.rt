@@ -12,8 +12,7 @@ use std::alloc::Allocator;
 use verity_edit::{Committed, Editor};
 use verity_journal::{DiskFault, Disks, Keeper};
 use verity_line::LineEditor;
-use verity_stage::{Staged, commit_staged};
-use verity_store::BlockStore;
+use verity_stage::{StagedStore, commit_staged};
 
 /// Commits the pending edits of an editor over two staged stores, and brings them through the journal to the devices, which hold
 /// the stores below. The journal has these names of them.
@@ -22,34 +21,28 @@ use verity_store::BlockStore;
 /// leaves what is read of them; Foreign never comes over devices that hold the stores below. After a fault of the devices a start comes
 /// next, and the editor is of no more use. It writes each changed block twice, syncs five times, and takes memory for the changed
 /// blocks three times.
-pub fn commit_editor<K: Disks, D: BlockStore, H: BlockStore, A: Allocator + Copy>(
+pub fn commit_editor<K: Disks, D: StagedStore<A>, H: StagedStore<A>, A: Allocator + Copy>(
     alloc: A,
     keeper: &mut Keeper<K>,
     names: &[u8],
-    editor: &mut Editor<Staged<D, A>, Staged<H, A>, A>,
+    editor: &mut Editor<D, H, A>,
 ) -> Result<Committed, CommitFault>
-    ensures done { IfOk result (λ committed. Commits ⟦<Staged<D, A> as BlockStore>⟧ ⟦<Staged<H, A> as BlockStore>⟧
-        editor.old editor.new committed) }
-    ensures refused { IfErr result (ExplainsCommit ⟦<Staged<D, A> as BlockStore>⟧ ⟦<Staged<H, A> as BlockStore>⟧ editor.old editor.new) }
-    ensures made { OnOk result (Holds D.BlockStore H.BlockStore editor.old.data_store.store editor.old.hash_store.store
-        (K.seen keeper.old.disks) → pair_of (K.seen keeper.new.disks) ≡ (
-          concat (⟦<Staged<D, A> as BlockStore>⟧.content editor.new.data_store),
-          concat (⟦<Staged<H, A> as BlockStore>⟧.content editor.new.hash_store),
-        )) }
-    ensures any_moment { Holds D.BlockStore H.BlockStore editor.old.data_store.store editor.old.hash_store.store (K.seen keeper.old.disks)
+    ensures done { IfOk result (λ committed. Commits D.BlockStore H.BlockStore editor.old editor.new committed) }
+    ensures refused { IfErr result (ExplainsCommit D.BlockStore H.BlockStore editor.old editor.new) }
+    ensures made { OnOk result (Holds D.BlockStore H.BlockStore editor.old.data_store editor.old.hash_store (K.seen keeper.old.disks)
+        → pair_of (K.seen keeper.new.disks) ≡ (concat (D.content editor.new.data_store), concat (H.content editor.new.hash_store))) }
+    ensures any_moment { Holds D.BlockStore H.BlockStore editor.old.data_store editor.old.hash_store (K.seen keeper.old.disks)
         → keeper.old.is_settled ≡ true → IsEdit result ⊎ LeavesOnly K.moment K.left_since keeper.old.disks keeper.new.disks
-        (IsOneOf names.now (pair_of (K.seen keeper.old.disks)) (
-          concat (⟦<Staged<D, A> as BlockStore>⟧.content editor.new.data_store),
-          concat (⟦<Staged<H, A> as BlockStore>⟧.content editor.new.hash_store),
-        )) }
+        (IsOneOf names.now (pair_of (K.seen keeper.old.disks))
+        (concat (D.content editor.new.data_store), concat (H.content editor.new.hash_store))) }
     ensures settled { OnOk result (keeper.new.is_settled ≡ true) }
     ensures failed { result ≡ Err (CommitFault.Disks DiskFault.Device) → keeper.old.is_settled ≡ true
         → K.faults keeper.old.disks < K.faults keeper.new.disks }
     ensures memory { result ≡ Err (CommitFault.Disks DiskFault.NoMemory) → K.seen keeper.new.disks ≡ K.seen keeper.old.disks }
-    ensures own { Holds D.BlockStore H.BlockStore editor.old.data_store.store editor.old.hash_store.store (K.seen keeper.old.disks)
+    ensures own { Holds D.BlockStore H.BlockStore editor.old.data_store editor.old.hash_store (K.seen keeper.old.disks)
         → result ≢ Err (CommitFault.Disks DiskFault.Foreign) }
     ensures untouched { IsEdit result → keeper.new ≡ keeper.old }
-    ensures stays { Stays ⟦<Staged<D, A> as BlockStore>⟧ ⟦<Staged<H, A> as BlockStore>⟧ editor.old editor.new }
+    ensures stays { Stays D.BlockStore H.BlockStore editor.old editor.new }
 {
     let committed = match editor.commit() {
         Ok(committed) => committed,
@@ -72,37 +65,33 @@ pub fn commit_editor<K: Disks, D: BlockStore, H: BlockStore, A: Allocator + Copy
 ///
 /// An editor's fault, E14 among them, leaves the devices as they were. After a fault of the devices, which come as `commit_editor` says,
 /// a start comes next, and the editor is of no more use. What it writes, syncs and takes is as `commit_editor` says.
-pub fn commit_line_editor<K: Disks, D: BlockStore, H: BlockStore, A: Allocator + Copy + Drop>(
+pub fn commit_line_editor<
+    K: Disks,
+    D: StagedStore<A>,
+    H: StagedStore<A>,
+    A: Allocator + Copy + Drop,
+>(
     alloc: A,
     keeper: &mut Keeper<K>,
     names: &[u8],
-    editor: LineEditor<Staged<D, A>, Staged<H, A>, A>,
-) -> (
-    LineEditor<Staged<D, A>, Staged<H, A>, A>,
-    Result<Committed, CommitFault>,
-)
-    ensures done { IfOk result.1 (λ committed. CommitsUnder ⟦<Staged<D, A> as BlockStore>⟧ ⟦<Staged<H, A> as BlockStore>⟧
-        editor result.0 committed) }
-    ensures refused { IfErr result.1 (ExplainsEdit ⟦<Staged<D, A> as BlockStore>⟧ ⟦<Staged<H, A> as BlockStore>⟧ editor result.0) }
-    ensures made { OnOk result.1 (Holds D.BlockStore H.BlockStore editor.data_store.store editor.hash_store.store
-        (K.seen keeper.old.disks) → pair_of (K.seen keeper.new.disks) ≡ (
-          concat (⟦<Staged<D, A> as BlockStore>⟧.content result.0.data_store),
-          concat (⟦<Staged<H, A> as BlockStore>⟧.content result.0.hash_store),
-        )) }
-    ensures any_moment { Holds D.BlockStore H.BlockStore editor.data_store.store editor.hash_store.store (K.seen keeper.old.disks)
+    editor: LineEditor<D, H, A>,
+) -> (LineEditor<D, H, A>, Result<Committed, CommitFault>)
+    ensures done { IfOk result.1 (λ committed. CommitsUnder D.BlockStore H.BlockStore editor result.0 committed) }
+    ensures refused { IfErr result.1 (ExplainsEdit D.BlockStore H.BlockStore editor result.0) }
+    ensures made { OnOk result.1 (Holds D.BlockStore H.BlockStore editor.data_store editor.hash_store (K.seen keeper.old.disks)
+        → pair_of (K.seen keeper.new.disks) ≡ (concat (D.content result.0.data_store), concat (H.content result.0.hash_store))) }
+    ensures any_moment { Holds D.BlockStore H.BlockStore editor.data_store editor.hash_store (K.seen keeper.old.disks)
         → keeper.old.is_settled ≡ true → IsEdit result.1 ⊎ LeavesOnly K.moment K.left_since keeper.old.disks keeper.new.disks
-        (IsOneOf names.now (pair_of (K.seen keeper.old.disks)) (
-          concat (⟦<Staged<D, A> as BlockStore>⟧.content result.0.data_store),
-          concat (⟦<Staged<H, A> as BlockStore>⟧.content result.0.hash_store),
-        )) }
+        (IsOneOf names.now (pair_of (K.seen keeper.old.disks))
+        (concat (D.content result.0.data_store), concat (H.content result.0.hash_store))) }
     ensures settled { OnOk result.1 (keeper.new.is_settled ≡ true) }
     ensures failed { result.1 ≡ Err (CommitFault.Disks DiskFault.Device) → keeper.old.is_settled ≡ true
         → K.faults keeper.old.disks < K.faults keeper.new.disks }
     ensures memory { result.1 ≡ Err (CommitFault.Disks DiskFault.NoMemory) → K.seen keeper.new.disks ≡ K.seen keeper.old.disks }
-    ensures own { Holds D.BlockStore H.BlockStore editor.data_store.store editor.hash_store.store (K.seen keeper.old.disks)
+    ensures own { Holds D.BlockStore H.BlockStore editor.data_store editor.hash_store (K.seen keeper.old.disks)
         → result.1 ≢ Err (CommitFault.Disks DiskFault.Foreign) }
     ensures untouched { IsEdit result.1 → keeper.new ≡ keeper.old }
-    ensures stays { Stays ⟦<Staged<D, A> as BlockStore>⟧ ⟦<Staged<H, A> as BlockStore>⟧ (editing_of editor) (editing_of result.0) }
+    ensures stays { Stays D.BlockStore H.BlockStore (editing_of editor) (editing_of result.0) }
 {
     let (editor, committed) = editor.commit();
     let committed = match committed {

@@ -29,11 +29,11 @@ store_fault_of error = if is_memory (error_kind error) then store.NoMemory else 
 abbrev pub failure_of_error : Error → Failure
 failure_of_error error = if is_memory (error_kind error) then failure.NoMemory else failure.Output
 
--- a script can't be read, be it for want of memory
-abbrev pub IsOfScript : Failure → Type 0
-IsOfScript failure.NoMemory = ⊤
-IsOfScript (failure.Refused (Store store.Device)) = ⊤
-IsOfScript _ = ⊥
+-- a script can't be read: S1, where the system refuses, or want of memory
+abbrev pub IsOfScript : Type 0 → Failure → Type 0
+IsOfScript refuses failure.NoMemory = ⊤
+IsOfScript refuses (failure.Refused (Store store.Device)) = refuses
+IsOfScript refuses _ = ⊥
 
 -- of a lock that was asked for
 abbrev pub told_of : {T : Type 0} → Result T TryLockError → Told

@@ -1,5 +1,5 @@
 -- What a store lies in, and its bytes, where they are known.
-use Rattle.std.specs.Prelude.{◌≡◌, ℕ, ◌-◌, ◌/◌, ◌^◌, nat_lt, Bool, if◌then◌else◌, Option, None, Some, List, []}
+use Rattle.std.specs.Prelude.{◌≡◌, ◌⊎◌, ℕ, ◌-◌, ◌/◌, ◌^◌, ◌<◌, nat_lt, Bool, true, if◌then◌else◌, Option, None, Some, List, []}
 use Rattle.verity_store.specs.declared.raw_file.RawFile.{Ghosts}
 use Rattle.verity_store.specs.Window.{first_bytes}
 use Rattle.verity_files.specs.declared.identity.Identity.{Identity}
@@ -21,6 +21,15 @@ volume_bytes {g = g} (Part w) = first_bytes w.len (g.bytes w.file)
 abbrev pub volume_synced : {F : Type 0} {g : Ghosts F} → VolumeFile F g → Bool
 volume_synced {g = g} (Regular r) = g.synced r.file
 volume_synced {g = g} (Part w) = g.synced w.file
+
+-- the file refused a call up to this byte, or it is replaced, and has no byte
+abbrev pub RegularRefuses : (ℕ → Type 0) → Bool → ℕ → Type 0
+RegularRefuses refuses is_replaced n = refuses n ⊎ ((is_replaced ≡ true) × (0 < n))
+
+-- a regular file did, or what has so many bytes
+abbrev pub VolumeRefuses : {F : Type 0} {g : Ghosts F} → VolumeFile F g → ℕ → Type 0
+VolumeRefuses {g = g} (Regular r) n = RegularRefuses (g.refuses r.file) r.is_replaced n
+VolumeRefuses {g = g} (Part w) n = g.refuses w.file n ⊎ (w.len < n)
 
 -- a regular file, as it stands or replaced
 abbrev pub IsRegular : {F : Type 0} {g : Ghosts F} → F → Bool → VolumeFile F g → Type 0

@@ -1,8 +1,8 @@
-//! What the program asks the system by a path.
+//! What the program asks the system of its files: by a path, and of what was opened at one.
 //!
-//! What stands at a path only the system knows. Here that has a name, for each question one, which a contract can say of any system: code
-//! that works over any [`Paths`] has no other way to such a fact than to ask by that very path. Of the system itself, whose calls have no
-//! clauses, nothing is known: that it answers so is trusted.
+//! What stands at a path, and what becomes of an opened file, only the system knows. Here that has a name, for each question one, which a
+//! contract can say of any system: code that works over any [`Paths`] has no other way to such a fact than to ask by that very path, or
+//! of that very file. Of the system itself, whose calls have no clauses, nothing is known: that it answers so is trusted.
 ghost use Rattle.std.specs.Prelude.{◌≡◌, ℕ, Bool, true, false, List, Option, IsOk, IfOk, IfErr, IfSome, OnOk, string_bytes};
 ghost use Rattle.verity_files.specs.Errors.{IsOfLock, IsOfScript, IsOfSystem};
 ghost use Rattle.verity_files.specs.declared.command.Lock.{Lock};
@@ -20,13 +20,14 @@ use crate::opening::{
 use crate::reading::{read_script, unread};
 use std::alloc::Global;
 use std::fs::File;
+use std::io::Read;
 use std::rt::Files;
 use std::{fs, io};
 use verity_store::{RawFile, StoreFault, Which};
 
 /// The files of a system, by their paths.
 pub trait Paths {
-    /// The system refused a call.
+    /// The system refused a call, or has more to read than is taken.
     ghost refuses: { Self → Type 0 };
 
     /// What was opened stood at this path.
@@ -67,7 +68,7 @@ pub trait Paths {
         ensures permitted { IfOk result (λ made. permits self.now made.0 true) }
         ensures refused { IfErr result (IsOfSystem (refuses self.now)) };
 
-    /// What was opened, once more. The lock is on both. S1 where the system refuses, S3 for want of memory.
+    /// What was opened, once more. S1 where the system refuses, S3 for want of memory.
     fn again(&self, opened: &Opened) -> Result<Opened, StoreFault>
         ensures same { IfOk result (λ again. (again.identity ≡ opened.now.identity) × (again.len ≡ opened.now.len)) }
         ensures refused { IfErr result (IsOfSystem (refuses self.now)) };
@@ -76,8 +77,7 @@ pub trait Paths {
     fn seen_again(&self, opened: &Opened) -> Result<Opened, StoreFault>
         ensures refused { IfErr result (IsOfSystem (refuses self.now)) };
 
-    /// Takes a lock on what was opened, which holds until its file is closed. S5 where another has one that shuts it out; S1 where the
-    /// system refuses, S3 for want of memory.
+    /// Takes a lock on what was opened. S5 where another has one that shuts it out; S1 where the system refuses, S3 for want of memory.
     fn lock(&self, opened: &Opened, lock: Lock, which: Which) -> Result<(), Fault>
         ensures locked { OnOk result (locks self.now opened.now lock) }
         ensures open { lock ≡ Lock.Open → IsOk result }
@@ -104,7 +104,12 @@ pub trait Paths {
     /// The bytes of the script at a path, be it a pipe. S1 where it can't be opened or read, or is longer than 2^30 bytes; want of memory.
     fn script_at(&self, alloc: Global, path: &str) -> Result<Vec<u8>, Failure>
         ensures read { IfOk result (λ script. IfSome (text self.now path.now) (λ bytes. script.items ≡ bytes)) }
-        ensures refused { IfErr result IsOfScript };
+        ensures refused { IfErr result (IsOfScript (refuses self.now)) };
+
+    /// The bytes of the script that an input has. S1 where it can't be read, or is longer than 2^30 bytes; want of memory.
+    fn script_in<I: Read>(&self, alloc: Global, input: &mut I) -> Result<Vec<u8>, Failure>
+        ensures read { IfOk result (λ script. IfSome (I.remaining input.old) (λ bytes. script.items ≡ bytes)) }
+        ensures refused { IfErr result (IsOfScript (refuses self.now)) };
 
     /// Asks for the entries of the folder to be kept in which a path stands.
     fn sync_folder(&self, path: &str) -> io::Result<()>;
@@ -184,6 +189,10 @@ impl<R: Files<File = File>> Paths for R {
             }
             Err(error) => Err(unread(error)),
         }
+    }
+
+    fn script_in<I: Read>(&self, alloc: Global, input: &mut I) -> Result<Vec<u8>, Failure> {
+        read_script(alloc, input)
     }
 
     fn sync_folder(&self, path: &str) -> io::Result<()> {

@@ -1,5 +1,5 @@
 //! A script, read whole.
-ghost use Rattle.std.specs.Prelude.{◌≡◌, IfOk, IfErr, IfSome};
+ghost use Rattle.std.specs.Prelude.{◌≡◌, ⊤, IfOk, IfErr, IfSome};
 ghost use Rattle.verity_files.specs.Errors.{IsOfScript};
 
 use crate::failure::Failure;
@@ -14,7 +14,7 @@ const MOST_BYTES: u64 = 1 << 30;
 /// The bytes of a script. S1 where it can't be read, or is longer than 2^30 bytes.
 pub fn read_script<I: Read>(alloc: Global, input: &mut I) -> Result<Vec<u8>, Failure>
     ensures read { IfOk result (λ script. IfSome (I.remaining input.old) (λ bytes. script.items ≡ bytes)) }
-    ensures refused { IfErr result IsOfScript }
+    ensures refused { IfErr result (IsOfScript ⊤) }
 {
     let mut script = Vec::new(alloc);
     match input.take(MOST_BYTES + 1).read_to_end(&mut script) {
@@ -29,7 +29,7 @@ pub fn read_script<I: Read>(alloc: Global, input: &mut I) -> Result<Vec<u8>, Fai
 
 /// S1; or want of memory, where that is what it was.
 pub(crate) fn unread(error: io::Error) -> Failure
-    ensures { IsOfScript result }
+    ensures { IsOfScript ⊤ result }
 {
     if error.kind() == ErrorKind::OutOfMemory {
         Failure::NoMemory

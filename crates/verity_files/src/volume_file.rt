@@ -1,6 +1,6 @@
 //! One of the two files of a volume.
 ghost use Rattle.std.specs.Prelude.{◌≡◌, true, false};
-ghost use Rattle.verity_files.specs.VolumeFiles.{IsRegular, kept_bytes, volume_bytes, volume_synced};
+ghost use Rattle.verity_files.specs.VolumeFiles.{IsRegular, RegularRefuses, kept_bytes, volume_bytes, volume_synced, VolumeRefuses};
 
 use std::io;
 use std::io::ErrorKind;
@@ -52,6 +52,8 @@ impl<F: RawFile> RawFile for VolumeFile<F> {
 
     ghost synced = { volume_synced };
 
+    ghost refuses = { VolumeRefuses };
+
     fn byte_len(&self) -> io::Result<u64> {
         match self {
             VolumeFile::Regular(file) => file.byte_len(),
@@ -92,6 +94,8 @@ impl<F: RawFile> RawFile for RegularFile<F> {
     ghost bytes = { λ r. kept_bytes (F.bytes r.file) r.is_replaced };
 
     ghost synced = { λ r. F.synced r.file };
+
+    ghost refuses = { λ r n. RegularRefuses (F.refuses r.file) r.is_replaced n };
 
     fn byte_len(&self) -> io::Result<u64> {
         if self.is_replaced {

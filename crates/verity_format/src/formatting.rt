@@ -9,7 +9,7 @@ ghost use Rattle.verity_superblock.specs.Line.{IsTableLine, canonical};
 ghost use Rattle.verity_superblock.specs.Image.{start_behind};
 ghost use Rattle.verity_volume.specs.Lines.{IsOfLine};
 ghost use Rattle.verity_files.specs.Errors.{IsS1For};
-ghost use Rattle.verity_gate.specs.Journals.{IsAsked as IsAskedFor};
+ghost use Rattle.verity_gate.specs.Journals.{RefusesOrStands};
 ghost use Rattle.verity_gate.specs.Refusals.{BlamesAtMost};
 ghost use Rattle.verity_files.specs.Misread.{IsMisread};
 ghost use Rattle.verity_volume.specs.Opening.{IsOneFile};
@@ -67,7 +67,7 @@ pub fn format<R: Paths + Clock + Eprint + AllocGlobal, W: Write, E: IsTerminal>(
 ) -> Result<(), Failure>
     ensures printed { OnOk result (IsFormatted words.now (W.contents output.old) (W.contents output.new)) }
     ensures blames { IfErr result (FormatBlames R.Paths rt.now words.now) }
-    ensures system { IfErr result (IsS1For (IsAskedFor R.Paths rt.now words.now.data_path.now)) }
+    ensures system { IfErr result (IsS1For (RefusesOrStands R.Paths rt.now words.now.data_path.now)) }
 {
     check_paths(words.data_path, words.hash_path)?;
     let shape = read_shape(words)?;
@@ -135,7 +135,7 @@ fn make<R: Paths + Clock + Eprint + AllocGlobal>(
     ensures one { IfErr result (λ e. e ≡ Failure.Word word.Hash
         → IsOneFile R.Paths rt.now words.now.data_path.now words.now.hash_path.now) }
     ensures blames { IfErr result (BlamesAtMost word.Hash) }
-    ensures system { IfErr result (IsS1For (IsAskedFor R.Paths rt.now words.now.data_path.now)) }
+    ensures system { IfErr result (IsS1For (RefusesOrStands R.Paths rt.now words.now.data_path.now)) }
 {
     let params = BuildParameters::new(salt(rt.alloc(), salt_bytes)?, shape.uuid, shape.algorithm);
     let (data_store, data) = open_data(rt, words.data_path, shape)?;
@@ -198,7 +198,7 @@ fn data_blocks(asked: Option<&str>) -> Result<Option<u64>, Failure>
 /// DATA, and which file it is.
 fn open_data<R: Paths>(rt: &R, path: &str, shape: &Shape) -> Result<(VolumeStore, Identity), Fault>
     ensures opened { IfOk result (λ opened. (image : Opened) × R.opens rt.now path.now image × (image.identity ≡ opened.1)) }
-    ensures system { IfErr result (λ e. e ≡ Fault.Store StoreFault.Device → IsAskedFor R.Paths rt.now path.now) }
+    ensures system { IfErr result (λ e. e ≡ Fault.Store StoreFault.Device → RefusesOrStands R.Paths rt.now path.now) }
 {
     check_block_size(shape.data_block_size)?;
     let data = open_locked(rt, path, Command::Format, Which::Data)?;

@@ -96,9 +96,9 @@ IsInVolume facts p named hash_path image device = (path : List ℕ) × IsJournal
 abbrev pub Stands : {P : Type 0} → Ghosts P → P → List ℕ → Type 0
 Stands facts p path = (opened : Opened) × facts.opens p path opened
 
--- a file was asked for at a path: the system refused a call, or what stands there was opened
-abbrev pub IsAsked : {P : Type 0} → Ghosts P → P → List ℕ → Type 0
-IsAsked facts p path = facts.refuses p ⊎ Stands facts p path
+-- the system refused a call, be it at whatever path, or what stands at this one was opened
+abbrev pub RefusesOrStands : {P : Type 0} → Ghosts P → P → List ℕ → Type 0
+RefusesOrStands facts p path = facts.refuses p ⊎ Stands facts p path
 
 -- what a journal of these bytes makes of two files that have so many bytes
 abbrev pub Starts : (data_len hash_len : ℕ) → List ℕ → Contents → Type 0

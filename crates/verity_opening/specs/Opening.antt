@@ -14,16 +14,16 @@ use Rattle.verity_files.specs.declared.fault.Fault.TheVariants as fault
 use Rattle.verity_files.specs.declared.opening.Opened.{Opened}
 use Rattle.verity_files.specs.declared.paths.Paths.{Ghosts}
 use Rattle.verity_files.specs.declared.volume_file.VolumeFile.{VolumeFile}
-use Rattle.verity_gate.specs.Journals.{IsAsked}
+use Rattle.verity_gate.specs.Journals.{RefusesOrStands}
 
 -- a regular file that was opened at a path, or the first blocks of a device, at most so many
 abbrev pub LiesAt : {P : Type 0} → Ghosts P → P → List ℕ → (blocks size : ℕ) → {g : raw.Ghosts File} → VolumeFile File g → Type 0
 LiesAt facts p path blocks size file = (opened : Opened) × facts.opens p path opened
     × LiesIn opened.identity opened.file false opened.len (min blocks (opened.len / size) * size) file
 
--- the data device that a table line names was asked for
-abbrev pub IsAskedUnder : {P : Type 0} → Ghosts P → P → List ℕ → Type 0
-IsAskedUnder facts p line = (table : TableLine) × Line line table × IsAsked facts p table.dev
+-- the same of the data device that a table line names
+abbrev pub RefusesOrStandsUnder : {P : Type 0} → Ghosts P → P → List ℕ → Type 0
+RefusesOrStandsUnder facts p line = (table : TableLine) × Line line table × RefusesOrStands facts p table.dev
 
 -- the files of a volume aren't opened: S1 to S7, or want of memory
 abbrev pub OpensNone : Failure → Type 0

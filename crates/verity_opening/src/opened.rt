@@ -4,8 +4,8 @@ ghost use Rattle.std.specs.Prelude.{◌≡◌, ◌-◌, ◌^◌, ◌⊎◌, [], 
 ghost use Rattle.verity_superblock.specs.Line.{Line, line_refusal};
 ghost use Rattle.verity_check.specs.Verifier.{IsCacheSize};
 ghost use Rattle.verity_files.specs.Errors.{IsS1For};
-ghost use Rattle.verity_gate.specs.Journals.{IsAsked, IsShut};
-ghost use Rattle.verity_opening.specs.Opening.{LiesAt, IsAskedUnder, IsJustMade, OpensNone, OpensNoHub, offered};
+ghost use Rattle.verity_gate.specs.Journals.{RefusesOrStands, IsShut};
+ghost use Rattle.verity_opening.specs.Opening.{LiesAt, RefusesOrStandsUnder, IsJustMade, OpensNone, OpensNoHub, offered};
 
 use nbd_session::ExportName;
 use std::alloc::Global;
@@ -34,7 +34,7 @@ pub fn open_stores<R: Paths + AllocGlobal>(
     ensures data_size { IfOk result (λ stores. ⟦<VolumeStore as BlockStore>⟧.size stores.0 ≡ table.now.data_block_size) }
     ensures hash_size { IfOk result (λ stores. ⟦<VolumeStore as BlockStore>⟧.size stores.1 ≡ table.now.hash_block_size) }
     ensures refused { IfErr result OpensNone }
-    ensures system { IfErr result (IsS1For (IsAsked R.Paths rt.now table.now.dev)) }
+    ensures system { IfErr result (IsS1For (RefusesOrStands R.Paths rt.now table.now.dev)) }
 {
     let data = open_locked(rt, table.dev(), command, Which::Data)?;
     check_gate(rt, table.hash_dev())?;
@@ -64,7 +64,7 @@ pub fn open_hub<R: Paths + AllocGlobal>(
     ensures none { IfOk result (λ hub. (hub.0.next ≡ 0) × (hub.0.sessions ≡ [])) }
     ensures cache { IsOk result → IsCacheSize cache }
     ensures refused { IfErr result (OpensNoHub line.now name.now cache) }
-    ensures system { IfErr result (IsS1For (IsAskedUnder R.Paths rt.now line.now)) }
+    ensures system { IfErr result (IsS1For (RefusesOrStandsUnder R.Paths rt.now line.now)) }
 {
     let table = table_in(rt.alloc(), line)?;
     let name = ExportName::new(name.as_bytes())?;

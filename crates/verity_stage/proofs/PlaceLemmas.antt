@@ -21,7 +21,7 @@ use Rattle.verity_store.specs.RawFile.{overwritten, with_length}
 use Rattle.verity_store.proofs.BlockLemmas.{cut-resize, cut-write, concat-cut, length-cut, AllSized-replicate}
 use Rattle.verity_profile.specs.Profile.{zero_block, AllSized}
 use Rattle.verity_journal.specs.Plan.{made, changed, Fit, IsSide}
-use Rattle.verity_stage.specs.Stage.{Stage, IsStage, written_at, block_at, staged, at_place, side_of, below_of, FitPlaces}
+use Rattle.verity_stage.specs.Stage.{Stage, IsStage, written_at, block_at, staged, at_place, side_of, below_of, bytes_below, FitPlaces}
 use Rattle.verity_stage.proofs.StageLemmas.{is_at_apart, at_blocks, length-staged}
 
 pub length-concat-sized : (size : ℕ) (bs : List (List ℕ)) → AllSized size bs → length (concat bs) ≡ length bs * size
@@ -289,9 +289,10 @@ is_side d ok sorted = record {
   fit = Fit-from d.written d.blocks d.size (FitIn-from d.written 0 d.blocks d.size (KeysRise-ordered d.written sorted) ok.behind ok.sized);
 }
 
--- what a store is bound to tells its blocks
-pub below-same : (xs ys : List (List ℕ)) → below_of xs ≡ below_of ys → xs ≡ ys
-below-same xs ys same = sym (seconds xs) ∙ ap (map (λ (p : ℕ × List ℕ). p.1)) same ∙ seconds ys where
-  seconds : (zs : List (List ℕ)) → map (λ (p : ℕ × List ℕ). p.1) (below_of zs) ≡ zs
-  seconds [] = refl
-  seconds (z ∷ zs) = ap (λ rest. z ∷ rest) (seconds zs)
+-- what a staged store is bound to tells the blocks below
+seconds : (content : List (List ℕ)) → map (λ (entry : ℕ × List ℕ). entry.1) (below_of content) ≡ content
+seconds [] = refl
+seconds (block ∷ content) = ap (λ rest. block ∷ rest) (seconds content)
+
+pub bytes_below-of : (content : List (List ℕ)) → bytes_below (below_of content) ≡ concat content
+bytes_below-of content = ap concat (seconds content)

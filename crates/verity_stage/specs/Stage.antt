@@ -1,7 +1,7 @@
 -- What is staged over a store: the blocks that were written, and lengths.
 use Rattle.std.specs.Prelude.{◌≡◌, ℕ, ◌*◌, ◌^◌, ◌<◌, ◌≤◌, nat_lt, List, length, map, Option, None, unwrap_or, IfSome}
 use Rattle.std.specs.Prelude.{slice_index_or, [], if◌then◌else◌}
-use Rattle.std.specs.List.{range_with_len, AllByRecursion}
+use Rattle.std.specs.List.{concat, range_with_len, AllByRecursion}
 use Rattle.std.specs.Ordering.{nat_cmp}
 use Rattle.std.specs.Map.{lookup}
 use Rattle.std.specs.BTreeMap.{is_at}
@@ -54,6 +54,10 @@ side_of stage = record {
 -- the blocks of the store below, as what a staged store is bound to: no call on it changes them
 abbrev pub below_of : List (List ℕ) → List (ℕ × List ℕ)
 below_of content = map (λ block. (0, block)) content
+
+-- the bytes of the store below, by what a staged store is bound to
+abbrev pub bytes_below : List (ℕ × List ℕ) → List ℕ
+bytes_below fixed = concat (map (λ entry. entry.1) fixed)
 
 -- the stages of two devices of a volume of these names as one plan
 abbrev pub plan_of : List ℕ → Stage → Stage → Plan

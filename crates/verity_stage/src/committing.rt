@@ -3,45 +3,44 @@ ghost use Rattle.std.specs.Prelude.{◌≡◌, ◌≤◌, ◌<◌, true, false, 
 ghost use Rattle.std.specs.List.{concat};
 ghost use Rattle.verity_journal.specs.Disks.{LeavesOnly};
 ghost use Rattle.verity_journal.specs.Journal.{IsOldOrNew, Suits, pair_of, made_pair};
-ghost use Rattle.verity_stage.specs.Stage.{staged, plan_of};
+ghost use Rattle.verity_stage.specs.Stage.{bytes_below, plan_of};
 
-use crate::Staged;
+use crate::StagedStore;
 use std::alloc::Allocator;
 use verity_journal::{DiskFault, Disks, Keeper, Plan};
-use verity_store::BlockStore;
 
 /// Makes of two devices, by one commit through their journal, what is staged over two stores. The journal has these names of them.
 ///
-/// Where the devices hold the stores below, they hold afterwards what is staged over them (`staged`); a stop at any moment leaves
+/// Where the devices hold the stores below, they hold afterwards what the staged stores do (`staged`); a stop at any moment leaves
 /// devices from which a start makes the one or the other. It takes memory for the blocks twice more.
 ///
 /// Foreign where the devices are shorter than what is kept of the stores. NoMemory where there is too little. In both cases nothing was
 /// changed. After an error a start comes next.
-pub fn commit_staged<K: Disks, D: BlockStore, H: BlockStore, A: Allocator + Copy>(
+pub fn commit_staged<K: Disks, D: StagedStore<A>, H: StagedStore<A>, A: Allocator + Copy>(
     alloc: A,
     keeper: &mut Keeper<K>,
     names: &[u8],
-    on_data: &Staged<D, A>,
-    on_hash: &Staged<H, A>,
+    on_data: &D,
+    on_hash: &H,
 ) -> Result<(), DiskFault>
     ensures made { OnOk result (pair_of (K.seen keeper.new.disks)
-        ≡ made_pair (plan_of names.now on_data.now.stage on_hash.now.stage) (pair_of (K.seen keeper.old.disks))) }
+        ≡ made_pair (plan_of names.now (D.stage on_data.now) (H.stage on_hash.now)) (pair_of (K.seen keeper.old.disks))) }
     ensures settled { OnOk result (keeper.new.is_settled ≡ true) }
     ensures any_moment { keeper.old.is_settled ≡ true
-        → Suits (plan_of names.now on_data.now.stage on_hash.now.stage) (pair_of (K.seen keeper.old.disks))
+        → Suits (plan_of names.now (D.stage on_data.now) (H.stage on_hash.now)) (pair_of (K.seen keeper.old.disks))
         → LeavesOnly K.moment K.left_since keeper.old.disks keeper.new.disks
-        (IsOldOrNew (plan_of names.now on_data.now.stage on_hash.now.stage) (pair_of (K.seen keeper.old.disks))) }
-    ensures staged { made_pair (plan_of names.now on_data.now.stage on_hash.now.stage)
-        (concat (D.content on_data.now.store), concat (H.content on_hash.now.store))
-        ≡ (concat (⟦<Staged<D, A> as BlockStore>⟧.content on_data.now), concat (⟦<Staged<H, A> as BlockStore>⟧.content on_hash.now)) }
-    ensures suits { Suits (plan_of names.now on_data.now.stage on_hash.now.stage)
-        (concat (D.content on_data.now.store), concat (H.content on_hash.now.store)) }
+        (IsOldOrNew (plan_of names.now (D.stage on_data.now) (H.stage on_hash.now)) (pair_of (K.seen keeper.old.disks))) }
+    ensures staged { made_pair (plan_of names.now (D.stage on_data.now) (H.stage on_hash.now))
+        (bytes_below (D.fixed on_data.now), bytes_below (H.fixed on_hash.now))
+        ≡ (concat (D.content on_data.now), concat (H.content on_hash.now)) }
+    ensures suits { Suits (plan_of names.now (D.stage on_data.now) (H.stage on_hash.now))
+        (bytes_below (D.fixed on_data.now), bytes_below (H.fixed on_hash.now)) }
     ensures failed { result ≡ Err DiskFault.Device → keeper.old.is_settled ≡ true
         → K.faults keeper.old.disks < K.faults keeper.new.disks }
     ensures memory { result ≡ Err DiskFault.NoMemory → K.seen keeper.new.disks ≡ K.seen keeper.old.disks }
     ensures foreign { result ≡ Err DiskFault.Foreign → keeper.new.disks ≡ keeper.old.disks }
     ensures unfit { result ≡ Err DiskFault.Foreign
-        → ¬ Suits (plan_of names.now on_data.now.stage on_hash.now.stage) (pair_of (K.seen keeper.old.disks)) }
+        → ¬ Suits (plan_of names.now (D.stage on_data.now) (H.stage on_hash.now)) (pair_of (K.seen keeper.old.disks)) }
 {
     on_data.facts();
     on_hash.facts();

@@ -1,10 +1,9 @@
 //! A store whose changes are staged.
 ghost use Rattle.std.specs.Prelude.{false, ◌≡◌, ◌≤◌, ◌^◌, ◌<◌, [], true, length, slice_index_or, IfOk, IfErr, OnOk};
-ghost use Rattle.std.specs.List.{concat};
-ghost use Rattle.verity_journal.specs.Plan.{made, IsSide};
-ghost use Rattle.verity_stage.specs.Stage.{staged, side_of, below_of};
+ghost use Rattle.verity_stage.specs.Stage.{staged, below_of};
 
 use crate::Stage;
+use crate::staged_store::StagedStore;
 use std::alloc::{AllocError, Allocator, Global};
 use verity_count::Count;
 use verity_given::Given;
@@ -51,38 +50,6 @@ impl<S: BlockStore, A: Allocator + Copy> Staged<S, A> {
             given: Given::new(),
             is_starved: false,
         })
-    }
-
-    /// What is staged is a plan for the bytes of the store below, and makes of them what this store holds.
-    pub fn facts(&self)
-        ensures side { IsSide (side_of self.now.stage) }
-        ensures kept { (side_of self.now.stage).keep ≤ length (concat (S.content self.now.store)) }
-        ensures made { made (side_of self.now.stage) (concat (S.content self.now.store))
-            ≡ concat (⟦<Staged<S, A> as BlockStore>⟧.content self.now) }
-    {
-        let _size = self.store.block_size();
-        self.stage.facts();
-    }
-
-    /// Whether a write failed since memory for its block was refused.
-    pub fn is_starved(&self) -> bool
-        ensures { result ≡ self.now.is_starved }
-    {
-        self.is_starved
-    }
-
-    /// The changes that make of a device with the bytes of the store below one with what is staged. It takes memory for the
-    /// blocks once more.
-    pub fn side(&self) -> Result<Side<A>, AllocError>
-        ensures made { IfOk result (λ side. made side (concat (S.content self.now.store))
-            ≡ concat (⟦<Staged<S, A> as BlockStore>⟧.content self.now)) }
-        ensures kept { IfOk result (λ side. side.keep ≤ length (concat (S.content self.now.store))) }
-        ensures side { IfOk result (λ side. side ≡ side_of self.now.stage) }
-    {
-        let _size = self.store.block_size();
-        self.stage.facts();
-        let side = self.stage.side()?;
-        Ok(side)
     }
 }
 
@@ -176,5 +143,27 @@ impl<S: BlockStore, A: Allocator + Copy> BlockStore for Staged<S, A> {
 
     fn sync(&mut self) -> Result<(), StoreFault> {
         Ok(())
+    }
+}
+
+impl<S: BlockStore, A: Allocator + Copy> StagedStore<A> for Staged<S, A> {
+    ghost stage = { λ s. s.stage };
+
+    ghost starved = { λ s. s.is_starved };
+
+    fn facts(&self) {
+        let _size = self.store.block_size();
+        self.stage.facts();
+    }
+
+    fn is_starved(&self) -> bool {
+        self.is_starved
+    }
+
+    fn side(&self) -> Result<Side<A>, AllocError> {
+        let _size = self.store.block_size();
+        self.stage.facts();
+        let side = self.stage.side()?;
+        Ok(side)
     }
 }

@@ -1,5 +1,5 @@
 //! The first bytes of a file whose length is fixed.
-ghost use Rattle.std.specs.Prelude.{◌≡◌, ℕ, ◌+◌, ◌-◌, ◌<◌, ◌≤◌, true, length, replicate, max, IsTrue, ◌↔◌, IsOk, IsErr, OnOk, OnErr};
+ghost use Rattle.std.specs.Prelude.{◌≡◌, ◌⊎◌, ℕ, ◌+◌, ◌-◌, ◌<◌, ◌≤◌, true, length, replicate, max, IsTrue, ◌↔◌, IsOk, IsErr, OnOk, OnErr};
 ghost use Rattle.verity_store.specs.RawFile.{HasLength, known_len, Reads, Writes, MayWrite, SetsLength, MaySetLength};
 ghost use Rattle.verity_store.specs.Window.{first_bytes, bytes_behind};
 
@@ -49,6 +49,8 @@ impl<F: RawFile> RawFile for Window<F> {
 
     ghost synced = { λ w. F.synced w.file };
 
+    ghost refuses = { λ w n. F.refuses w.file n ⊎ (w.len < n) };
+
     fn byte_len(&self) -> io::Result<u64> {
         Ok(self.len)
     }
@@ -60,6 +62,7 @@ impl<F: RawFile> RawFile for Window<F> {
         ensures len { self.new.len ≡ self.old.len }
         ensures room { self.new.room ≡ self.old.room }
         ensures file { F.bytes self.new.file ≡ F.bytes self.old.file }
+        ensures refused { OnErr result (F.refuses self.new.file (at + length out.new) ⊎ (self.new.len < at + length out.new)) }
     {
         if !is_inside(at, out.len(), self.len) {
             return Err(ErrorKind::UnexpectedEof.into());
@@ -77,6 +80,7 @@ impl<F: RawFile> RawFile for Window<F> {
         ensures behind { bytes_behind self.old.len (F.bytes self.new.file) ≡ bytes_behind self.old.len (F.bytes self.old.file) }
         ensures len { self.new.len ≡ self.old.len }
         ensures room { self.new.room ≡ self.old.room }
+        ensures refused { OnErr result (F.refuses self.new.file (at + length block.now) ⊎ (self.new.len < at + length block.now)) }
     {
         if !is_inside(at, block.len(), self.len) {
             return Err(ErrorKind::WriteZero.into());
@@ -102,6 +106,7 @@ impl<F: RawFile> RawFile for Window<F> {
         ensures len { OnOk result (self.new.len ≡ n) }
         ensures len_kept { OnErr result (self.new.len ≡ self.old.len) }
         ensures room { self.new.room ≡ self.old.room }
+        ensures refused { OnErr result (F.refuses self.new.file n ⊎ (self.new.len < n)) }
     {
         if self.room < n {
             return Err(ErrorKind::WriteZero.into());
@@ -122,6 +127,7 @@ impl<F: RawFile> RawFile for Window<F> {
         ensures file { F.bytes self.new.file ≡ F.bytes self.old.file }
         ensures len { self.new.len ≡ self.old.len }
         ensures room { self.new.room ≡ self.old.room }
+        ensures refused { OnErr result (F.refuses self.new.file 0 ⊎ (self.new.len < 0)) }
     {
         self.file.sync()
     }

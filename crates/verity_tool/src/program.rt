@@ -80,7 +80,7 @@ fn answer<
     errors: &mut E,
 ) -> Result<u8, Failure> {
     match request {
-        Request::Scratch => scratch(rt.alloc(), input, output, errors),
+        Request::Scratch => scratch(rt, input, output, errors),
         Request::Format(words) => format(rt, &words, output, errors).map(|()| DONE),
         Request::Dump(words) => dump(rt, &words, output).map(|()| DONE),
         Request::Edit(words) => edit(rt, &words, output, errors),

@@ -1,14 +1,16 @@
 //! The command `recover`: makes whole a commit that a stop cut short.
 
-ghost use Rattle.std.specs.Prelude.{◌⊎◌, OnOk, IfErr, codes};
+ghost use Rattle.std.specs.Prelude.{◌≡◌, ◌⊎◌, OnOk, IfErr, codes};
 ghost use Rattle.std.specs.Io.KnownBytes.{Appends};
 ghost use Rattle.verity_files.specs.Faults.{line};
 ghost use Rattle.verity_files.specs.Errors.{IsS1For};
-ghost use Rattle.verity_gate.specs.Journals.{IsAsked};
+ghost use Rattle.verity_files.specs.declared.failure.Word.TheVariants as word;
+ghost use Rattle.verity_gate.specs.Journals.{IsOneOf, RefusesOrStands};
+ghost use Rattle.verity_gate.specs.Refusals.{BlamesAtMost, BlamesNone};
 ghost use Rattle.verity_tool.specs.Blamed.{RecoverBlames};
 
 use std::io::Write;
-use verity_files::{Command, Failure, Paths, Word, check_paths};
+use verity_files::{Command, Failure, Opened, Paths, Word, check_paths};
 use verity_gate::{journal_path, recover_files, volume_names};
 use verity_volume::open_both;
 use verity_words::RecoverWords;
@@ -23,7 +25,7 @@ pub fn recover<R: Paths + AllocGlobal, W: Write>(
     ensures printed { OnOk result (Appends (W.contents output.old) (W.contents output.new) (line (codes "recovered"))
         ⊎ Appends (W.contents output.old) (W.contents output.new) (line (codes "nothing to recover"))) }
     ensures blames { IfErr result (RecoverBlames R.Paths rt.now words.now) }
-    ensures system { IfErr result (IsS1For (IsAsked R.Paths rt.now words.now.hash_path.now)) }
+    ensures system { IfErr result (IsS1For (RefusesOrStands R.Paths rt.now words.now.hash_path.now)) }
 {
     check_paths(words.data_path, words.hash_path)?;
     let (data, hash) = open_both(rt, words.data_path, words.hash_path, Command::Recover)?;
@@ -32,13 +34,36 @@ pub fn recover<R: Paths + AllocGlobal, W: Write>(
         return Err(Failure::Word(Word::Journal));
     };
     let names = volume_names(rt, &data, words.data_path, &hash, words.hash_path)?;
-    let is_recovered = match recover_files(rt, &path, &data, &hash, &names)? {
-        Some(found) => {
-            rt.remove(&path);
-            found.is_recovered
-        }
-        None => false,
+    let is_recovered = make_whole(rt, &path, &data, &hash, &names)?;
+    print_recovered(is_recovered, output)
+}
+
+/// Makes the changes behind the gate of the journal at a path, if it is there and its gate open, and removes it. It tells whether the gate
+/// was open.
+fn make_whole<R: Paths + AllocGlobal>(
+    rt: &R,
+    path: &str,
+    data: &Opened,
+    hash: &Opened,
+    names: &str,
+) -> Result<bool, Failure>
+    ensures word { IfErr result (λ e. e ≡ Failure.Word word.Journal
+        → IsOneOf R.Paths rt.now path.now data.now.identity hash.now.identity) }
+    ensures refused { IfErr result (BlamesAtMost word.Journal) }
+{
+    let Some(found) = recover_files(rt, path, data, hash, names)? else {
+        return Ok(false);
     };
+    rt.remove(path);
+    Ok(found.is_recovered)
+}
+
+/// Prints whether there were changes to make.
+fn print_recovered<W: Write>(is_recovered: bool, output: &mut W) -> Result<(), Failure>
+    ensures printed { OnOk result (Appends (W.contents output.old) (W.contents output.new) (line (codes "recovered"))
+        ⊎ Appends (W.contents output.old) (W.contents output.new) (line (codes "nothing to recover"))) }
+    ensures refused { IfErr result BlamesNone }
+{
     if is_recovered {
         writeln!(output, "recovered")?;
     } else {

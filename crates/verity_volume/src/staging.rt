@@ -9,7 +9,7 @@ use verity_edit::{Committed, EditFault, Editor};
 use verity_files::{Fault, Opened, VolumeStore, store_of_most};
 use verity_gate::FileKeeper;
 use verity_line::LineEditor;
-use verity_stage::Staged;
+use verity_stage::{Staged, StagedStore};
 use verity_store::{BlockStore, StoreFault, Which};
 use verity_watch::{Meter, Watched};
 
@@ -35,6 +35,30 @@ impl<'a, M: Meter> OverFile for Watched<'a, VolumeStore, M> {
     ) -> Result<Watched<'a, VolumeStore, M>, StoreFault> {
         let store = store_of_most(opened, size, blocks)?;
         Ok(Watched::new(store, None))
+    }
+}
+
+/// A staged store over one of a volume's files.
+pub trait StagedFile: StagedStore<Global> + Drop {
+    /// A store with nothing staged over a file that holds by now what this store does. E6 of this store where it hasn't its length, or
+    /// for want of memory.
+    fn restaged(&self, alloc: Global, opened: Opened, which: Which) -> Result<Self, Fault>
+        ensures size { IfOk result (λ s. Self.size s ≡ Self.size self.now) }
+        ensures len { IfOk result (λ s. length (Self.content s) ≡ length (Self.content self.now)) }
+        ensures unknown { IfOk result (λ s. Self.tells s ≡ false) }
+        ensures starved { IfOk result (λ s. Self.starved s ≡ false) }
+        ensures refused { IfErr result (IsOfStore which) };
+}
+
+impl<S: OverFile> StagedFile for Staged<S> {
+    fn restaged(&self, alloc: Global, opened: Opened, which: Which) -> Result<Staged<S>, Fault> {
+        let size = self.block_size();
+        let blocks = self.len();
+        let store = S::over_file(opened, size, blocks)?;
+        match Staged::new(alloc, store) {
+            Ok(staged) if staged.len() == blocks && staged.block_size() == size => Ok(staged),
+            _ => Err(Fault::Edit(EditFault::Store(which))),
+        }
     }
 }
 
@@ -67,17 +91,17 @@ pub trait StagedEdits: Edits {
         ensures { result ≡ starved self.now };
 }
 
-impl<D: OverFile, H: OverFile> StagedEdits for Editor<Staged<D>, Staged<H>> {
+impl<D: StagedFile, H: StagedFile> StagedEdits for Editor<D, H> {
     ghost use Rattle.std.specs.Prelude.{◌≡◌, ◌||◌};
 
-    ghost starved = { λ e. e.data_store.is_starved || e.hash_store.is_starved };
+    ghost starved = { λ e. D.starved e.data_store || H.starved e.hash_store };
 
     ghost restaged = { λ old new. new ≡ record old { data_store = new.data_store; hash_store = new.hash_store } };
 
     fn restage(&mut self, alloc: Global, data: Opened, hash: Opened) -> Result<(), Fault> {
         let (old_data, old_hash) = stores_of(self);
-        let data = restaged(alloc, data, old_data, Which::Data)?;
-        let hash = restaged(alloc, hash, old_hash, Which::Hash)?;
+        let data = old_data.restaged(alloc, data, Which::Data)?;
+        let hash = old_hash.restaged(alloc, hash, Which::Hash)?;
         let _old = self.change_stores(data, hash);
         Ok(())
     }
@@ -99,17 +123,17 @@ impl<D: OverFile, H: OverFile> StagedEdits for Editor<Staged<D>, Staged<H>> {
     }
 }
 
-impl<D: OverFile, H: OverFile> StagedEdits for LineEditor<Staged<D>, Staged<H>> {
+impl<D: StagedFile, H: StagedFile> StagedEdits for LineEditor<D, H> {
     ghost use Rattle.std.specs.Prelude.{◌≡◌, ◌||◌};
 
-    ghost starved = { λ e. e.data_store.is_starved || e.hash_store.is_starved };
+    ghost starved = { λ e. D.starved e.data_store || H.starved e.hash_store };
 
     ghost restaged = { λ old new. new ≡ record old { data_store = new.data_store; hash_store = new.hash_store } };
 
     fn restage(&mut self, alloc: Global, data: Opened, hash: Opened) -> Result<(), Fault> {
         let (old_data, old_hash) = stores_under(self);
-        let data = restaged(alloc, data, old_data, Which::Data)?;
-        let hash = restaged(alloc, hash, old_hash, Which::Hash)?;
+        let data = old_data.restaged(alloc, data, Which::Data)?;
+        let hash = old_hash.restaged(alloc, hash, Which::Hash)?;
         let _old = self.change_stores(data, hash);
         Ok(())
     }
@@ -143,28 +167,4 @@ fn stores_under<D: BlockStore, H: BlockStore>(editor: &LineEditor<D, H>) -> (&D,
     ensures hash_store { result.1.now ≡ editor.now.hash_store }
 {
     (editor.data_store(), editor.hash_store())
-}
-
-/// A store with nothing staged over a file that holds by now what a staged store does. E6 of this store where it hasn't its length, or
-/// for want of memory.
-fn restaged<S: OverFile>(
-    alloc: Global,
-    opened: Opened,
-    old: &Staged<S>,
-    which: Which,
-) -> Result<Staged<S>, Fault>
-    ensures size { IfOk result (λ s. ⟦<Staged<S> as BlockStore>⟧.size s ≡ ⟦<Staged<S> as BlockStore>⟧.size old.now) }
-    ensures len { IfOk result (λ s. length (⟦<Staged<S> as BlockStore>⟧.content s)
-        ≡ length (⟦<Staged<S> as BlockStore>⟧.content old.now)) }
-    ensures unknown { IfOk result (λ s. ⟦<Staged<S> as BlockStore>⟧.tells s ≡ false) }
-    ensures starved { IfOk result (λ s. s.is_starved ≡ false) }
-    ensures refused { IfErr result (IsOfStore which) }
-{
-    let size = old.block_size();
-    let blocks = old.len();
-    let store = S::over_file(opened, size, blocks)?;
-    match Staged::new(alloc, store) {
-        Ok(staged) if staged.len() == blocks && staged.block_size() == size => Ok(staged),
-        _ => Err(Fault::Edit(EditFault::Store(which))),
-    }
 }

@@ -1,9 +1,9 @@
 //! A volume, opened to be edited, and its journal.
-ghost use Rattle.std.specs.Prelude.{◌≡◌, Ok, IfSome, IfOk, IfErr, string_bytes};
+ghost use Rattle.std.specs.Prelude.{◌≡◌, Ok, IfSome, IfOk, IfErr, OnOk, string_bytes};
 ghost use Rattle.verity_files.specs.declared.failure.Word.TheVariants as word;
 ghost use Rattle.verity_files.specs.declared.opening.Opened.{Opened};
 ghost use Rattle.verity_files.specs.Errors.{IsS1For};
-ghost use Rattle.verity_gate.specs.Journals.{IsAsked, IsJournalPath, IsOneOf};
+ghost use Rattle.verity_gate.specs.Journals.{RefusesOrStands, IsJournalPath, IsOneOf};
 ghost use Rattle.verity_gate.specs.Refusals.{BlamesNone, BlamesAtMost};
 ghost use Rattle.verity_work.specs.Work.{BlamesOver, BlamesOwn, IsDoneAt, IsReasonAt, PrintsAsBefore};
 
@@ -30,7 +30,7 @@ pub fn do_over<R: Paths + Clock + Eprint + AllocGlobal, T: Work, W: Write, E: Wr
         (W.contents output.old) (W.contents output.new) status) }
     ensures blames { IfErr result (BlamesOver R.Paths rt.now words.now T.blamed (IsReasonAt (T.reason work.old (R.opens rt.now))
         (R.opens rt.now) words.now.data_path.now words.now.hash_path.now)) }
-    ensures system { IfErr result (IsS1For (IsAsked R.Paths rt.now words.now.hash_path.now)) }
+    ensures system { IfErr result (IsS1For (RefusesOrStands R.Paths rt.now words.now.hash_path.now)) }
 {
     let line = match words.table {
         Some(text) => Some(Table::parse(rt.alloc(), text)?),
@@ -60,6 +60,7 @@ fn begin<R: Paths + AllocGlobal, T: Work>(
 ) -> Result<(), Failure>
     requires data { IfOk «data».now (R.opens rt.now words.now.data_path.now) }
     requires hash { R.opens rt.now words.now.hash_path.now hash.now }
+    ensures begun { OnOk result (T.begun work.new) }
     ensures prints { PrintsAsBefore T.prints work.old work.new }
     ensures blames { IfErr result (BlamesOwn T.blamed (IsReasonAt (T.reason work.old (R.opens rt.now)) (R.opens rt.now)
         words.now.data_path.now words.now.hash_path.now)) }
@@ -96,6 +97,7 @@ fn do_through<R: Paths + Clock + Eprint + AllocGlobal, T: Work, W: Write, E: Wri
     output: &mut W,
     errors: &mut E,
 ) -> Result<u8, Failure>
+    requires { T.begun work.old }
     ensures done { IfOk result (λ status. IsDoneAt (T.prints work.old (R.text rt.now)) words.now.data_path.now words.now.hash_path.now
         (W.contents output.old) (W.contents output.new) status) }
     ensures word { IfErr result (λ e. e ≡ Failure.Word word.Journal → (image : Opened) × (given.«data» ≡ Ok image)

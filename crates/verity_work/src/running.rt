@@ -30,6 +30,7 @@ pub(crate) fn run_direct<
     output: &mut W,
     errors: &mut E,
 ) -> Result<u8, Failure>
+    requires { T.seen work.old }
     ensures done { IfOk result (λ status. T.prints work.old (R.text rt.now) rest.entry.devices
         (W.contents output.old) (W.contents output.new) status) }
     ensures blames { IfErr result BlamesNone }
@@ -64,6 +65,7 @@ pub(crate) fn run_journalled<
     output: &mut W,
     errors: &mut E,
 ) -> Result<u8, Failure>
+    requires { T.seen work.old }
     ensures done { IfOk result (λ status. T.prints work.old (R.text rt.now) rest.entry.devices
         (W.contents output.old) (W.contents output.new) status) }
     ensures blames { IfErr result BlamesNone }

@@ -1,5 +1,6 @@
 //! What is done over a volume, and over which one.
-ghost use Rattle.std.specs.Prelude.{◌≡◌, ◌⊎◌, IfOk, IfErr, MatchOption};
+ghost use Rattle.std.specs.Prelude.{◌≡◌, ◌⊎◌, IfOk, IfErr, OnOk, MatchOption};
+ghost use Rattle.verity_files.specs.Errors.{IsS1For};
 ghost use Rattle.verity_files.specs.declared.failure.Word.{Word};
 ghost use Rattle.verity_gate.specs.Refusals.{BlamesNone};
 ghost use Rattle.verity_work.specs.Work.{BlamesOwn, Prints, PrintsAsBefore, Reason};
@@ -34,19 +35,33 @@ pub trait Work {
     /// Why it blames one.
     ghost reason: { Reason Self };
 
-    /// Opens what more is read, once both files are opened, of which DATA may be missing.
+    /// What more is read was opened.
+    ghost begun: { Self → Type 0 };
+
+    /// What more is read can be read.
+    ghost seen: { Self → Type 0 };
+
+    /// It reads a file of its own, and how that fails no clause says.
+    ghost reads_more: { Self → Type 0 };
+
+    /// Opens what more is read, once both files are opened, of which DATA may be missing. S1 where the system refuses a call.
     fn begin<R: Paths + AllocGlobal>(
         &mut self,
         rt: &R,
         data: Option<&Opened>,
         hash: &Opened,
     ) -> Result<(), Failure>
+        ensures begun { OnOk result (begun self.new) }
         ensures prints { PrintsAsBefore prints self.old self.new }
+        ensures system { IfErr result (IsS1For (R.refuses rt.now)) }
         ensures blames { IfErr result (BlamesOwn blamed (reason self.old (R.opens rt.now) (λ identity. (identity ≡ hash.now.identity)
             ⊎ MatchOption «data».entry ⊥ (λ opened. identity ≡ opened.now.identity)))) };
 
-    /// Looks at it, once the size of a data block is known.
+    /// Makes it ready to be read, once the size of a data block is known.
     fn see(&mut self, data_block_size: usize) -> Result<(), Failure>
+        requires { begun self.old }
+        ensures seen { OnOk result (seen self.new) }
+        ensures system { IfErr result (IsS1For (reads_more self.old)) }
         ensures prints { PrintsAsBefore prints self.old self.new }
         ensures blames { IfErr result BlamesNone };
 
@@ -67,7 +82,9 @@ pub trait Work {
         output: &mut W,
         errors: &mut E,
     ) -> Result<u8, Failure>
+        requires { seen self.old }
         ensures done { IfOk result (λ status. prints self.old (R.text rt.now) devices.entry
             (W.contents output.old) (W.contents output.new) status) }
+        ensures system { IfErr result (IsS1For (R.refuses rt.now ⊎ reads_more self.old)) }
         ensures blames { IfErr result BlamesNone };
 }

@@ -6,7 +6,7 @@ use Rattle.verity_stage.proofs.committing.commit_staged.Goals as goal
 pub returns-in_default-clause-any_moment : goal.returns-in_default-clause-any_moment
 returns-in_default-clause-any_moment g c = λ settled suits.
     let old = c.args.keeper.now in
-    let plan = plan_of c.args.names.now c.args.on_data.now.stage c.args.on_hash.now.stage in
+    let plan = plan_of c.args.names.now (g.D.StagedStore.stage c.args.on_data.now) (g.H.StagedStore.stage c.args.on_hash.now) in
     record {
       later = omega arith;
       each = λ f left. at_rest plan (g.K.Disks.seen old.disks) (g.K.Disks.may_leave old.disks) (old.durable settled) (old.closed settled) f

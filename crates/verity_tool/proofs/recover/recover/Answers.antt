@@ -1,14 +1,7 @@
 use Rattle.std.proofs.Common.{rules, inl, inr, string_bytes, subst}
 use Rattle.verity_gate.specs.Journals.{IsOneOf}
 use Rattle.verity_tool.proofs.Journals.{blamed}
-use Rattle.verity_tool.proofs.recover.recover.Goals.{then-is_recovered+in_ok-writeln, else-is_recovered+in_ok-writeln-2}
 use Rattle.verity_tool.proofs.recover.recover.Goals as goal
-
-pub returns-clause-printed : goal.returns-clause-printed
-returns-clause-printed g c = elim c.if-is_recovered.branch [
-  | then-is_recovered+in_ok-writeln w ↦ inl (rw w.output-is w.in_ok-writeln.ensures.bytes)
-  | else-is_recovered+in_ok-writeln-2 w ↦ inr (rw w.output-is w.in_ok-writeln-2.ensures.bytes)
-]
 
 pub returns-in_default-clause-blames : goal.returns-in_default-clause-blames
 returns-in_default-clause-blames g c =
@@ -21,12 +14,12 @@ returns-in_default-clause-blames g c =
       inl (c.in_ok-path.ensures.none.0 c.in_default.is),
     )
 
-pub returns-in_err-found-clause-blames : goal.returns-in_err-found-clause-blames
-returns-in_err-found-clause-blames g c =
+pub returns-in_err-is_recovered-clause-blames : goal.returns-in_err-is_recovered-clause-blames
+returns-in_err-is_recovered-clause-blames g c =
     let words = c.args.words.now in
     let opened : g.R.Paths.opens c.args.rt.now words.data_path.now c.in_ok-data-2.data = search rules in
-    blamed g.R.Paths c.args.rt.now words c.from_residual-in_err-found.result c.in_err-found.field-0.0
-    c.from_residual-in_err-found.ensures.1 c.in_err-found.ensures.refused
+    blamed g.R.Paths c.args.rt.now words c.from_residual-in_err-is_recovered.result c.in_err-is_recovered.field-0.0
+    c.from_residual-in_err-is_recovered.ensures.1 c.in_err-is_recovered.ensures.refused
     (λ is. (
       c.in_ok-data-2.data,
       c.in_ok-data.hash,
@@ -36,6 +29,6 @@ returns-in_err-found-clause-blames g c =
         string_bytes c.in-Some.path,
         search rules,
         subst (λ path. IsOneOf g.R.Paths c.args.rt.now path c.in_ok-data-2.data.identity c.in_ok-data.hash.identity) c.deref.ensures
-            (c.in_err-found.ensures.word is),
+            (c.in_err-is_recovered.ensures.word is),
       ),
     ))

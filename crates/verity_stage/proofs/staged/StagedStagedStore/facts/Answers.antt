@@ -1,7 +1,9 @@
-use Rattle.std.proofs.Common.{ℕ, ◌≡◌, ◌∙◌, subst}
+use Rattle.std.proofs.Common.{ℕ, ◌≡◌, ◌≤◌, ◌∙◌, ap, sym, subst, length}
+use Rattle.verity_journal.specs.Plan.{made}
 use Rattle.verity_profile.specs.Profile.{AllSized}
-use Rattle.verity_stage.proofs.PlaceLemmas.{made-staged, kept_bytes, is_side}
-use Rattle.verity_stage.proofs.staged.Staged.facts.Goals as goal
+use Rattle.verity_stage.specs.Stage.{side_of}
+use Rattle.verity_stage.proofs.PlaceLemmas.{made-staged, kept_bytes, is_side, bytes_below-of}
+use Rattle.verity_stage.proofs.staged.StagedStagedStore.facts.Goals as goal
 
 pub returns-clause-side : goal.returns-clause-side
 returns-clause-side g c = is_side c.args.self.now.stage c.facts.ensures.stage c.facts.ensures.ordered
@@ -11,11 +13,13 @@ returns-clause-kept g c =
     let s = c.args.self.now in let content = g.S.BlockStore.content s.store in
     let is : c.block_size-size.result ≡ s.stage.size = c.block_size-size.ensures.value ∙ s.size in
     let all : AllSized s.stage.size content = subst (λ (n : ℕ). AllSized n content) is c.block_size-size.ensures.blocks in
-    kept_bytes content s.stage.size s.stage.least all s.kept
+    subst (λ bytes. (side_of s.stage).keep ≤ length bytes) (sym (bytes_below-of content))
+    (kept_bytes content s.stage.size s.stage.least all s.kept)
 
 pub returns-clause-made : goal.returns-clause-made
 returns-clause-made g c =
     let s = c.args.self.now in let content = g.S.BlockStore.content s.store in
     let is : c.block_size-size.result ≡ s.stage.size = c.block_size-size.ensures.value ∙ s.size in
     let all : AllSized s.stage.size content = subst (λ (n : ℕ). AllSized n content) is c.block_size-size.ensures.blocks in
-    made-staged content s.stage c.facts.ensures.stage s.kept all c.facts.ensures.ordered
+    ap (made (side_of s.stage)) (bytes_below-of content)
+    ∙ made-staged content s.stage c.facts.ensures.stage s.kept all c.facts.ensures.ordered
