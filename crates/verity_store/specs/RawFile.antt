@@ -1,5 +1,6 @@
 -- The bytes of a file, where they are known.
-use Rattle.std.specs.Prelude.{◌≡◌, ℕ, ◌+◌, ◌-◌, Bool, true, false, Option, None, Some, List, ◌++◌, length, take, drop, replicate, ⊤, ◌⊎◌}
+use Rattle.std.specs.Prelude.{◌≡◌, ℕ, ◌+◌, ◌-◌, ⊤, ◌⊎◌, Bool, true, false, Option, None, Some}
+use Rattle.std.specs.Prelude.{List, [], ◌∷◌, ◌++◌, length, take, drop, replicate}
 use Rattle.verity_profile.specs.Profile.{zero_block}
 use Rattle.verity_store.specs.Blocks.{cut}
 
@@ -51,3 +52,8 @@ MaySetLength old new n = (new ≡ old) ⊎ SetsLength old new n
 abbrev pub file_blocks : ℕ → ℕ → Option (List ℕ) → List (List ℕ)
 file_blocks size blocks None = replicate blocks (zero_block size)
 file_blocks size blocks (Some bytes) = cut size blocks bytes
+
+-- what a store is bound to by its file: whether calls on it may be refused
+abbrev pub bound_by_file : Bool → List (ℕ × List ℕ)
+bound_by_file true = (1, []) ∷ []
+bound_by_file false = []

@@ -4,7 +4,7 @@ ghost use Rattle.std.specs.Prelude.{IfOk, IfErr, IfSome, OnOk, OnErr, IsOk, IsTr
 ghost use Rattle.std.specs.List.{concat};
 ghost use Rattle.verity_profile.specs.Profile.{IsBlockSize};
 ghost use Rattle.verity_store.specs.Given.{run_of};
-ghost use Rattle.verity_store.specs.RawFile.{HasLength, is_known, file_blocks};
+ghost use Rattle.verity_store.specs.RawFile.{HasLength, is_known, file_blocks, bound_by_file};
 
 use crate::{BlockStore, RawFile, StoreFault};
 use std::fs::{File, OpenOptions};
@@ -31,6 +31,7 @@ pub struct FileStore<F: RawFile> {
     ghost profile: { IsBlockSize size },
     ghost fits: { blocks * size < 2 ^ 64 },
     ghost whole: { HasLength (F.bytes file) (blocks * size) },
+    ghost told: { 0 < failed.steps → F.may_refuse file ≡ true },
 }
 
 // Whether the file has this length; where it can't be asked, no.
@@ -83,6 +84,7 @@ impl<F: RawFile> FileStore<F> {
             ↔ (IsBlockSize size × (length bytes % size ≢ 0))) }
         ensures succeeds { IfSome (F.bytes file) (λ bytes. IsBlockSize size → length bytes % size ≡ 0 → IsOk result) }
         ensures memory { result ≢ Err StoreFault.NoMemory }
+        ensures refused { result ≡ Err StoreFault.Device → F.may_refuse file ≡ true }
     {
         if !is_block_size(size) {
             return Err(StoreFault::BlockSize);
@@ -90,6 +92,28 @@ impl<F: RawFile> FileStore<F> {
         let Ok(len) = file.byte_len() else {
             return Err(StoreFault::Device);
         };
+        FileStore::of_len(file, len, size)
+    }
+
+    /// A store over a file that has so many bytes, which stay as they are. The file isn't asked for them.
+    ///
+    /// S4 where `size` is not one of the profile; else S2 where the length is not a multiple of `size`. The file is then closed.
+    pub fn of_len(file: F, len: u64, size: usize) -> Result<FileStore<F>, StoreFault>
+    where
+        F: Drop,
+        requires { HasLength (F.bytes file) len }
+        ensures file { IfOk result (λ s. s.file ≡ file) }
+        ensures content { IfOk result (λ s. IfSome (F.bytes file) (λ bytes. concat (⟦<FileStore<F> as BlockStore>⟧.content s) ≡ bytes)) }
+        ensures len { IfOk result (λ s. length (⟦<FileStore<F> as BlockStore>⟧.content s) * size ≡ len) }
+        ensures size { IfOk result (λ s. ⟦<FileStore<F> as BlockStore>⟧.size s ≡ size) }
+        ensures tells { IfOk result (λ s. ⟦<FileStore<F> as BlockStore>⟧.tells s ≡ is_known (F.bytes file)) }
+        ensures wrong_size { (result ≡ Err StoreFault.BlockSize) ↔ ¬ IsBlockSize size }
+        ensures ragged { (result ≡ Err StoreFault.Ragged) ↔ (IsBlockSize size × (len % size ≢ 0)) }
+        ensures succeeds { IsBlockSize size → len % size ≡ 0 → IsOk result }
+    {
+        if !is_block_size(size) {
+            return Err(StoreFault::BlockSize);
+        }
         let size64 = size as u64;
         if len % size64 != 0 {
             return Err(StoreFault::Ragged);
@@ -102,6 +126,13 @@ impl<F: RawFile> FileStore<F> {
             failed: Count::new(),
             given: Given::new(),
         })
+    }
+
+    /// That a failure was counted only where calls on the file may be refused.
+    pub fn facts(&self)
+        ensures { 0 < self.now.failed.steps → bound_by_file (F.may_refuse self.now.file) ≡ bound_by_file true }
+    {
+        let _ = &self.failed;
     }
 }
 
@@ -184,6 +215,8 @@ impl<F: RawFile> BlockStore for FileStore<F> {
     ghost room = { λ _. 2 ^ 41 };
 
     ghost synced = { λ s. F.synced s.file };
+
+    ghost fixed = { λ s. bound_by_file (F.may_refuse s.file) };
 
     fn block_size(&self) -> usize {
         self.size
@@ -270,6 +303,7 @@ impl<F: RawFile> BlockStore for FileStore<F> {
         ensures given { self.new.given.blocks ≡ self.old.given.blocks }
         ensures tells { is_known (F.bytes self.new.file) ≡ is_known (F.bytes self.old.file) }
         ensures size { self.new.size ≡ self.old.size }
+        ensures fixed { bound_by_file (F.may_refuse self.new.file) ≡ bound_by_file (F.may_refuse self.old.file) }
     {
         match self.file.sync() {
             Ok(()) => Ok(()),

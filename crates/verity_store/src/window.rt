@@ -1,7 +1,7 @@
 //! The first bytes of a file whose length is fixed.
 ghost use Rattle.std.specs.Prelude.{◌≡◌, ◌⊎◌, ℕ, ◌+◌, ◌-◌, ◌<◌, ◌≤◌, true, length, replicate, max, IsTrue, ◌↔◌, IsOk, IsErr, OnOk, OnErr};
 ghost use Rattle.verity_store.specs.RawFile.{HasLength, known_len, Reads, Writes, MayWrite, SetsLength, MaySetLength};
-ghost use Rattle.verity_store.specs.Window.{first_bytes, bytes_behind};
+ghost use Rattle.verity_store.specs.Window.{RefusesWithin, first_bytes, bytes_behind};
 
 use crate::RawFile;
 use std::io;
@@ -92,7 +92,7 @@ impl<F: RawFile> RawFile for Window<F> {
     }
 
     /// Narrows or widens the window, and fills what it is widened by with zeros. Past the room it is refused, and nothing
-    /// changes.
+    /// changes; else it is refused only where the file refused to be written up to there.
     fn set_byte_len(&mut self, n: u64) -> io::Result<()>
         ensures set { OnOk result (SetsLength
             (first_bytes self.old.len (F.bytes self.old.file)) (first_bytes self.new.len (F.bytes self.new.file)) n) }
@@ -107,6 +107,7 @@ impl<F: RawFile> RawFile for Window<F> {
         ensures len_kept { OnErr result (self.new.len ≡ self.old.len) }
         ensures room { self.new.room ≡ self.old.room }
         ensures refused { OnErr result (F.refuses self.new.file n ⊎ (self.new.len < n)) }
+        ensures failed_below { OnErr result ((self.old.room < n) ⊎ RefusesWithin (F.refuses self.new.file) n) }
     {
         if self.room < n {
             return Err(ErrorKind::WriteZero.into());
@@ -142,6 +143,7 @@ fn fill_zeros<F: RawFile>(file: &mut F, from: u64, to: u64, room: u64) -> io::Re
     ensures front { first_bytes from (F.bytes file.new) ≡ first_bytes from (F.bytes file.old) }
     ensures behind { bytes_behind to (F.bytes file.new) ≡ bytes_behind to (F.bytes file.old) }
     ensures whole { HasLength (F.bytes file.new) room }
+    ensures refused { OnErr result (RefusesWithin (F.refuses file.new) to) }
 {
     let zeros = [0; ZEROS];
     let mut at = from;
