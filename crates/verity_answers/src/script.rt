@@ -1,6 +1,6 @@
 //! A script over a volume, done line by line.
 
-ghost use Rattle.std.specs.Prelude.{◌≡◌, ◌==◌, ◌<◌, ◌≤◌, ◌+◌, ◌↔◌, ℕ, false, length, take, drop};
+ghost use Rattle.std.specs.Prelude.{◌≡◌, ◌==◌, ◌<◌, ◌≤◌, ◌+◌, ◌↔◌, ℕ, true, false, length, take, drop};
 ghost use Rattle.std.specs.Prelude.{IfOk, IfErr, IfSome, IsSome, Some, None, Err};
 ghost use Rattle.std.specs.List.{position};
 ghost use Rattle.verity_profile.specs.Profile.{IsBlockCount};
@@ -226,6 +226,7 @@ pub fn commit<V: Edits, C: Commits<V>>(
     devices: Devices<'_>,
 ) -> (V, Result<Committed, Fault>)
     ensures done { IfOk result.1 (λ committed. (begun : V) × C.stands_for editor begun × V.commits begun result.0 committed) }
+    ensures system { IfErr result.1 (λ fault. fault ≡ Fault.Store StoreFault.Device → C.refuses commits.old ≡ true) }
     ensures data_room { devices.entry.data_room < V.count editor → result ≡ (editor, Err (Fault.Edit (EditFault.Store Which.Data))) }
     ensures hash_room { V.count editor ≤ devices.entry.data_room → IsBlockCount (V.count editor)
         → LacksRoom devices.entry (V.volume editor) (V.count editor)

@@ -1,7 +1,6 @@
 //! The command `edit`: does a script's lines over a volume.
-ghost use Rattle.std.specs.Prelude.{IfOk, IfErr};
+ghost use Rattle.std.specs.Prelude.{◌≡◌, true, IfOk, IfErr};
 ghost use Rattle.verity_files.specs.Errors.{IsS1For};
-ghost use Rattle.verity_gate.specs.Journals.{RefusesOrStands};
 ghost use Rattle.verity_work.specs.Work.{IsDoneAt};
 ghost use Rattle.verity_changes.specs.Blamed.{EditBlames};
 ghost use Rattle.verity_changes.specs.Printing.{IsEdited};
@@ -29,7 +28,7 @@ pub fn edit<R: Paths + Clock + Eprint + AllocGlobal, W: Write, E: Write + IsTerm
     ensures done { IfOk result (λ status. IsDoneAt (IsEdited (R.text rt.now words.now.script_path.now)) words.now.data_path.now
         words.now.hash_path.now (W.contents output.old) (W.contents output.new) status) }
     ensures blames { IfErr result (EditBlames R.Paths rt.now words.now) }
-    ensures system { IfErr result (IsS1For (RefusesOrStands R.Paths rt.now words.now.hash_path.now)) }
+    ensures system { IfErr result (IsS1For (R.refuses rt.now ≡ true)) }
 {
     check_paths(words.data_path, words.hash_path)?;
     let offset = offset_of(words.table, words.hash_offset)?;
@@ -47,7 +46,7 @@ fn edit_at<R: Paths + Clock + Eprint + AllocGlobal, W: Write, E: Write + IsTermi
     ensures done { IfOk result (λ status. IsDoneAt (IsEdited (R.text rt.now words.now.script_path.now)) words.now.data_path.now
         words.now.hash_path.now (W.contents output.old) (W.contents output.new) status) }
     ensures blames { IfErr result (EditBlames R.Paths rt.now words.now) }
-    ensures system { IfErr result (IsS1For (RefusesOrStands R.Paths rt.now words.now.hash_path.now)) }
+    ensures system { IfErr result (IsS1For (R.refuses rt.now ≡ true)) }
 {
     let over = Words {
         command: Command::Edit,
@@ -84,8 +83,6 @@ impl<'a> Work for Lines<'a> {
 
     ghost seen = { λ _. ⊤ };
 
-    ghost reads_more = { λ _. ⊥ };
-
     fn begin<R: Paths + AllocGlobal>(
         &mut self,
         _rt: &R,
@@ -95,7 +92,11 @@ impl<'a> Work for Lines<'a> {
         Ok(())
     }
 
-    fn see(&mut self, _data_block_size: usize) -> Result<(), Failure> {
+    fn see<R: Paths + AllocGlobal>(
+        &mut self,
+        _rt: &R,
+        _data_block_size: usize,
+    ) -> Result<(), Failure> {
         Ok(())
     }
 

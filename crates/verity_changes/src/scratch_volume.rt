@@ -1,5 +1,5 @@
 //! The run without words: a volume in memory, and a script over it.
-ghost use Rattle.std.specs.Prelude.{IfOk, IfErr, OnOk};
+ghost use Rattle.std.specs.Prelude.{IfOk, IfErr, OnOk, ◌≡◌, true};
 ghost use Rattle.verity_gate.specs.Refusals.{BlamesNone};
 ghost use Rattle.std.specs.Io.KnownBytes.{Appends};
 ghost use Rattle.verity_superblock.specs.Line.{canonical};
@@ -40,7 +40,7 @@ pub fn scratch<R: Paths + AllocGlobal, I: Read, W: Write, E: Write>(
 ) -> Result<u8, Failure>
     ensures done { IfOk result (λ status. IsScratch (I.remaining input.old) (W.contents output.old) (W.contents output.new) status) }
     ensures blames { IfErr result BlamesNone }
-    ensures system { IfErr result (IsS1For (R.refuses rt.now)) }
+    ensures system { IfErr result (IsS1For (R.refuses rt.now ≡ true)) }
 {
     let editor = zero_volume(rt.alloc())?;
     print_line(rt.alloc(), &editor, DEVICES, output)?;
@@ -59,7 +59,7 @@ fn answer_all<R: Paths + AllocGlobal, I: Read, W: Write, E: Write>(
     ensures done { IfOk result (λ status. IsEdited (I.remaining input.old) devices.entry (W.contents output.old)
         (W.contents output.new) status) }
     ensures blames { IfErr result BlamesNone }
-    ensures system { IfErr result (IsS1For (R.refuses rt.now)) }
+    ensures system { IfErr result (IsS1For (R.refuses rt.now ≡ true)) }
 {
     let bytes = rt.script_in(rt.alloc(), input)?;
     let script = Script {

@@ -1,5 +1,5 @@
 -- Which files and devices can hold a volume, and which two are one.
-use Rattle.std.specs.Prelude.{ℕ, Bool, true, false, if◌then◌else◌, Option, Some, None}
+use Rattle.std.specs.Prelude.{ℕ, ⊤, Bool, true, false, if◌then◌else◌, Option, Some, None}
 use Rattle.verity_files.specs.declared.identity.Identity.{Identity}
 use Rattle.verity_files.specs.declared.identity.Identity.TheVariants.{File, Device}
 
@@ -15,3 +15,8 @@ identity_of is_file is_device dev ino rdev =
 abbrev pub is_known_file : Option Identity → Bool
 is_known_file (Some (File dev ino)) = true
 is_known_file _ = false
+
+-- a block device
+abbrev pub IsDevice : Identity → Type 0
+IsDevice (Device number) = ⊤
+IsDevice (File dev ino) = ⊥

@@ -2,6 +2,7 @@
 //! words, scripts read whole, and why a command stops, with its text and the status for it.
 #![tactic(auto)]
 
+mod asked;
 mod command;
 mod failure;
 mod fault;
@@ -15,6 +16,7 @@ mod stores;
 mod values;
 mod volume_file;
 
+pub use asked::Asked;
 pub use command::{Command, Lock};
 pub use failure::{Failure, Word, print_failure, status_after};
 pub use fault::Fault;
@@ -24,8 +26,8 @@ pub use paths::Paths;
 pub use reading::read_script;
 pub use status::{DONE, NO_MEMORY, NOT_UNDERSTOOD, REFUSED};
 pub use stores::{
-    VolumeStore, check_block_size, new_store, room_of, store_of_first, store_of_most, whole_file,
-    whole_store,
+    AskedStore, VolumeStore, asked_store, check_block_size, len_by_now, len_of_most, new_store,
+    room_of, store_of_first, store_of_most, whole_file, whole_store,
 };
 pub use values::{
     algorithm, block_size, check_paths, memory, number, salt, salt_bytes, sessions, uuid,

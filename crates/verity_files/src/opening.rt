@@ -1,5 +1,5 @@
 //! Files are opened here, looked at, and nothing is changed in them.
-ghost use Rattle.std.specs.Prelude.{◌≡◌, ⊤, IfOk, IfErr};
+ghost use Rattle.std.specs.Prelude.{◌≡◌, ⊤, true, IfOk, IfErr};
 ghost use Rattle.std.specs.IoError.{error_kind};
 ghost use Rattle.verity_files.specs.Commands.{lock_of, writes};
 ghost use Rattle.verity_files.specs.Errors.{IsOfLock, IsOfSystem, is_memory, store_fault_of};
@@ -35,7 +35,7 @@ pub fn open_there<P: Paths>(
 ) -> Result<Opened, StoreFault>
     ensures opened { IfOk result (P.opens rt.now path.now) }
     ensures permitted { IfOk result (λ opened. P.permits rt.now opened (writes command which)) }
-    ensures refused { IfErr result (IsOfSystem (P.refuses rt.now)) }
+    ensures refused { IfErr result (IsOfSystem (P.refuses rt.now ≡ true)) }
 {
     rt.open(path, command.is_writing(which))
 }
@@ -50,7 +50,7 @@ pub fn open_locked<P: Paths>(
     ensures opened { IfOk result (P.opens rt.now path.now) }
     ensures permitted { IfOk result (λ opened. P.permits rt.now opened (writes command which)) }
     ensures locked { IfOk result (λ opened. P.locks rt.now opened (lock_of command)) }
-    ensures refused { IfErr result (IsOfLock (P.refuses rt.now) which) }
+    ensures refused { IfErr result (IsOfLock (P.refuses rt.now ≡ true) which) }
 {
     let opened = open_there(rt, path, command, which)?;
     rt.lock(&opened, command.lock(), which)?;

@@ -3,7 +3,7 @@
 //! What stands at a path, and what becomes of an opened file, only the system knows. Here that has a name, for each question one, which a
 //! contract can say of any system: code that works over any [`Paths`] has no other way to such a fact than to ask by that very path, or
 //! of that very file. Of the system itself, whose calls have no clauses, nothing is known: that it answers so is trusted.
-ghost use Rattle.std.specs.Prelude.{◌≡◌, ℕ, Bool, true, false, List, Option, IsOk, IfOk, IfErr, IfSome, OnOk, string_bytes};
+ghost use Rattle.std.specs.Prelude.{◌≡◌, ℕ, Bool, true, false, List, Option, IsOk, IfOk, IfErr, IfSome, OnOk, OnErr, string_bytes};
 ghost use Rattle.verity_files.specs.Errors.{IsOfLock, IsOfScript, IsOfSystem};
 ghost use Rattle.verity_files.specs.declared.command.Lock.{Lock};
 ghost use Rattle.verity_files.specs.declared.failure.Failure.TheVariants as failure;
@@ -28,7 +28,7 @@ use verity_store::{RawFile, StoreFault, Which};
 /// The files of a system, by their paths.
 pub trait Paths {
     /// The system refused a call, or has more to read than is taken.
-    ghost refuses: { Self → Type 0 };
+    ghost refuses: { Self → Bool };
 
     /// What was opened stood at this path.
     ghost opens: { Self → List ℕ → Opened → Type 0 };
@@ -59,29 +59,29 @@ pub trait Paths {
     fn open(&self, path: &str, is_written: bool) -> Result<Opened, StoreFault>
         ensures opened { IfOk result (opens self.now path.now) }
         ensures permitted { IfOk result (λ opened. permits self.now opened is_written) }
-        ensures refused { IfErr result (IsOfSystem (refuses self.now)) };
+        ensures refused { IfErr result (IsOfSystem (refuses self.now ≡ true)) };
 
     /// Opens a file or a block device to be written, and makes a file where there is nothing. It tells whether it did. Nothing is cut.
     /// S1 and S3 as in `open`.
     fn open_or_make(&self, alloc: Global, path: &str) -> Result<(Opened, bool), StoreFault>
         ensures opened { IfOk result (λ made. opens self.now path.now made.0) }
         ensures permitted { IfOk result (λ made. permits self.now made.0 true) }
-        ensures refused { IfErr result (IsOfSystem (refuses self.now)) };
+        ensures refused { IfErr result (IsOfSystem (refuses self.now ≡ true)) };
 
     /// What was opened, once more. S1 where the system refuses, S3 for want of memory.
     fn again(&self, opened: &Opened) -> Result<Opened, StoreFault>
         ensures same { IfOk result (λ again. (again.identity ≡ opened.now.identity) × (again.len ≡ opened.now.len)) }
-        ensures refused { IfErr result (IsOfSystem (refuses self.now)) };
+        ensures refused { IfErr result (IsOfSystem (refuses self.now ≡ true)) };
 
     /// The same, with as many bytes as it has by now.
     fn seen_again(&self, opened: &Opened) -> Result<Opened, StoreFault>
-        ensures refused { IfErr result (IsOfSystem (refuses self.now)) };
+        ensures refused { IfErr result (IsOfSystem (refuses self.now ≡ true)) };
 
     /// Takes a lock on what was opened. S5 where another has one that shuts it out; S1 where the system refuses, S3 for want of memory.
     fn lock(&self, opened: &Opened, lock: Lock, which: Which) -> Result<(), Fault>
         ensures locked { OnOk result (locks self.now opened.now lock) }
         ensures open { lock ≡ Lock.Open → IsOk result }
-        ensures refused { IfErr result (IsOfLock (refuses self.now) which) };
+        ensures refused { IfErr result (IsOfLock (refuses self.now ≡ true) which) };
 
     /// The path of what a path leads to; the path itself where there is nothing, or the system doesn't say. No error but want of memory.
     fn real_path(&self, alloc: Global, path: &str) -> Result<String, Failure>
@@ -101,15 +101,35 @@ pub trait Paths {
     fn read_first(&self, opened: &mut Opened, out: &mut [u8]) -> io::Result<()>
         ensures { OnOk result (begins self.now opened.old out.new) };
 
+    /// How many bytes an opened file has by now; of a device it isn't asked.
+    fn byte_len(&self, file: &File) -> io::Result<u64>
+        ensures refused { OnErr result (refuses self.now ≡ true) };
+
+    /// Reads as many bytes of what was opened as `out` has, from offset `at` on.
+    fn read_at(&self, file: &mut File, at: u64, out: &mut [u8]) -> io::Result<()>
+        ensures refused { OnErr result (refuses self.now ≡ true) };
+
+    /// Writes these bytes from offset `at` on.
+    fn write_at(&self, file: &mut File, at: u64, bytes: &[u8]) -> io::Result<()>
+        ensures refused { OnErr result (refuses self.now ≡ true) };
+
+    /// Cuts an opened file to `n` bytes, or fills it up to as many with zeros.
+    fn set_byte_len(&self, file: &mut File, n: u64) -> io::Result<()>
+        ensures refused { OnErr result (refuses self.now ≡ true) };
+
+    /// Asks to keep what was written to an opened file.
+    fn sync(&self, file: &mut File) -> io::Result<()>
+        ensures refused { OnErr result (refuses self.now ≡ true) };
+
     /// The bytes of the script at a path, be it a pipe. S1 where it can't be opened or read, or is longer than 2^30 bytes; want of memory.
     fn script_at(&self, alloc: Global, path: &str) -> Result<Vec<u8>, Failure>
         ensures read { IfOk result (λ script. IfSome (text self.now path.now) (λ bytes. script.items ≡ bytes)) }
-        ensures refused { IfErr result (IsOfScript (refuses self.now)) };
+        ensures refused { IfErr result (IsOfScript (refuses self.now ≡ true)) };
 
     /// The bytes of the script that an input has. S1 where it can't be read, or is longer than 2^30 bytes; want of memory.
     fn script_in<I: Read>(&self, alloc: Global, input: &mut I) -> Result<Vec<u8>, Failure>
         ensures read { IfOk result (λ script. IfSome (I.remaining input.old) (λ bytes. script.items ≡ bytes)) }
-        ensures refused { IfErr result (IsOfScript (refuses self.now)) };
+        ensures refused { IfErr result (IsOfScript (refuses self.now ≡ true)) };
 
     /// Asks for the entries of the folder to be kept in which a path stands.
     fn sync_folder(&self, path: &str) -> io::Result<()>;
@@ -122,9 +142,9 @@ pub trait Paths {
 }
 
 impl<R: Files<File = File>> Paths for R {
-    ghost use Rattle.std.specs.Prelude.{⊤, None};
+    ghost use Rattle.std.specs.Prelude.{⊤, None, true};
 
-    ghost refuses = { λ _. ⊤ };
+    ghost refuses = { λ _. true };
 
     ghost opens = { λ _ _ _. ⊤ };
 
@@ -179,6 +199,26 @@ impl<R: Files<File = File>> Paths for R {
 
     fn read_first(&self, opened: &mut Opened, out: &mut [u8]) -> io::Result<()> {
         RawFile::read_exact_at(&mut opened.file, 0, out)
+    }
+
+    fn byte_len(&self, file: &File) -> io::Result<u64> {
+        RawFile::byte_len(file)
+    }
+
+    fn read_at(&self, file: &mut File, at: u64, out: &mut [u8]) -> io::Result<()> {
+        RawFile::read_exact_at(file, at, out)
+    }
+
+    fn write_at(&self, file: &mut File, at: u64, bytes: &[u8]) -> io::Result<()> {
+        RawFile::write_all_at(file, at, bytes)
+    }
+
+    fn set_byte_len(&self, file: &mut File, n: u64) -> io::Result<()> {
+        RawFile::set_byte_len(file, n)
+    }
+
+    fn sync(&self, file: &mut File) -> io::Result<()> {
+        RawFile::sync(file)
     }
 
     fn script_at(&self, alloc: Global, path: &str) -> Result<Vec<u8>, Failure> {

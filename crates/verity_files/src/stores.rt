@@ -1,11 +1,15 @@
 //! Stores over opened files and devices.
-ghost use Rattle.std.specs.Prelude.{◌≡◌, ◌≢◌, ◌*◌, ◌/◌, ◌≤◌, ◌↔◌, true, false, None, Err, min};
-ghost use Rattle.std.specs.Prelude.{IsOk, IfOk, IfErr, OnOk};
+ghost use Rattle.std.specs.Prelude.{◌≡◌, ◌≢◌, ◌*◌, ◌/◌, ◌%◌, ◌<◌, ◌≤◌, ◌↔◌, true, false, None, Ok, Err, min};
+ghost use Rattle.std.specs.Prelude.{IsOk, IfOk, IfErr, OnOk, length};
+ghost use Rattle.verity_store.specs.RawFile.{bound_by_file};
 ghost use Rattle.verity_profile.specs.Profile.{IsBlockSize};
+ghost use Rattle.verity_files.specs.Identities.{IsDevice};
 ghost use Rattle.verity_files.specs.VolumeFiles.{IsPart, LiesIn, room_in};
 
+use crate::asked::Asked;
 use crate::identity::Identity;
 use crate::opening::Opened;
+use crate::paths::Paths;
 use crate::volume_file::VolumeFile;
 use std::fs::File;
 use verity_profile::is_block_size;
@@ -14,27 +18,59 @@ use verity_store::{BlockStore, FileStore, RawFile, StoreFault, Window};
 /// A store in a file or in a part of one.
 pub type VolumeStore = FileStore<VolumeFile<File>>;
 
-/// A store over all of a file or a device. S4 for all but the block sizes of the profile; S2 where its length is not a
-/// multiple of `size`.
-pub fn whole_store(opened: Opened, size: usize) -> Result<VolumeStore, StoreFault>
+/// A store over a file of a system, which is asked for each call.
+pub type AskedStore<'a, P> = FileStore<Asked<'a, P>>;
+
+/// A store over all of a file or a device. S4 for all but the block sizes of the profile; S1 where the system doesn't say how long the
+/// file is; S2 where its length is not a multiple of `size`.
+pub fn whole_store<P: Paths>(rt: &P, opened: Opened, size: usize) -> Result<VolumeStore, StoreFault>
     ensures lies { IfOk result (λ s. LiesIn opened.identity opened.file false opened.len opened.len s.file) }
     ensures size { IfOk result (λ s. ⟦<VolumeStore as BlockStore>⟧.size s ≡ size) }
     ensures wrong_size { (result ≡ Err StoreFault.BlockSize) ↔ ¬ IsBlockSize size }
     ensures memory { result ≢ Err StoreFault.NoMemory }
+    ensures system { result ≡ Err StoreFault.Device → P.refuses rt.now ≡ true }
 {
-    FileStore::over(whole_file(opened), size)
+    check_block_size(size)?;
+    let len = len_by_now(rt, &opened)?;
+    FileStore::of_len(whole_file(opened), len, size)
 }
 
-/// A store over a file as it stands, S2 where its length is not a multiple of `size`; or over the first blocks of a
-/// device, at most so many. S4 as above.
-pub fn store_of_most(opened: Opened, size: usize, blocks: u64) -> Result<VolumeStore, StoreFault>
+/// A store over a file as it stands, S1 where the system doesn't say how long it is, S2 where that is not a multiple of `size`; or over the
+/// first blocks of a device, at most so many. S4 as above.
+pub fn store_of_most<P: Paths>(
+    rt: &P,
+    opened: Opened,
+    size: usize,
+    blocks: u64,
+) -> Result<VolumeStore, StoreFault>
     ensures lies { IfOk result (λ s. LiesIn opened.identity opened.file false opened.len (min blocks (opened.len / size) * size) s.file) }
     ensures size { IfOk result (λ s. ⟦<VolumeStore as BlockStore>⟧.size s ≡ size) }
     ensures wrong_size { (result ≡ Err StoreFault.BlockSize) ↔ ¬ IsBlockSize size }
     ensures memory { result ≢ Err StoreFault.NoMemory }
+    ensures system { result ≡ Err StoreFault.Device → P.refuses rt.now ≡ true }
 {
     check_block_size(size)?;
-    FileStore::over(file_of_most(opened, size, blocks), size)
+    let len = len_of_most(rt, &opened, size, blocks)?;
+    FileStore::of_len(file_of_most(opened, size, blocks), len, size)
+}
+
+/// A store over so many bytes, from the first on, of what was opened, each call on which is asked of the system. S4 as above; S2 where
+/// that is not a multiple of `size`.
+pub fn asked_store<'a, P: Paths>(
+    rt: &'a P,
+    opened: Opened,
+    len: u64,
+    size: usize,
+) -> Result<AskedStore<'a, P>, StoreFault>
+    ensures file { IfOk result (λ s. s.file.file ≡ opened.file) }
+    ensures size { IfOk result (λ s. ⟦<AskedStore<'a, P> as BlockStore>⟧.size s ≡ size) }
+    ensures len { IfOk result (λ s. length (⟦<AskedStore<'a, P> as BlockStore>⟧.content s) * size ≡ len) }
+    ensures bound { IfOk result (λ s. ⟦<AskedStore<'a, P> as BlockStore>⟧.fixed s ≡ bound_by_file (P.refuses rt.now)) }
+    ensures wrong_size { (result ≡ Err StoreFault.BlockSize) ↔ ¬ IsBlockSize size }
+    ensures ragged { (result ≡ Err StoreFault.Ragged) ↔ (IsBlockSize size × (len % size ≢ 0)) }
+    ensures succeeds { IsBlockSize size → len % size ≡ 0 → IsOk result }
+{
+    FileStore::of_len(Asked::new(rt, opened.file), len, size)
 }
 
 /// A store over the first blocks of a file or a device. S1 where there aren't so many; S4 as above.
@@ -44,12 +80,14 @@ pub fn store_of_first(opened: Opened, size: usize, blocks: u64) -> Result<Volume
     ensures enough { OnOk result (blocks ≤ opened.len / size) }
     ensures wrong_size { (result ≡ Err StoreFault.BlockSize) ↔ ¬ IsBlockSize size }
     ensures memory { result ≢ Err StoreFault.NoMemory }
+    ensures short { result ≡ Err StoreFault.Device → opened.len / size < blocks }
 {
     check_block_size(size)?;
     if blocks > opened.len / size as u64 {
         return Err(StoreFault::Device);
     }
-    FileStore::over(file_of_first(opened, size, blocks), size)
+    let len = whole_blocks(opened.len, size, blocks);
+    FileStore::of_len(file_of_first(opened, size, blocks), len, size)
 }
 
 /// A store to be filled anew: of no block over a file, in which all stays until the store's length is set; or over all whole
@@ -59,9 +97,46 @@ pub fn new_store(opened: Opened, size: usize) -> Result<VolumeStore, StoreFault>
     ensures size { IfOk result (λ s. ⟦<VolumeStore as BlockStore>⟧.size s ≡ size) }
     ensures wrong_size { (result ≡ Err StoreFault.BlockSize) ↔ ¬ IsBlockSize size }
     ensures memory { result ≢ Err StoreFault.NoMemory }
+    ensures system { result ≢ Err StoreFault.Device }
 {
     check_block_size(size)?;
-    FileStore::over(file_anew(opened, size), size)
+    let len = match opened.identity {
+        Identity::File(_, _) => 0,
+        Identity::Device(_) => whole_blocks(opened.len, size, u64::MAX),
+    };
+    FileStore::of_len(file_anew(opened, size), len, size)
+}
+
+/// How many bytes there are: of a file by now, of a device as when it was opened. S1 where the system doesn't say.
+pub fn len_by_now<P: Paths>(rt: &P, opened: &Opened) -> Result<u64, StoreFault>
+    ensures device { IsDevice opened.now.identity → result ≡ Ok opened.now.len }
+    ensures refused { IfErr result (λ e. (e ≡ StoreFault.Device) × (P.refuses rt.now ≡ true)) }
+{
+    match opened.identity {
+        Identity::File(_, _) => match rt.byte_len(&opened.file) {
+            Ok(len) => Ok(len),
+            Err(_) => Err(StoreFault::Device),
+        },
+        Identity::Device(_) => Ok(opened.len),
+    }
+}
+
+/// How many bytes a store over a file as it stands has, or over the first blocks of a device, at most so many. S1 as above.
+pub fn len_of_most<P: Paths>(
+    rt: &P,
+    opened: &Opened,
+    size: usize,
+    blocks: u64,
+) -> Result<u64, StoreFault>
+    requires { IsBlockSize size }
+    ensures device { IsDevice opened.now.identity → result ≡ Ok (min blocks (opened.now.len / size) * size) }
+    ensures refused { IfErr result (λ e. (e ≡ StoreFault.Device) × (P.refuses rt.now ≡ true)) }
+{
+    let len = len_by_now(rt, opened)?;
+    match opened.identity {
+        Identity::File(_, _) => Ok(len),
+        Identity::Device(_) => Ok(whole_blocks(len, size, blocks)),
+    }
 }
 
 /// All of a file or a device.
@@ -78,7 +153,8 @@ pub fn whole_file(opened: Opened) -> VolumeFile<File>
 /// A file as it stands, or the first blocks of a device, at most so many.
 fn file_of_most(opened: Opened, size: usize, blocks: u64) -> VolumeFile<File>
     requires { IsBlockSize size }
-    ensures { LiesIn opened.identity opened.file false opened.len (min blocks (opened.len / size) * size) result }
+    ensures lies { LiesIn opened.identity opened.file false opened.len (min blocks (opened.len / size) * size) result }
+    ensures unknown { ⟦<VolumeFile<File> as RawFile>⟧.bytes result ≡ None }
 {
     match opened.identity {
         Identity::File(_, _) => VolumeFile::new(opened.file),
@@ -93,7 +169,8 @@ fn file_of_most(opened: Opened, size: usize, blocks: u64) -> VolumeFile<File>
 fn file_of_first(opened: Opened, size: usize, blocks: u64) -> VolumeFile<File>
     requires size { IsBlockSize size }
     requires enough { blocks ≤ opened.len / size }
-    ensures { IsPart opened.file opened.len (blocks * size) result }
+    ensures lies { IsPart opened.file opened.len (blocks * size) result }
+    ensures unknown { ⟦<VolumeFile<File> as RawFile>⟧.bytes result ≡ None }
 {
     let len = whole_blocks(opened.len, size, blocks);
     part(opened.file, opened.len, len)
@@ -102,7 +179,8 @@ fn file_of_first(opened: Opened, size: usize, blocks: u64) -> VolumeFile<File>
 /// A file that is replaced, or all whole blocks of a device.
 fn file_anew(opened: Opened, size: usize) -> VolumeFile<File>
     requires { IsBlockSize size }
-    ensures { LiesIn opened.identity opened.file true opened.len (opened.len / size * size) result }
+    ensures lies { LiesIn opened.identity opened.file true opened.len (opened.len / size * size) result }
+    ensures unknown { ⟦<VolumeFile<File> as RawFile>⟧.bytes result ≡ None }
 {
     match opened.identity {
         Identity::File(_, _) => VolumeFile::replaced(opened.file),

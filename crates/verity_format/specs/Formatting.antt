@@ -1,10 +1,12 @@
 -- What `format` was asked for, and the line of what it made.
-use Rattle.std.specs.Prelude.{◌≡◌, ℕ, List, Option, Some, None, Result, Ok, Err, IfSome}
+use Rattle.std.specs.Prelude.{◌≡◌, ◌<◌, ◌/◌, ℕ, List, Option, Some, None, Result, Ok, Err, IfSome, MatchOption}
 use Rattle.verity_superblock.specs.Line.{TableLine, algorithm_of}
 use Rattle.verity_digest.specs.Hash.{name_of}
 use Rattle.verity_files.specs.Words.{number_in, uuid_in}
 use Rattle.verity_files.specs.declared.failure.Failure.{Failure}
 use Rattle.verity_files.specs.declared.failure.Word.TheVariants as word
+use Rattle.verity_files.specs.declared.opening.Opened.{Opened}
+use Rattle.verity_files.specs.declared.paths.Paths.{Ghosts}
 use Rattle.verity_words.specs.declared.words.format.FormatWords.{FormatWords}
 use Rattle.verity_format.specs.declared.formatting.Made.{Made}
 use Rattle.verity_format.specs.declared.formatting.Shape.{Shape}
@@ -23,6 +25,18 @@ pub record IsAsked (words : FormatWords) (shape : Shape) : Type 0 where
   pub blocks : IfSome words.data_blocks (λ text. some_blocks (number_in word.DataBlocks text.now) ≡ Ok shape.data_blocks)
   pub algorithm : words.algorithm.now ≡ name_of shape.algorithm
   pub uuid : uuid_in words.uuid.now ≡ Ok shape.uuid
+
+-- what was opened as DATA has fewer blocks than were asked for
+abbrev pub HasFewer : Opened → Shape → Type 0
+HasFewer image shape = MatchOption shape.data_blocks ⊥ (λ blocks. image.len / shape.data_block_size < blocks)
+
+-- what was opened at a path does
+abbrev pub IsShort : {P : Type 0} → Ghosts P → P → List ℕ → Shape → Type 0
+IsShort facts p path shape = (image : Opened) × facts.opens p path image × HasFewer image shape
+
+-- what was opened at DATA's path has fewer blocks than the words ask for
+abbrev pub FallsShort : {P : Type 0} → Ghosts P → P → FormatWords → Type 0
+FallsShort facts p words = (shape : Shape) × IsAsked words shape × IsShort facts p words.data_path.now shape
 
 -- the table line of a device that was made
 abbrev pub line_made : FormatWords → Shape → Made → List ℕ → TableLine

@@ -1,6 +1,6 @@
 //! The command `format`: makes the hash device of a block image.
 
-ghost use Rattle.std.specs.Prelude.{◌≡◌, None, Ok, IfSome, IfOk, IfErr, OnOk, string_bytes};
+ghost use Rattle.std.specs.Prelude.{◌≡◌, ◌⊎◌, true, None, Ok, Err, IfSome, IfOk, IfErr, OnOk, string_bytes};
 ghost use Rattle.verity_files.specs.Words.{number_in};
 ghost use Rattle.verity_files.specs.declared.failure.Failure.TheVariants as failure;
 ghost use Rattle.verity_files.specs.declared.failure.Word.TheVariants as word;
@@ -8,13 +8,12 @@ ghost use Rattle.verity_files.specs.declared.opening.Opened.{Opened};
 ghost use Rattle.verity_superblock.specs.Line.{IsTableLine, canonical};
 ghost use Rattle.verity_superblock.specs.Image.{start_behind};
 ghost use Rattle.verity_volume.specs.Lines.{IsOfLine};
-ghost use Rattle.verity_files.specs.Errors.{IsS1For};
-ghost use Rattle.verity_gate.specs.Journals.{RefusesOrStands};
+ghost use Rattle.verity_files.specs.Errors.{IsOfLock, IsS1For};
 ghost use Rattle.verity_gate.specs.Refusals.{BlamesAtMost};
 ghost use Rattle.verity_files.specs.Misread.{IsMisread};
 ghost use Rattle.verity_volume.specs.Opening.{IsOneFile};
 ghost use Rattle.verity_format.specs.Blamed.{FormatBlames, Misreads};
-ghost use Rattle.verity_format.specs.Formatting.{line_made, some_blocks, IsAsked};
+ghost use Rattle.verity_format.specs.Formatting.{line_made, some_blocks, FallsShort, HasFewer, IsAsked, IsShort};
 ghost use Rattle.verity_format.specs.Printed.{IsFormatted};
 
 use std::alloc::Global;
@@ -67,7 +66,7 @@ pub fn format<R: Paths + Clock + Eprint + AllocGlobal, W: Write, E: IsTerminal>(
 ) -> Result<(), Failure>
     ensures printed { OnOk result (IsFormatted words.now (W.contents output.old) (W.contents output.new)) }
     ensures blames { IfErr result (FormatBlames R.Paths rt.now words.now) }
-    ensures system { IfErr result (IsS1For (RefusesOrStands R.Paths rt.now words.now.data_path.now)) }
+    ensures system { IfErr result (IsS1For ((R.refuses rt.now ≡ true) ⊎ FallsShort R.Paths rt.now words.now)) }
 {
     check_paths(words.data_path, words.hash_path)?;
     let shape = read_shape(words)?;
@@ -135,7 +134,7 @@ fn make<R: Paths + Clock + Eprint + AllocGlobal>(
     ensures one { IfErr result (λ e. e ≡ Failure.Word word.Hash
         → IsOneFile R.Paths rt.now words.now.data_path.now words.now.hash_path.now) }
     ensures blames { IfErr result (BlamesAtMost word.Hash) }
-    ensures system { IfErr result (IsS1For (RefusesOrStands R.Paths rt.now words.now.data_path.now)) }
+    ensures system { IfErr result (IsS1For ((R.refuses rt.now ≡ true) ⊎ IsShort R.Paths rt.now words.now.data_path.now shape.now)) }
 {
     let params = BuildParameters::new(salt(rt.alloc(), salt_bytes)?, shape.uuid, shape.algorithm);
     let (data_store, data) = open_data(rt, words.data_path, shape)?;
@@ -198,19 +197,22 @@ fn data_blocks(asked: Option<&str>) -> Result<Option<u64>, Failure>
 /// DATA, and which file it is.
 fn open_data<R: Paths>(rt: &R, path: &str, shape: &Shape) -> Result<(VolumeStore, Identity), Fault>
     ensures opened { IfOk result (λ opened. (image : Opened) × R.opens rt.now path.now image × (image.identity ≡ opened.1)) }
-    ensures system { IfErr result (λ e. e ≡ Fault.Store StoreFault.Device → RefusesOrStands R.Paths rt.now path.now) }
+    ensures system { IfErr result (λ e. e ≡ Fault.Store StoreFault.Device
+        → (R.refuses rt.now ≡ true) ⊎ IsShort R.Paths rt.now path.now shape.now) }
 {
     check_block_size(shape.data_block_size)?;
     let data = open_locked(rt, path, Command::Format, Which::Data)?;
     let identity = data.identity;
-    Ok((image_store(data, shape)?, identity))
+    Ok((image_store(rt, data, shape)?, identity))
 }
 
 /// A store over all of DATA, or over as many blocks as were asked for.
-fn image_store(data: Opened, shape: &Shape) -> Result<VolumeStore, StoreFault> {
+fn image_store<R: Paths>(rt: &R, data: Opened, shape: &Shape) -> Result<VolumeStore, StoreFault>
+    ensures { result ≡ Err StoreFault.Device → (R.refuses rt.now ≡ true) ⊎ HasFewer «data» shape.now }
+{
     match shape.data_blocks {
         Some(blocks) => store_of_first(data, shape.data_block_size, blocks),
-        None => whole_store(data, shape.data_block_size),
+        None => whole_store(rt, data, shape.data_block_size),
     }
 }
 
@@ -226,6 +228,7 @@ fn open_hash<R: Paths + AllocGlobal>(
     ensures one { IfErr result (λ e. e ≡ Failure.Word word.Hash
         → (device : Opened) × R.opens rt.now path.now device × («data» ≡ device.identity)) }
     ensures blames { IfErr result (BlamesAtMost word.Hash) }
+    ensures system { IfErr result (IsS1For (R.refuses rt.now ≡ true)) }
 {
     check_block_size(shape.hash_block_size)?;
     if shape.hash_offset == 0 {
@@ -237,7 +240,10 @@ fn open_hash<R: Paths + AllocGlobal>(
         let hash = open_there(rt, path, Command::Format, Which::Hash)?;
         check_apart(data, hash.identity)?;
         rt.lock(&hash, Command::Format.lock(), Which::Hash)?;
-        Ok((store_of_most(hash, shape.hash_block_size, u64::MAX)?, false))
+        Ok((
+            store_of_most(rt, hash, shape.hash_block_size, u64::MAX)?,
+            false,
+        ))
     }
 }
 
@@ -248,7 +254,9 @@ fn lock_or_unmake<R: Paths + AllocGlobal>(
     path: &str,
     hash: &Opened,
     is_new: bool,
-) -> Result<(), Fault> {
+) -> Result<(), Fault>
+    ensures { IfErr result (IsOfLock (R.refuses rt.now ≡ true) Which.Hash) }
+{
     let taken = rt.lock(hash, Command::Format.lock(), Which::Hash);
     if is_new && matches!(taken, Err(Fault::Store(_))) {
         rt.unmake(rt.alloc(), path);

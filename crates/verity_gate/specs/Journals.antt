@@ -1,8 +1,9 @@
 -- Where a volume's journal stands, what is found there, and whom a call that failed is laid to.
 use Rattle.std.specs.Prelude.{◌≡◌, ◌≢◌, ◌⊎◌, ℕ, Bool, List, [], ◌∷◌, ◌++◌, length, codes, Option, None, Some, IfSome, MatchOption}
-use Rattle.std.specs.Prelude.{is_some, unwrap_or, ⊤}
+use Rattle.std.specs.Prelude.{is_some, unwrap_or}
 use Rattle.std.specs.Borrow.{Bor}
 use Rattle.std.specs.Path.{path_file_name}
+use Rattle.verity_files.specs.Identities.{IsDevice}
 use Rattle.verity_files.specs.declared.opening.Opened.{Opened}
 use Rattle.verity_files.specs.declared.paths.Paths.{Ghosts}
 use Rattle.verity_files.specs.declared.identity.Identity.{Identity}
@@ -18,11 +19,6 @@ use Rattle.verity_journal.specs.declared.disks.DiskFault.TheVariants as disk
 use Rattle.verity_pending.specs.declared.fault.EditFault.TheVariants as edit
 use Rattle.verity_store.specs.declared.fault.StoreFault.TheVariants as store
 use Rattle.verity_store.specs.declared.fault.Which.TheVariants as which
-
--- a block device
-abbrev pub IsDevice : Identity → Type 0
-IsDevice (identity.Device number) = ⊤
-IsDevice (identity.File device number) = ⊥
 
 -- no journal is named, and HASH, as a device, has none beside it; or none is asked for
 abbrev pub IsWithoutJournal : Option (Bor (List ℕ)) → Identity → Type 0
@@ -95,10 +91,6 @@ IsInVolume facts p named hash_path image device = (path : List ℕ) × IsJournal
 -- something was opened at a path
 abbrev pub Stands : {P : Type 0} → Ghosts P → P → List ℕ → Type 0
 Stands facts p path = (opened : Opened) × facts.opens p path opened
-
--- the system refused a call, be it at whatever path, or what stands at this one was opened
-abbrev pub RefusesOrStands : {P : Type 0} → Ghosts P → P → List ℕ → Type 0
-RefusesOrStands facts p path = facts.refuses p ⊎ Stands facts p path
 
 -- what a journal of these bytes makes of two files that have so many bytes
 abbrev pub Starts : (data_len hash_len : ℕ) → List ℕ → Contents → Type 0

@@ -1,5 +1,5 @@
 //! A journal's file, made or found, and the volume that it stands for.
-ghost use Rattle.std.specs.Prelude.{◌≡◌, None, [], length, is_some, IfSome, IfOk, IfErr, OnOk};
+ghost use Rattle.std.specs.Prelude.{◌≡◌, None, [], length, is_some, IfSome, IfOk, IfErr, OnOk, true};
 ghost use Rattle.verity_files.specs.declared.failure.Word.TheVariants as word;
 ghost use Rattle.verity_journal.specs.Journal.{plan_of};
 ghost use Rattle.verity_journal.specs.Tearing.{read_of};
@@ -43,7 +43,7 @@ pub fn recover_files<P: Paths + AllocGlobal>(
         found.is_recovered (⟦<FileDisks<VolumeFile<File>> as Disks>⟧.seen found.keeper.disks))) }
     ensures word { IfErr result (λ e. e ≡ Failure.Word Word.Journal → IsOneOf P.Paths rt.now path.now data.now.identity hash.now.identity) }
     ensures refused { IfErr result (BlamesAtMost word.Journal) }
-    ensures system { IfErr result (IsS1For (P.refuses rt.now)) }
+    ensures system { IfErr result (IsS1For (P.refuses rt.now ≡ true)) }
 {
     let Some(opened) = open_journal(rt, path, Command::Recover)? else {
         return Ok(None);
@@ -103,7 +103,7 @@ pub fn make_journal<P: Paths + AllocGlobal>(
     ensures made { OnOk result (Stands P.Paths rt.now path.now) }
     ensures started { IfOk result (λ keeper. Starts data.now.len hash.now.len []
         (⟦<FileDisks<VolumeFile<File>> as Disks>⟧.seen keeper.disks)) }
-    ensures refused { IfErr result (IsOfJournal (P.refuses rt.now)) }
+    ensures refused { IfErr result (IsOfJournal (P.refuses rt.now ≡ true)) }
 {
     let opened = match rt.open_or_make(rt.alloc(), path) {
         Ok((opened, _)) => regular(Ok(opened))?,
@@ -128,7 +128,7 @@ fn started_anew<P: Paths + AllocGlobal>(
 ) -> Result<FileKeeper, Fault>
     ensures started { IfOk result (λ keeper. Starts data.now.len hash.now.len []
         (⟦<FileDisks<VolumeFile<File>> as Disks>⟧.seen keeper.disks)) }
-    ensures refused { IfErr result (IsOfJournal (P.refuses rt.now)) }
+    ensures refused { IfErr result (IsOfJournal (P.refuses rt.now ≡ true)) }
 {
     if rt.sync_folder(path).is_err() {
         return Err(Fault::Journal);
@@ -156,7 +156,7 @@ fn started<P: Paths + AllocGlobal>(
 ) -> Result<FileKeeper, Fault>
     ensures started { IfOk result (λ keeper. Starts data.now.len hash.now.len bytes.items
         (⟦<FileDisks<VolumeFile<File>> as Disks>⟧.seen keeper.disks)) }
-    ensures refused { IfErr result (IsOfJournal (P.refuses rt.now)) }
+    ensures refused { IfErr result (IsOfJournal (P.refuses rt.now ≡ true)) }
 {
     let on_data = sized(rt, data)?;
     let on_hash = sized(rt, hash)?;
@@ -171,7 +171,7 @@ fn started<P: Paths + AllocGlobal>(
 fn sized<P: Paths>(rt: &P, opened: &Opened) -> Result<(VolumeFile<File>, u64), Fault>
     ensures unknown { IfOk result (λ file. ⟦<VolumeFile<File> as RawFile>⟧.bytes file.0 ≡ None) }
     ensures len { IfOk result (λ file. file.1 ≡ opened.now.len) }
-    ensures refused { IfErr result (IsOfFile (P.refuses rt.now)) }
+    ensures refused { IfErr result (IsOfFile (P.refuses rt.now ≡ true)) }
 {
     let again = rt.again(opened)?;
     let len = again.len;

@@ -1,10 +1,13 @@
 -- Why no hub is made.
-use Rattle.std.proofs.Common.{◌≡◌, ◌⊎◌, inl, inr, ℕ, List, Result, Ok, Err, IfErr, IsErrAnd, subst, sym}
+use Rattle.std.proofs.Common.{◌≡◌, ◌⊎◌, inl, inr, Bool, true, false, ℕ, List, Result, Ok, Err, IfErr, IsErrAnd, subst, sym}
+use Rattle.std.specs.Prelude.{if◌then◌else◌}
 use Rattle.verity_check.specs.Verifier.{IsCacheSize}
 use Rattle.verity_check.specs.declared.fault.CheckFault.{CheckFault}
 use Rattle.verity_check.specs.declared.fault.CheckFault.TheVariants as check
 use Rattle.verity_files.specs.declared.failure.Failure.{Failure}
-use Rattle.verity_files.specs.Faults.{failure_of}
+use Rattle.verity_files.specs.declared.failure.Failure.TheVariants as failure
+use Rattle.verity_files.specs.Errors.{IsS1For}
+use Rattle.verity_files.specs.Faults.{failure_of, is_want}
 use Rattle.verity_files.specs.declared.fault.Fault.TheVariants as fault
 use Rattle.verity_opening.specs.Opening.{OpensNoHub}
 
@@ -20,3 +23,12 @@ pub of_made : {T : Type 0} (r : Result T Failure) (made : Failure) (Said : Failu
     → IfErr r Said
 of_made (Ok x) made Said is said = tt
 of_made (Err e) made Said is said = subst Said (sym is) said
+
+never_s1 : (reason : Type 0) (e : CheckFault) (is_memory : Bool)
+    → IsS1For reason (if is_memory then failure.NoMemory else failure.Refused (fault.Check e))
+never_s1 reason e true = λ at. absurd (cc at)
+never_s1 reason e false = λ at. absurd (cc at)
+
+-- a fault of a verifier isn't S1
+pub of_check : (reason : Type 0) (e : CheckFault) → IsS1For reason (failure_of (fault.Check e))
+of_check reason e = never_s1 reason e (is_want (fault.Check e))

@@ -4,7 +4,7 @@ use Rattle.std.specs.declared.fs.File.{File}
 use Rattle.nbd_session.specs.declared.offer.Offer.{Offer}
 use Rattle.verity_store.specs.declared.raw_file.RawFile as raw
 use Rattle.verity_store.specs.declared.store.BlockStore as store
-use Rattle.verity_superblock.specs.Line.{Line, TableLine, line_refusal}
+use Rattle.verity_superblock.specs.Line.{TableLine, line_refusal}
 use Rattle.verity_check.specs.Verifier.{IsCacheSize, Verifying}
 use Rattle.verity_check.specs.declared.fault.CheckFault.TheVariants as check
 use Rattle.verity_files.specs.VolumeFiles.{LiesIn}
@@ -14,16 +14,11 @@ use Rattle.verity_files.specs.declared.fault.Fault.TheVariants as fault
 use Rattle.verity_files.specs.declared.opening.Opened.{Opened}
 use Rattle.verity_files.specs.declared.paths.Paths.{Ghosts}
 use Rattle.verity_files.specs.declared.volume_file.VolumeFile.{VolumeFile}
-use Rattle.verity_gate.specs.Journals.{RefusesOrStands}
 
 -- a regular file that was opened at a path, or the first blocks of a device, at most so many
 abbrev pub LiesAt : {P : Type 0} → Ghosts P → P → List ℕ → (blocks size : ℕ) → {g : raw.Ghosts File} → VolumeFile File g → Type 0
 LiesAt facts p path blocks size file = (opened : Opened) × facts.opens p path opened
     × LiesIn opened.identity opened.file false opened.len (min blocks (opened.len / size) * size) file
-
--- the same of the data device that a table line names
-abbrev pub RefusesOrStandsUnder : {P : Type 0} → Ghosts P → P → List ℕ → Type 0
-RefusesOrStandsUnder facts p line = (table : TableLine) × Line line table × RefusesOrStands facts p table.dev
 
 -- the files of a volume aren't opened: S1 to S7, or want of memory
 abbrev pub OpensNone : Failure → Type 0

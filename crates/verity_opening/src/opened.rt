@@ -1,11 +1,11 @@
 //! The volume that a table line names, opened to be read.
 
-ghost use Rattle.std.specs.Prelude.{◌≡◌, ◌-◌, ◌^◌, ◌⊎◌, [], Some, IsOk, IfOk, OnOk, IfErr};
+ghost use Rattle.std.specs.Prelude.{◌≡◌, ◌-◌, ◌^◌, ◌⊎◌, [], true, Some, IsOk, IfOk, OnOk, IfErr};
 ghost use Rattle.verity_superblock.specs.Line.{Line, line_refusal};
 ghost use Rattle.verity_check.specs.Verifier.{IsCacheSize};
 ghost use Rattle.verity_files.specs.Errors.{IsS1For};
-ghost use Rattle.verity_gate.specs.Journals.{RefusesOrStands, IsShut};
-ghost use Rattle.verity_opening.specs.Opening.{LiesAt, RefusesOrStandsUnder, IsJustMade, OpensNone, OpensNoHub, offered};
+ghost use Rattle.verity_gate.specs.Journals.{IsShut};
+ghost use Rattle.verity_opening.specs.Opening.{LiesAt, IsJustMade, OpensNone, OpensNoHub, offered};
 
 use nbd_session::ExportName;
 use std::alloc::Global;
@@ -34,13 +34,13 @@ pub fn open_stores<R: Paths + AllocGlobal>(
     ensures data_size { IfOk result (λ stores. ⟦<VolumeStore as BlockStore>⟧.size stores.0 ≡ table.now.data_block_size) }
     ensures hash_size { IfOk result (λ stores. ⟦<VolumeStore as BlockStore>⟧.size stores.1 ≡ table.now.hash_block_size) }
     ensures refused { IfErr result OpensNone }
-    ensures system { IfErr result (IsS1For (RefusesOrStands R.Paths rt.now table.now.dev)) }
+    ensures system { IfErr result (IsS1For (R.refuses rt.now ≡ true)) }
 {
     let data = open_locked(rt, table.dev(), command, Which::Data)?;
     check_gate(rt, table.hash_dev())?;
-    let data_store = store_of_most(data, table.data_block_size(), table.data_blocks())?;
+    let data_store = store_of_most(rt, data, table.data_block_size(), table.data_blocks())?;
     let hash = open_locked(rt, table.hash_dev(), command, Which::Hash)?;
-    let hash_store = store_of_most(hash, table.hash_block_size(), u64::MAX)?;
+    let hash_store = store_of_most(rt, hash, table.hash_block_size(), u64::MAX)?;
     Ok((data_store, hash_store))
 }
 
@@ -64,7 +64,7 @@ pub fn open_hub<R: Paths + AllocGlobal>(
     ensures none { IfOk result (λ hub. (hub.0.next ≡ 0) × (hub.0.sessions ≡ [])) }
     ensures cache { IsOk result → IsCacheSize cache }
     ensures refused { IfErr result (OpensNoHub line.now name.now cache) }
-    ensures system { IfErr result (IsS1For (RefusesOrStandsUnder R.Paths rt.now line.now)) }
+    ensures system { IfErr result (IsS1For (R.refuses rt.now ≡ true)) }
 {
     let table = table_in(rt.alloc(), line)?;
     let name = ExportName::new(name.as_bytes())?;

@@ -4,7 +4,6 @@ ghost use Rattle.std.specs.Prelude.{◌≡◌, true, Ok, IfErr};
 ghost use Rattle.nbd_serve.specs.Lines.{IsServed};
 ghost use Rattle.verity_files.specs.Errors.{IsS1For};
 ghost use Rattle.verity_gate.specs.Refusals.{BlamesNone};
-ghost use Rattle.verity_opening.specs.Opening.{RefusesOrStandsUnder};
 ghost use Rattle.verity_serving.specs.Blamed.{ServeBlames};
 ghost use Rattle.verity_serving.specs.Printed.{IsServedAsAsked};
 ghost use Rattle.verity_files.specs.declared.failure.Word.{Word};
@@ -44,7 +43,7 @@ pub fn serve<
     ensures done { result ≡ Ok 0
         → IsServedAsAsked words.now.sessions.now (W.contents output.old) (W.contents output.new) }
     ensures blames { IfErr result (ServeBlames words.now) }
-    ensures system { IfErr result (IsS1For (RefusesOrStandsUnder R.Paths rt.now words.now.table.now)) }
+    ensures system { IfErr result (IsS1For (R.refuses rt.now ≡ true)) }
 {
     let cache = number(Word::Cache, words.cache)? as usize;
     let count = sessions(words.sessions)?;
@@ -70,7 +69,7 @@ fn serve_over<
 ) -> Result<u8, Failure>
     ensures done { result ≡ Ok 0 → IsServed (W.contents output.old) (W.contents output.new) count true }
     ensures blames { IfErr result BlamesNone }
-    ensures system { IfErr result (IsS1For (RefusesOrStandsUnder R.Paths rt.now words.now.table.now)) }
+    ensures system { IfErr result (IsS1For (R.refuses rt.now ≡ true)) }
 {
     let mut hub = open_hub(rt, words.table, words.name, cache, Command::Serve)?;
     listen(rt, &mut hub, words.listen, limits, count, output)

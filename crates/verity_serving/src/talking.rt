@@ -1,8 +1,7 @@
 //! The command `talk`: serves a volume to one NBD client, over standard input and output.
 
-ghost use Rattle.std.specs.Prelude.{◌≡◌, ◌↔◌, Err, IfOk, IfErr};
+ghost use Rattle.std.specs.Prelude.{◌≡◌, true, ◌↔◌, Err, IfOk, IfErr};
 ghost use Rattle.verity_files.specs.Errors.{IsS1For};
-ghost use Rattle.verity_opening.specs.Opening.{RefusesOrStandsUnder};
 ghost use Rattle.verity_serving.specs.Blamed.{TalkBlames};
 ghost use Rattle.verity_serving.specs.Serving.{IsTalked, status_of_session};
 
@@ -34,7 +33,7 @@ pub fn talk<R: Paths + AllocGlobal, I: Read, W: Write>(
           writer' = W.contents output.new;
         }) ended) }
     ensures blames { IfErr result (TalkBlames words.now) }
-    ensures system { IfErr result (IsS1For (RefusesOrStandsUnder R.Paths rt.now words.now.table.now)) }
+    ensures system { IfErr result (IsS1For (R.refuses rt.now ≡ true)) }
 {
     let cache = number(Word::Cache, words.cache)? as usize;
     let mut hub = open_hub(rt, words.table, words.name, cache, Command::Talk)?;

@@ -1,11 +1,10 @@
 //! The command `verify`: reports what is wrong in a volume.
 
-ghost use Rattle.std.specs.Prelude.{◌≡◌, ◌↔◌, [], OnOk, IfOk, IfErr};
+ghost use Rattle.std.specs.Prelude.{◌≡◌, true, ◌↔◌, [], OnOk, IfOk, IfErr};
 ghost use Rattle.std.specs.Io.KnownBytes.{Appends};
 ghost use Rattle.verity_volume.specs.Lines.{IsOfOutput};
 ghost use Rattle.verity_files.specs.Errors.{IsS1For};
 ghost use Rattle.verity_gate.specs.Refusals.{BlamesNone};
-ghost use Rattle.verity_opening.specs.Opening.{RefusesOrStandsUnder};
 ghost use Rattle.verity_serving.specs.Printed.{place_line, report_lines, IsReported};
 
 use std::alloc::Global;
@@ -33,7 +32,7 @@ pub fn verify<R: Paths + Clock + Eprint + AllocGlobal, W: Write, E: IsTerminal>(
 ) -> Result<u8, Failure>
     ensures reported { IfOk result (λ status. IsReported status (W.contents output.old) (W.contents output.new)) }
     ensures blames { IfErr result BlamesNone }
-    ensures system { IfErr result (IsS1For (RefusesOrStandsUnder R.Paths rt.now words.now.table.now)) }
+    ensures system { IfErr result (IsS1For (R.refuses rt.now ≡ true)) }
 {
     let report = report_of(rt, words, errors)?;
     print_report(&report, output)
@@ -45,7 +44,7 @@ fn report_of<R: Paths + Clock + Eprint + AllocGlobal, E: IsTerminal>(
     errors: &E,
 ) -> Result<Report, Failure>
     ensures blames { IfErr result BlamesNone }
-    ensures system { IfErr result (IsS1For (RefusesOrStandsUnder R.Paths rt.now words.now.table.now)) }
+    ensures system { IfErr result (IsS1For (R.refuses rt.now ≡ true)) }
 {
     let table = Table::parse(rt.alloc(), words.table)?;
     let (data_store, hash_store) = open_stores(rt, &table, Command::Verify)?;
@@ -67,7 +66,8 @@ fn checked<D: BlockStore + Drop, H: BlockStore + Drop>(
     data_store: D,
     hash_store: H,
 ) -> Result<Report, Failure>
-    ensures { IfErr result BlamesNone }
+    ensures blames { IfErr result BlamesNone }
+    ensures system { IfErr result (IsS1For ⊥) }
 {
     let mut verifier = Verifier::new(alloc, table, data_store, hash_store, CACHE)?;
     Ok(verifier.report()?)

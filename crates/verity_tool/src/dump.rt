@@ -1,8 +1,7 @@
 //! The command `dump`: prints the superblock of a hash device.
 
-ghost use Rattle.std.specs.Prelude.{OnOk, IfErr};
+ghost use Rattle.std.specs.Prelude.{◌≡◌, true, OnOk, IfErr};
 ghost use Rattle.verity_files.specs.Errors.{IsS1For};
-ghost use Rattle.verity_gate.specs.Journals.{RefusesOrStands};
 ghost use Rattle.verity_tool.specs.Blamed.{DumpBlames};
 ghost use Rattle.verity_tool.specs.Printed.{IsDumped};
 
@@ -20,10 +19,10 @@ pub fn dump<R: Paths + AllocGlobal, W: Write>(
 ) -> Result<(), Failure>
     ensures printed { OnOk result (IsDumped words.now.hash_offset.now (W.contents output.old) (W.contents output.new)) }
     ensures blames { IfErr result (DumpBlames words.now) }
-    ensures system { IfErr result (IsS1For (RefusesOrStands R.Paths rt.now words.now.hash_path.now)) }
+    ensures system { IfErr result (IsS1For (R.refuses rt.now ≡ true)) }
 {
     let offset = number(Word::HashOffset, words.hash_offset)?;
     let hash = open_locked(rt, words.hash_path, Command::Dump, Which::Hash)?;
-    let (superblock, start) = read_superblock(rt.alloc(), hash, offset)?;
+    let (superblock, start) = read_superblock(rt, hash, offset)?;
     print_superblock(rt.alloc(), &superblock, start, output)
 }

@@ -1,12 +1,13 @@
 //! The command `recover`: makes whole a commit that a stop cut short.
 
-ghost use Rattle.std.specs.Prelude.{◌≡◌, ◌⊎◌, OnOk, IfErr, codes};
+ghost use Rattle.std.specs.Prelude.{◌≡◌, ◌⊎◌, true, OnOk, IfErr, codes};
 ghost use Rattle.std.specs.Io.KnownBytes.{Appends};
 ghost use Rattle.verity_files.specs.Faults.{line};
 ghost use Rattle.verity_files.specs.Errors.{IsS1For};
 ghost use Rattle.verity_files.specs.declared.failure.Word.TheVariants as word;
-ghost use Rattle.verity_gate.specs.Journals.{IsOneOf, RefusesOrStands};
-ghost use Rattle.verity_gate.specs.Refusals.{BlamesAtMost, BlamesNone};
+ghost use Rattle.verity_gate.specs.Journals.{IsOneOf};
+ghost use Rattle.verity_gate.specs.Refusals.{BlamesAtMost};
+ghost use Rattle.verity_volume.specs.Lines.{IsOfOutput};
 ghost use Rattle.verity_tool.specs.Blamed.{RecoverBlames};
 
 use std::io::Write;
@@ -25,7 +26,7 @@ pub fn recover<R: Paths + AllocGlobal, W: Write>(
     ensures printed { OnOk result (Appends (W.contents output.old) (W.contents output.new) (line (codes "recovered"))
         ⊎ Appends (W.contents output.old) (W.contents output.new) (line (codes "nothing to recover"))) }
     ensures blames { IfErr result (RecoverBlames R.Paths rt.now words.now) }
-    ensures system { IfErr result (IsS1For (RefusesOrStands R.Paths rt.now words.now.hash_path.now)) }
+    ensures system { IfErr result (IsS1For (R.refuses rt.now ≡ true)) }
 {
     check_paths(words.data_path, words.hash_path)?;
     let (data, hash) = open_both(rt, words.data_path, words.hash_path, Command::Recover)?;
@@ -50,6 +51,7 @@ fn make_whole<R: Paths + AllocGlobal>(
     ensures word { IfErr result (λ e. e ≡ Failure.Word word.Journal
         → IsOneOf R.Paths rt.now path.now data.now.identity hash.now.identity) }
     ensures refused { IfErr result (BlamesAtMost word.Journal) }
+    ensures system { IfErr result (IsS1For (R.refuses rt.now ≡ true)) }
 {
     let Some(found) = recover_files(rt, path, data, hash, names)? else {
         return Ok(false);
@@ -62,7 +64,7 @@ fn make_whole<R: Paths + AllocGlobal>(
 fn print_recovered<W: Write>(is_recovered: bool, output: &mut W) -> Result<(), Failure>
     ensures printed { OnOk result (Appends (W.contents output.old) (W.contents output.new) (line (codes "recovered"))
         ⊎ Appends (W.contents output.old) (W.contents output.new) (line (codes "nothing to recover"))) }
-    ensures refused { IfErr result BlamesNone }
+    ensures refused { IfErr result IsOfOutput }
 {
     if is_recovered {
         writeln!(output, "recovered")?;

@@ -1,5 +1,5 @@
 //! How the commits of an editor reach a volume's files.
-ghost use Rattle.std.specs.Prelude.{◌≡◌, ◌⊎◌, Bool, IfOk, IfErr, false};
+ghost use Rattle.std.specs.Prelude.{◌≡◌, ◌⊎◌, Bool, IfOk, IfErr, false, true};
 ghost use Rattle.verity_files.specs.Errors.{IsOfSystem};
 
 use crate::edits::Edits;
@@ -18,9 +18,13 @@ pub trait Commits<V: Edits> {
     /// An editor and what stands for it in a commit.
     ghost stands_for: { V → V → Type 0 };
 
-    /// Commits, and brings what was committed to the files. The editor comes back.
+    /// The system refused a call.
+    ghost refuses: { Self → Bool };
+
+    /// Commits, and brings what was committed to the files. The editor comes back. S1 only where the system refused a call.
     fn commit(&mut self, editor: V) -> (V, Result<Committed, Fault>)
-        ensures { IfOk result.1 (λ committed. (begun : V) × stands_for editor begun × V.commits begun result.0 committed) };
+        ensures done { IfOk result.1 (λ committed. (begun : V) × stands_for editor begun × V.commits begun result.0 committed) }
+        ensures system { IfErr result.1 (λ fault. fault ≡ Fault.Store StoreFault.Device → refuses self.old ≡ true) };
 
     /// Whether no commit is made any more, though the editor isn't broken.
     fn is_broken(&self) -> bool
@@ -37,6 +41,8 @@ impl<V: Edits> Commits<V> for Direct {
     ghost stopped = { λ _. false };
 
     ghost stands_for = { λ editor begun. begun ≡ editor };
+
+    ghost refuses = { λ _. false };
 
     fn commit(&mut self, editor: V) -> (V, Result<Committed, Fault>) {
         match editor.commit() {
@@ -78,6 +84,7 @@ impl<'a, P: Paths + AllocGlobal> Journalled<'a, P> {
         ensures names { result.names ≡ names.entry }
         ensures path { result.path ≡ path.entry }
         ensures keeper { result.keeper ≡ keeper }
+        ensures rt { result.rt.now ≡ rt.now }
         ensures staged { result.is_staged ≡ false }
         ensures stopped { result.is_broken ≡ false }
     {
@@ -97,7 +104,7 @@ impl<'a, P: Paths + AllocGlobal> Journalled<'a, P> {
     pub fn files(&self) -> Result<(Opened, Opened), StoreFault>
         ensures data_device { IfOk result (λ both. (both.0.identity ≡ self.now.«data».identity) × (both.0.len ≡ self.now.«data».len)) }
         ensures hash_device { IfOk result (λ both. (both.1.identity ≡ self.now.hash.identity) × (both.1.len ≡ self.now.hash.len)) }
-        ensures refused { IfErr result (IsOfSystem (P.refuses self.now.rt.now)) }
+        ensures refused { IfErr result (IsOfSystem (P.refuses self.now.rt.now ≡ true)) }
     {
         Ok((self.rt.again(&self.data)?, self.rt.again(&self.hash)?))
     }
@@ -111,11 +118,12 @@ impl<'a, P: Paths + AllocGlobal> Journalled<'a, P> {
 
     /// Makes ready for a commit: nothing is staged, and there is a journal.
     fn begin<V: StagedEdits>(&mut self, editor: &mut V) -> Result<(), Fault>
-        ensures { (editor.new ≡ editor.old) ⊎ V.restaged editor.old editor.new }
+        ensures stands { (editor.new ≡ editor.old) ⊎ V.restaged editor.old editor.new }
+        ensures system { IfErr result (λ fault. fault ≡ Fault.Store StoreFault.Device → P.refuses self.old.rt.now ≡ true) }
     {
         if self.is_staged {
             let (data, hash) = self.files()?;
-            editor.restage(self.rt.alloc(), data, hash)?;
+            editor.restage(self.rt, self.rt.alloc(), data, hash)?;
             self.is_staged = false;
         }
         if self.keeper.is_none() {
@@ -131,6 +139,8 @@ impl<'a, P: Paths + AllocGlobal, V: StagedEdits> Commits<V> for Journalled<'a, P
     ghost stopped = { λ c. c.is_broken };
 
     ghost stands_for = { λ editor begun. (begun ≡ editor) ⊎ V.restaged editor begun };
+
+    ghost refuses = { λ c. P.refuses c.rt.now };
 
     fn commit(&mut self, editor: V) -> (V, Result<Committed, Fault>) {
         let mut editor = editor;

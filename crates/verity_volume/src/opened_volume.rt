@@ -1,8 +1,8 @@
 //! A volume's files, opened to be edited.
-ghost use Rattle.std.specs.Prelude.{◌≡◌, ◌≢◌, ◌-◌, ◌*◌, ◌/◌, ◌^◌, false, min, None, Ok, Err};
+ghost use Rattle.std.specs.Prelude.{◌≡◌, ◌≢◌, ◌⊎◌, ◌-◌, ◌*◌, ◌/◌, ◌^◌, false, min, None, Ok, Err, true};
 ghost use Rattle.std.specs.Prelude.{IfSome, IfOk, IfErr, IsErr, MatchOption};
 ghost use Rattle.verity_files.specs.Commands.{lock_of, writes};
-ghost use Rattle.verity_files.specs.Errors.{IsS1For};
+ghost use Rattle.verity_files.specs.Errors.{IsOfSystem, IsS1For};
 ghost use Rattle.verity_files.specs.Misread.{IsMisread};
 ghost use Rattle.verity_files.specs.VolumeFiles.{LiesIn, room_in};
 ghost use Rattle.verity_files.specs.Words.{number_in};
@@ -56,9 +56,10 @@ pub fn open_both<P: Paths>(
     ensures hash_permitted { IfOk result (λ both. P.permits rt.now both.1 (writes command which.Hash)) }
     ensures data_locked { IfOk result (λ both. IfOk both.0 (λ opened. P.locks rt.now opened (lock_of command))) }
     ensures hash_locked { IfOk result (λ both. P.locks rt.now both.1 (lock_of command)) }
+    ensures missing { IfOk result (λ both. IfErr both.0 (IsOfSystem (P.refuses rt.now ≡ true))) }
     ensures one { IfErr result (λ e. e ≡ Failure.Word word.Hash → IsOneFile P.Paths rt.now data_path.now hash_path.now) }
     ensures refused { IfErr result (BlamesAtMost word.Hash) }
-    ensures system { IfErr result (IsS1For (P.refuses rt.now)) }
+    ensures system { IfErr result (IsS1For (P.refuses rt.now ≡ true)) }
 {
     let hash = open_there(rt, hash_path, command, Which::Hash)?;
     let data = open_there(rt, data_path, command, Which::Data);
@@ -112,10 +113,11 @@ pub fn open_volume<P: Paths + AllocGlobal>(
     ensures again { IfOk result (λ volume. (volume.again.identity ≡ hash.identity) × (volume.again.len ≡ hash.len)) }
     ensures missing { IsErr «data» → IsErr result }
     ensures refused { IfErr result BlamesNone }
+    ensures system { IfErr result (IsS1For ((P.refuses rt.now ≡ true) ⊎ («data» ≡ Err StoreFault.Device))) }
 {
     let again = rt.again(&hash)?;
     let sizes = sizes_of(rt, line, &hash, offset)?;
-    let (data_store, hash_store, sizes) = open_stores(data, hash, sizes)?;
+    let (data_store, hash_store, sizes) = open_stores(rt, data, hash, sizes)?;
     Ok(OpenedVolume {
         data_store,
         hash_store,
@@ -134,6 +136,7 @@ fn sizes_of<P: Paths + AllocGlobal>(
     ensures sizes { IfOk result (AreSizes line.now offset) }
     ensures hash_room { IfOk result (λ sizes. sizes.hash_room ≡ room_in hash.now.identity hash.now.len sizes.hash_block_size) }
     ensures refused { IfErr result BlamesNone }
+    ensures system { IfErr result (IsS1For (P.refuses rt.now ≡ true)) }
 {
     match line {
         Some(table) => Ok(Sizes {
@@ -153,8 +156,9 @@ fn read_sizes<P: Paths + AllocGlobal>(rt: &P, hash: &Opened, offset: u64) -> Res
     ensures sizes { IfOk result (AreAt offset) }
     ensures hash_room { IfOk result (λ sizes. sizes.hash_room ≡ room_in hash.now.identity hash.now.len sizes.hash_block_size) }
     ensures refused { IfErr result BlamesNone }
+    ensures system { IfErr result (IsS1For (P.refuses rt.now ≡ true)) }
 {
-    match read_superblock(rt.alloc(), rt.again(hash)?, offset) {
+    match read_superblock(rt, rt.again(hash)?, offset) {
         Ok((superblock, hash_start_block)) => Ok(Sizes {
             data_block_size: superblock.data_block_size(),
             hash_block_size: superblock.hash_block_size(),
@@ -168,7 +172,9 @@ fn read_sizes<P: Paths + AllocGlobal>(rt: &P, hash: &Opened, offset: u64) -> Res
 }
 
 /// E12 where no superblock can stand at the offset, E9 where there is none.
-fn not_a_volume(fault: Fault) -> Fault {
+fn not_a_volume(fault: Fault) -> Fault
+    ensures { result ≡ Fault.Store StoreFault.Device → fault ≡ Fault.Store StoreFault.Device }
+{
     match fault {
         Fault::Superblock(SuperFault::Offset) => Fault::Edit(EditFault::Offset),
         Fault::Superblock(fault) => Fault::Edit(EditFault::Superblock(fault)),
@@ -177,7 +183,8 @@ fn not_a_volume(fault: Fault) -> Fault {
 }
 
 /// The stores of a volume of these sizes, and what they were opened with.
-fn open_stores(
+fn open_stores<P: Paths>(
+    rt: &P,
     data: Result<Opened, StoreFault>,
     hash: Opened,
     sizes: Sizes,
@@ -193,11 +200,12 @@ fn open_stores(
     ensures hash_size { IfOk result (λ stores. ⟦<VolumeStore as BlockStore>⟧.size stores.1 ≡ sizes.hash_block_size) }
     ensures missing { IsErr «data» → IsErr result }
     ensures refused { IfErr result BlamesNone }
+    ensures system { IfErr result (IsS1For ((P.refuses rt.now ≡ true) ⊎ («data» ≡ Err StoreFault.Device))) }
 {
     let mut sizes = sizes;
     let data = data?;
     sizes.data_room = room_of(&data, sizes.data_block_size);
-    let data_store = store_of_most(data, sizes.data_block_size, sizes.data_blocks)?;
-    let hash_store = store_of_most(hash, sizes.hash_block_size, u64::MAX)?;
+    let data_store = store_of_most(rt, data, sizes.data_block_size, sizes.data_blocks)?;
+    let hash_store = store_of_most(rt, hash, sizes.hash_block_size, u64::MAX)?;
     Ok((data_store, hash_store, sizes))
 }

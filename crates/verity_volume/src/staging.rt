@@ -1,12 +1,12 @@
 //! The editors whose commits go through a journal: over stores whose changes are kept beside a volume's files until then.
-ghost use Rattle.std.specs.Prelude.{◌≡◌, Bool, false, length, IfOk, IfErr, OnErr, OnOk};
+ghost use Rattle.std.specs.Prelude.{◌≡◌, Bool, false, true, length, IfOk, IfErr, OnErr, OnOk};
 ghost use Rattle.verity_volume.specs.Refusals.{IsOfStore, IsOfStores};
 
 use crate::edits::Edits;
 use std::alloc::Global;
 use verity_commit::{CommitFault, commit_editor, commit_line_editor};
 use verity_edit::{Committed, EditFault, Editor};
-use verity_files::{Fault, Opened, VolumeStore, store_of_most};
+use verity_files::{Fault, Opened, Paths, VolumeStore, store_of_most};
 use verity_gate::FileKeeper;
 use verity_line::LineEditor;
 use verity_stage::{Staged, StagedStore};
@@ -16,24 +16,37 @@ use verity_watch::{Meter, Watched};
 /// A store over one of a volume's files.
 pub trait OverFile: BlockStore + Drop {
     /// A store over a file as it stands, of whose bytes nothing is known, or over the first blocks of a device, at most so many.
-    fn over_file(opened: Opened, size: usize, blocks: u64) -> Result<Self, StoreFault>
-        ensures unknown { IfOk result (λ s. Self.tells s ≡ false) };
+    /// S1 only where the system refused a call.
+    fn over_file<P: Paths>(
+        rt: &P,
+        opened: Opened,
+        size: usize,
+        blocks: u64,
+    ) -> Result<Self, StoreFault>
+        ensures unknown { IfOk result (λ s. Self.tells s ≡ false) }
+        ensures system { IfErr result (λ fault. fault ≡ StoreFault.Device → P.refuses rt.now ≡ true) };
 }
 
 impl OverFile for VolumeStore {
-    fn over_file(opened: Opened, size: usize, blocks: u64) -> Result<VolumeStore, StoreFault> {
-        store_of_most(opened, size, blocks)
+    fn over_file<P: Paths>(
+        rt: &P,
+        opened: Opened,
+        size: usize,
+        blocks: u64,
+    ) -> Result<VolumeStore, StoreFault> {
+        store_of_most(rt, opened, size, blocks)
     }
 }
 
 /// Nobody watches it any more.
 impl<'a, M: Meter> OverFile for Watched<'a, VolumeStore, M> {
-    fn over_file(
+    fn over_file<P: Paths>(
+        rt: &P,
         opened: Opened,
         size: usize,
         blocks: u64,
     ) -> Result<Watched<'a, VolumeStore, M>, StoreFault> {
-        let store = store_of_most(opened, size, blocks)?;
+        let store = store_of_most(rt, opened, size, blocks)?;
         Ok(Watched::new(store, None))
     }
 }
@@ -41,20 +54,32 @@ impl<'a, M: Meter> OverFile for Watched<'a, VolumeStore, M> {
 /// A staged store over one of a volume's files.
 pub trait StagedFile: StagedStore<Global> + Drop {
     /// A store with nothing staged over a file that holds by now what this store does. E6 of this store where it hasn't its length, or
-    /// for want of memory.
-    fn restaged(&self, alloc: Global, opened: Opened, which: Which) -> Result<Self, Fault>
+    /// for want of memory; S1 only where the system refused a call.
+    fn restaged<P: Paths>(
+        &self,
+        rt: &P,
+        alloc: Global,
+        opened: Opened,
+        which: Which,
+    ) -> Result<Self, Fault>
         ensures size { IfOk result (λ s. Self.size s ≡ Self.size self.now) }
         ensures len { IfOk result (λ s. length (Self.content s) ≡ length (Self.content self.now)) }
         ensures unknown { IfOk result (λ s. Self.tells s ≡ false) }
         ensures starved { IfOk result (λ s. Self.starved s ≡ false) }
-        ensures refused { IfErr result (IsOfStore which) };
+        ensures refused { IfErr result (IsOfStore (P.refuses rt.now ≡ true) which) };
 }
 
 impl<S: OverFile> StagedFile for Staged<S> {
-    fn restaged(&self, alloc: Global, opened: Opened, which: Which) -> Result<Staged<S>, Fault> {
+    fn restaged<P: Paths>(
+        &self,
+        rt: &P,
+        alloc: Global,
+        opened: Opened,
+        which: Which,
+    ) -> Result<Staged<S>, Fault> {
         let size = self.block_size();
         let blocks = self.len();
-        let store = S::over_file(opened, size, blocks)?;
+        let store = S::over_file(rt, opened, size, blocks)?;
         match Staged::new(alloc, store) {
             Ok(staged) if staged.len() == blocks && staged.block_size() == size => Ok(staged),
             _ => Err(Fault::Edit(EditFault::Store(which))),
@@ -70,12 +95,19 @@ pub trait StagedEdits: Edits {
     /// The same editor over two other stores.
     ghost restaged: { Self → Self → Type 0 };
 
-    /// Goes on over files that hold by now what its stores do, with nothing staged. E6 where one hasn't its store's length.
-    fn restage(&mut self, alloc: Global, data: Opened, hash: Opened) -> Result<(), Fault>
+    /// Goes on over files that hold by now what its stores do, with nothing staged. E6 where one hasn't its store's length; S1 only
+    /// where the system refused a call.
+    fn restage<P: Paths>(
+        &mut self,
+        rt: &P,
+        alloc: Global,
+        data: Opened,
+        hash: Opened,
+    ) -> Result<(), Fault>
         ensures same { OnOk result (restaged self.old self.new) }
         ensures unchanged { OnErr result (self.new ≡ self.old) }
         ensures fresh { OnOk result (starved self.new ≡ false) }
-        ensures refused { IfErr result IsOfStores };
+        ensures refused { IfErr result (IsOfStores (P.refuses rt.now ≡ true)) };
 
     /// Commits, and brings what is staged through a journal, which has these names of the files, to them. The editor comes back.
     fn commit_through(
@@ -98,10 +130,16 @@ impl<D: StagedFile, H: StagedFile> StagedEdits for Editor<D, H> {
 
     ghost restaged = { λ old new. new ≡ record old { data_store = new.data_store; hash_store = new.hash_store } };
 
-    fn restage(&mut self, alloc: Global, data: Opened, hash: Opened) -> Result<(), Fault> {
+    fn restage<P: Paths>(
+        &mut self,
+        rt: &P,
+        alloc: Global,
+        data: Opened,
+        hash: Opened,
+    ) -> Result<(), Fault> {
         let (old_data, old_hash) = stores_of(self);
-        let data = old_data.restaged(alloc, data, Which::Data)?;
-        let hash = old_hash.restaged(alloc, hash, Which::Hash)?;
+        let data = old_data.restaged(rt, alloc, data, Which::Data)?;
+        let hash = old_hash.restaged(rt, alloc, hash, Which::Hash)?;
         let _old = self.change_stores(data, hash);
         Ok(())
     }
@@ -130,10 +168,16 @@ impl<D: StagedFile, H: StagedFile> StagedEdits for LineEditor<D, H> {
 
     ghost restaged = { λ old new. new ≡ record old { data_store = new.data_store; hash_store = new.hash_store } };
 
-    fn restage(&mut self, alloc: Global, data: Opened, hash: Opened) -> Result<(), Fault> {
+    fn restage<P: Paths>(
+        &mut self,
+        rt: &P,
+        alloc: Global,
+        data: Opened,
+        hash: Opened,
+    ) -> Result<(), Fault> {
         let (old_data, old_hash) = stores_under(self);
-        let data = old_data.restaged(alloc, data, Which::Data)?;
-        let hash = old_hash.restaged(alloc, hash, Which::Hash)?;
+        let data = old_data.restaged(rt, alloc, data, Which::Data)?;
+        let hash = old_hash.restaged(rt, alloc, hash, Which::Hash)?;
         let _old = self.change_stores(data, hash);
         Ok(())
     }

@@ -18,10 +18,10 @@ pub fn is_watched(is_quiet: bool, is_terminal: bool) -> bool
 }
 
 /// A meter of the bytes of a store that is read whole, where someone looks on.
-pub fn progress_of<'a, R: Clock + Eprint + AllocGlobal>(
+pub fn progress_of<'a, R: Clock + Eprint + AllocGlobal, S: BlockStore>(
     rt: &'a R,
     is_watched: bool,
-    store: &VolumeStore,
+    store: &S,
 ) -> Option<Progress<'a, R>>
     ensures unwatched { is_watched ≡ false → result ≡ None }
     ensures watched { is_watched ≡ true → result ≢ None }

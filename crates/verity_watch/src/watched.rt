@@ -34,6 +34,13 @@ impl<'a, S: BlockStore, M: Meter> Watched<'a, S, M> {
         Watched { store, meter }
     }
 
+    /// The store below.
+    pub fn store(&self) -> &S
+        ensures { result.now ≡ self.now }
+    {
+        &self.store
+    }
+
     /// Tells the meter.
     fn tell(&self, bytes: usize) {
         if let Some(meter) = self.meter {

@@ -1,9 +1,9 @@
 //! A volume, opened to be edited, and its journal.
-ghost use Rattle.std.specs.Prelude.{◌≡◌, Ok, IfSome, IfOk, IfErr, OnOk, string_bytes};
+ghost use Rattle.std.specs.Prelude.{◌≡◌, true, Ok, IfSome, IfOk, IfErr, OnOk, string_bytes};
 ghost use Rattle.verity_files.specs.declared.failure.Word.TheVariants as word;
 ghost use Rattle.verity_files.specs.declared.opening.Opened.{Opened};
-ghost use Rattle.verity_files.specs.Errors.{IsS1For};
-ghost use Rattle.verity_gate.specs.Journals.{RefusesOrStands, IsJournalPath, IsOneOf};
+ghost use Rattle.verity_files.specs.Errors.{IsOfSystem, IsS1For};
+ghost use Rattle.verity_gate.specs.Journals.{IsJournalPath, IsOneOf};
 ghost use Rattle.verity_gate.specs.Refusals.{BlamesNone, BlamesAtMost};
 ghost use Rattle.verity_work.specs.Work.{BlamesOver, BlamesOwn, IsDoneAt, IsReasonAt, PrintsAsBefore};
 
@@ -30,7 +30,7 @@ pub fn do_over<R: Paths + Clock + Eprint + AllocGlobal, T: Work, W: Write, E: Wr
         (W.contents output.old) (W.contents output.new) status) }
     ensures blames { IfErr result (BlamesOver R.Paths rt.now words.now T.blamed (IsReasonAt (T.reason work.old (R.opens rt.now))
         (R.opens rt.now) words.now.data_path.now words.now.hash_path.now)) }
-    ensures system { IfErr result (IsS1For (RefusesOrStands R.Paths rt.now words.now.hash_path.now)) }
+    ensures system { IfErr result (IsS1For (R.refuses rt.now ≡ true)) }
 {
     let line = match words.table {
         Some(text) => Some(Table::parse(rt.alloc(), text)?),
@@ -64,6 +64,7 @@ fn begin<R: Paths + AllocGlobal, T: Work>(
     ensures prints { PrintsAsBefore T.prints work.old work.new }
     ensures blames { IfErr result (BlamesOwn T.blamed (IsReasonAt (T.reason work.old (R.opens rt.now)) (R.opens rt.now)
         words.now.data_path.now words.now.hash_path.now)) }
+    ensures system { IfErr result (IsS1For (R.refuses rt.now ≡ true)) }
 {
     match data {
         Ok(image) => work.begin(rt, Some(image), hash),
@@ -80,6 +81,7 @@ fn journal_of<R: Paths + AllocGlobal>(
     ensures path { IfOk result (λ path. IfSome path (λ path. IsJournalPath R.Paths rt.now words.now.journal words.now.hash_path.now
         (string_bytes path))) }
     ensures refused { IfErr result BlamesNone }
+    ensures system { IfErr result (IsS1For ⊥) }
 {
     if let Some(named) = words.journal {
         check_other_gate(rt, words.hash_path, named)?;
@@ -97,12 +99,14 @@ fn do_through<R: Paths + Clock + Eprint + AllocGlobal, T: Work, W: Write, E: Wri
     output: &mut W,
     errors: &mut E,
 ) -> Result<u8, Failure>
-    requires { T.begun work.old }
+    requires ready { T.begun work.old }
+    requires missing { IfErr given.«data» (IsOfSystem (R.refuses rt.now ≡ true)) }
     ensures done { IfOk result (λ status. IsDoneAt (T.prints work.old (R.text rt.now)) words.now.data_path.now words.now.hash_path.now
         (W.contents output.old) (W.contents output.new) status) }
     ensures word { IfErr result (λ e. e ≡ Failure.Word word.Journal → (image : Opened) × (given.«data» ≡ Ok image)
         × IsOneOf R.Paths rt.now path.now image.identity given.hash.identity) }
     ensures refused { IfErr result (BlamesAtMost word.Journal) }
+    ensures system { IfErr result (IsS1For (R.refuses rt.now ≡ true)) }
 {
     let Given { line, data, hash } = given;
     let Ok(data) = data else {
@@ -125,9 +129,11 @@ fn journalled<'a, R: Paths + AllocGlobal, E: Write>(
     hash: &Opened,
     errors: &mut E,
 ) -> Result<Journalled<'a, R>, Failure>
+    ensures rt { IfOk result (λ commits. commits.rt.now ≡ rt.now) }
     ensures word { IfErr result (λ e. e ≡ Failure.Word word.Journal
         → IsOneOf R.Paths rt.now path.now data.now.identity hash.now.identity) }
     ensures refused { IfErr result (BlamesAtMost word.Journal) }
+    ensures system { IfErr result (IsS1For (R.refuses rt.now ≡ true)) }
 {
     let keeper = make_whole(rt, words, path, data, hash, names, errors)?;
     let data = rt.seen_again(data)?;
@@ -148,6 +154,7 @@ fn make_whole<R: Paths + AllocGlobal, E: Write>(
     ensures word { IfErr result (λ e. e ≡ Failure.Word word.Journal
         → IsOneOf R.Paths rt.now path.now data.now.identity hash.now.identity) }
     ensures refused { IfErr result (BlamesAtMost word.Journal) }
+    ensures system { IfErr result (IsS1For (R.refuses rt.now ≡ true)) }
 {
     let Some(found) = recover_files(rt, path, data, hash, names)? else {
         return Ok(None);

@@ -1,5 +1,6 @@
 //! A work over an editor, of the volume whole or under a table line.
-ghost use Rattle.std.specs.Prelude.{◌≡◌, IfOk, IfErr};
+ghost use Rattle.std.specs.Prelude.{◌≡◌, true, IfOk, IfErr};
+ghost use Rattle.verity_files.specs.Errors.{IsS1For};
 ghost use Rattle.verity_gate.specs.Refusals.{BlamesNone};
 
 use crate::rest::Rest;
@@ -34,6 +35,7 @@ pub(crate) fn run_direct<
     ensures done { IfOk result (λ status. T.prints work.old (R.text rt.now) rest.entry.devices
         (W.contents output.old) (W.contents output.new) status) }
     ensures blames { IfErr result BlamesNone }
+    ensures system { IfErr result (IsS1For (R.refuses rt.now ≡ true)) }
 {
     match opened {
         Ok(editor) => work.run(
@@ -65,10 +67,12 @@ pub(crate) fn run_journalled<
     output: &mut W,
     errors: &mut E,
 ) -> Result<u8, Failure>
-    requires { T.seen work.old }
+    requires ready { T.seen work.old }
+    requires same { commits.old.rt.now ≡ rt.now }
     ensures done { IfOk result (λ status. T.prints work.old (R.text rt.now) rest.entry.devices
         (W.contents output.old) (W.contents output.new) status) }
     ensures blames { IfErr result BlamesNone }
+    ensures system { IfErr result (IsS1For (R.refuses rt.now ≡ true)) }
 {
     match opened {
         Ok(editor) => work.run(

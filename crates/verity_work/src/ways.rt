@@ -1,16 +1,19 @@
 //! The two ways to a volume's files: at once, or by what is staged and a journal.
-ghost use Rattle.std.specs.Prelude.{◌≡◌, IfOk, IfErr};
+ghost use Rattle.std.specs.Prelude.{◌≡◌, true, IfOk, IfErr};
+ghost use Rattle.verity_files.specs.Errors.{IsOfSystem, IsS1For};
 ghost use Rattle.verity_gate.specs.Refusals.{BlamesNone};
 ghost use Rattle.verity_work.specs.Work.{IsDoneAt};
 
 use crate::rest::{Rest, rest_of};
 use crate::running::{open_under, open_whole, run_direct, run_journalled};
 use crate::work::{Words, Work};
+use std::alloc::Global;
 use std::io::{Eprint, Write};
 use std::time::Clock;
+use verity_edit::EditFault;
 use verity_files::{Failure, Opened, Paths};
 use verity_stage::Staged;
-use verity_store::{BlockStore, StoreFault};
+use verity_store::{BlockStore, StoreFault, Which};
 use verity_superblock::Table;
 use verity_volume::{
     Journalled, OpenedVolume, OverFile, StagedFile, end_progress, open_volume, progress_of,
@@ -34,14 +37,16 @@ pub(crate) fn do_in_place<R: Paths + Clock + Eprint + AllocGlobal, T: Work, W: W
     output: &mut W,
     errors: &mut E,
 ) -> Result<u8, Failure>
-    requires { T.begun work.old }
+    requires ready { T.begun work.old }
+    requires missing { IfErr given.«data» (IsOfSystem (R.refuses rt.now ≡ true)) }
     ensures done { IfOk result (λ status. IsDoneAt (T.prints work.old (R.text rt.now)) words.now.data_path.now words.now.hash_path.now
         (W.contents output.old) (W.contents output.new) status) }
     ensures blames { IfErr result BlamesNone }
+    ensures system { IfErr result (IsS1For (R.refuses rt.now ≡ true)) }
 {
     let Given { line, data, hash } = given;
     let volume = open_volume(rt, &line, words.offset, data, hash)?;
-    work.see(volume.sizes.data_block_size)?;
+    work.see(rt, volume.sizes.data_block_size)?;
     run_in_place(rt, words, line, work, volume, output, errors)
 }
 
@@ -59,6 +64,7 @@ fn run_in_place<R: Paths + Clock + Eprint + AllocGlobal, T: Work, W: Write, E: W
     ensures done { IfOk result (λ status. IsDoneAt (T.prints work.old (R.text rt.now)) words.now.data_path.now words.now.hash_path.now
         (W.contents output.old) (W.contents output.new) status) }
     ensures blames { IfErr result BlamesNone }
+    ensures system { IfErr result (IsS1For (R.refuses rt.now ≡ true)) }
 {
     let rest = rest_of(words, volume.again, volume.sizes);
     let is_watched = words.is_watched && line.is_none();
@@ -102,6 +108,7 @@ fn run_opened<
     ensures done { IfOk result (λ status. T.prints work.old (R.text rt.now) rest.entry.devices
         (W.contents output.old) (W.contents output.new) status) }
     ensures blames { IfErr result BlamesNone }
+    ensures system { IfErr result (IsS1For (R.refuses rt.now ≡ true)) }
 {
     match line {
         Some(table) => {
@@ -126,14 +133,16 @@ pub(crate) fn do_staged<R: Paths + Clock + Eprint + AllocGlobal, T: Work, W: Wri
     output: &mut W,
     errors: &mut E,
 ) -> Result<u8, Failure>
-    requires { T.begun work.old }
+    requires ready { T.begun work.old }
+    requires same { commits.old.rt.now ≡ rt.now }
     ensures done { IfOk result (λ status. IsDoneAt (T.prints work.old (R.text rt.now)) words.now.data_path.now words.now.hash_path.now
         (W.contents output.old) (W.contents output.new) status) }
     ensures blames { IfErr result BlamesNone }
+    ensures system { IfErr result (IsS1For (R.refuses rt.now ≡ true)) }
 {
     let (data, hash) = commits.files()?;
     let volume = open_volume(rt, &line, words.offset, Ok(data), hash)?;
-    work.see(volume.sizes.data_block_size)?;
+    work.see(rt, volume.sizes.data_block_size)?;
     run_through(rt, words, line, work, volume, commits, output, errors)
 }
 
@@ -148,10 +157,12 @@ fn run_through<R: Paths + Clock + Eprint + AllocGlobal, T: Work, W: Write, E: Wr
     output: &mut W,
     errors: &mut E,
 ) -> Result<u8, Failure>
-    requires { T.seen work.old }
+    requires ready { T.seen work.old }
+    requires same { commits.old.rt.now ≡ rt.now }
     ensures done { IfOk result (λ status. IsDoneAt (T.prints work.old (R.text rt.now)) words.now.data_path.now words.now.hash_path.now
         (W.contents output.old) (W.contents output.new) status) }
     ensures blames { IfErr result BlamesNone }
+    ensures system { IfErr result (IsS1For (R.refuses rt.now ≡ true)) }
 {
     let rest = rest_of(words, volume.again, volume.sizes);
     let is_watched = words.is_watched && line.is_none();
@@ -193,16 +204,28 @@ fn run_over<
     output: &mut W,
     errors: &mut E,
 ) -> Result<u8, Failure>
-    requires { T.seen work.old }
+    requires ready { T.seen work.old }
+    requires same { commits.old.rt.now ≡ rt.now }
     ensures done { IfOk result (λ status. T.prints work.old (R.text rt.now) rest.entry.devices
         (W.contents output.old) (W.contents output.new) status) }
     ensures blames { IfErr result BlamesNone }
+    ensures system { IfErr result (IsS1For (R.refuses rt.now ≡ true)) }
 {
-    let data = Staged::new(rt.alloc(), data_store)?;
-    let hash = Staged::new(rt.alloc(), hash_store)?;
+    let data = staged(rt.alloc(), data_store, Which::Data)?;
+    let hash = staged(rt.alloc(), hash_store, Which::Hash)?;
     run_staged(
         rt, work, line, data, hash, offset, progress, commits, rest, output, errors,
     )
+}
+
+/// A store over which nothing is staged yet. E6 of this store where it has more than 2^41 blocks.
+fn staged<S: OverFile>(alloc: Global, store: S, which: Which) -> Result<Staged<S>, EditFault>
+    ensures { IfErr result (λ e. e ≡ EditFault.Store which) }
+{
+    match Staged::new(alloc, store) {
+        Ok(staged) => Ok(staged),
+        Err(_) => Err(EditFault::Store(which)),
+    }
 }
 
 /// Opens two staged stores under a table line, or reads them whole, and does the work. The meter's line is cleared in between.
@@ -226,10 +249,12 @@ fn run_staged<
     output: &mut W,
     errors: &mut E,
 ) -> Result<u8, Failure>
-    requires { T.seen work.old }
+    requires ready { T.seen work.old }
+    requires same { commits.old.rt.now ≡ rt.now }
     ensures done { IfOk result (λ status. T.prints work.old (R.text rt.now) rest.entry.devices
         (W.contents output.old) (W.contents output.new) status) }
     ensures blames { IfErr result BlamesNone }
+    ensures system { IfErr result (IsS1For (R.refuses rt.now ≡ true)) }
 {
     match line {
         Some(table) => {

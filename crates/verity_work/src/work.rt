@@ -1,5 +1,5 @@
 //! What is done over a volume, and over which one.
-ghost use Rattle.std.specs.Prelude.{◌≡◌, ◌⊎◌, IfOk, IfErr, OnOk, MatchOption};
+ghost use Rattle.std.specs.Prelude.{◌≡◌, ◌⊎◌, IfOk, IfErr, OnOk, MatchOption, true};
 ghost use Rattle.verity_files.specs.Errors.{IsS1For};
 ghost use Rattle.verity_files.specs.declared.failure.Word.{Word};
 ghost use Rattle.verity_gate.specs.Refusals.{BlamesNone};
@@ -41,9 +41,6 @@ pub trait Work {
     /// What more is read can be read.
     ghost seen: { Self → Type 0 };
 
-    /// It reads a file of its own, and how that fails no clause says.
-    ghost reads_more: { Self → Type 0 };
-
     /// Opens what more is read, once both files are opened, of which DATA may be missing. S1 where the system refuses a call.
     fn begin<R: Paths + AllocGlobal>(
         &mut self,
@@ -53,19 +50,19 @@ pub trait Work {
     ) -> Result<(), Failure>
         ensures begun { OnOk result (begun self.new) }
         ensures prints { PrintsAsBefore prints self.old self.new }
-        ensures system { IfErr result (IsS1For (R.refuses rt.now)) }
+        ensures system { IfErr result (IsS1For (R.refuses rt.now ≡ true)) }
         ensures blames { IfErr result (BlamesOwn blamed (reason self.old (R.opens rt.now) (λ identity. (identity ≡ hash.now.identity)
             ⊎ MatchOption «data».entry ⊥ (λ opened. identity ≡ opened.now.identity)))) };
 
-    /// Makes it ready to be read, once the size of a data block is known.
-    fn see(&mut self, data_block_size: usize) -> Result<(), Failure>
+    /// Makes it ready to be read, once the size of a data block is known. S1 where the system refuses a call.
+    fn see<R: Paths + AllocGlobal>(&mut self, rt: &R, data_block_size: usize) -> Result<(), Failure>
         requires { begun self.old }
         ensures seen { OnOk result (seen self.new) }
-        ensures system { IfErr result (IsS1For (reads_more self.old)) }
+        ensures system { IfErr result (IsS1For (R.refuses rt.now ≡ true)) }
         ensures prints { PrintsAsBefore prints self.old self.new }
         ensures blames { IfErr result BlamesNone };
 
-    /// Does it. `hash` is HASH, to be read once more.
+    /// Does it. `hash` is HASH, to be read once more. S1 where the system refuses a call, of this or of a commit.
     fn run<
         R: Paths + Clock + Eprint + AllocGlobal,
         V: Edits + Edited,
@@ -85,6 +82,6 @@ pub trait Work {
         requires { seen self.old }
         ensures done { IfOk result (λ status. prints self.old (R.text rt.now) devices.entry
             (W.contents output.old) (W.contents output.new) status) }
-        ensures system { IfErr result (IsS1For (R.refuses rt.now ⊎ reads_more self.old)) }
+        ensures system { IfErr result (IsS1For ((R.refuses rt.now ≡ true) ⊎ (C.refuses commits.old ≡ true))) }
         ensures blames { IfErr result BlamesNone };
 }

@@ -2,7 +2,7 @@ use Rattle.std.proofs.Common.{Err, sym, ap, ◌∙◌, subst}
 use Rattle.verity_files.specs.Faults.{failure_of}
 use Rattle.verity_files.specs.declared.fault.Fault.TheVariants as fault
 use Rattle.verity_gate.specs.Journals.{IsShut}
-use Rattle.verity_opening.proofs.Unopened.{of_made, unmade}
+use Rattle.verity_opening.proofs.Unopened.{of_check, of_made, unmade}
 use Rattle.verity_opening.proofs.opened.open_hub.Goals as goal
 
 pub returns-clause-shut : goal.returns-clause-shut
@@ -16,3 +16,8 @@ returns-in_err-verifier-clause-refused g c =
     c.from_residual-in_err-verifier.ensures.1
     (unmade c.args.line.now c.args.name.now c.args.cache c.in_err-verifier.field-0.0
     (λ is. (c.in_err-verifier.ensures.cache_size.0 (ap Err is)).1) c.in_err-verifier.ensures.error)
+
+pub returns-in_err-verifier-clause-system : goal.returns-in_err-verifier-clause-system
+returns-in_err-verifier-clause-system g c =
+    of_made c.from_residual-in_err-verifier.result (failure_of (fault.Check c.in_err-verifier.field-0.0)) _
+    c.from_residual-in_err-verifier.ensures.1 (of_check _ c.in_err-verifier.field-0.0)

@@ -1,4 +1,5 @@
 use Rattle.verity_serving.proofs.Blaming.{starved, told}
+use Rattle.verity_serving.proofs.Refusing.{of_memory}
 use Rattle.verity_serving.proofs.Talks.{talked}
 use Rattle.verity_serving.proofs.talking.talk.Goals as goal
 
@@ -10,3 +11,6 @@ returns-clause-ended g c = told c.ended.result _ c.serve_stream-served.result c.
 
 pub returns-clause-blames : goal.returns-clause-blames
 returns-clause-blames g c = starved c.ended.result c.args.words.now c.ended.ensures.refused
+
+pub returns-clause-system : goal.returns-clause-system
+returns-clause-system g c = of_memory _ c.ended.result c.ended.ensures.refused
