@@ -4,6 +4,7 @@
 //! contract can say of any system: code that works over any [`Paths`] has no other way to such a fact than to ask by that very path, or
 //! of that very file. Of the system itself, whose calls have no clauses, nothing is known: that it answers so is trusted.
 ghost use Rattle.std.specs.Prelude.{◌≡◌, ℕ, Bool, true, false, List, Option, IsOk, IfOk, IfErr, IfSome, OnOk, OnErr, string_bytes};
+ghost use Rattle.std.specs.declared.fs.File.{File};
 ghost use Rattle.verity_files.specs.Errors.{IsOfLock, IsOfScript, IsOfSystem};
 ghost use Rattle.verity_files.specs.declared.command.Lock.{Lock};
 ghost use Rattle.verity_files.specs.declared.failure.Failure.TheVariants as failure;
@@ -47,6 +48,9 @@ pub trait Paths {
 
     /// A block device stands at this path.
     ghost has_device: { Self → List ℕ → Type 0 };
+
+    /// An opened file has so many bytes by now.
+    ghost has_len: { Self → File → ℕ → Type 0 };
 
     /// What was opened begins with these bytes.
     ghost begins: { Self → Opened → List ℕ → Type 0 };
@@ -103,6 +107,7 @@ pub trait Paths {
 
     /// How many bytes an opened file has by now; of a device it isn't asked.
     fn byte_len(&self, file: &File) -> io::Result<u64>
+        ensures len { IfOk result (has_len self.now file.now) }
         ensures refused { OnErr result (refuses self.now ≡ true) };
 
     /// Reads as many bytes of what was opened as `out` has, from offset `at` on.
@@ -157,6 +162,8 @@ impl<R: Files<File = File>> Paths for R {
     ghost lacks = { λ _ _. ⊤ };
 
     ghost has_device = { λ _ _. ⊤ };
+
+    ghost has_len = { λ _ _ _. ⊤ };
 
     ghost begins = { λ _ _ _. ⊤ };
 

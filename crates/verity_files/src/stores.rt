@@ -4,6 +4,7 @@ ghost use Rattle.std.specs.Prelude.{IsOk, IfOk, IfErr, OnOk, length};
 ghost use Rattle.verity_store.specs.RawFile.{bound_by_file};
 ghost use Rattle.verity_profile.specs.Profile.{IsBlockSize};
 ghost use Rattle.verity_files.specs.Identities.{IsDevice};
+ghost use Rattle.verity_files.specs.Lengths.{IsLenOf};
 ghost use Rattle.verity_files.specs.VolumeFiles.{IsPart, LiesIn, room_in};
 
 use crate::asked::Asked;
@@ -109,6 +110,7 @@ pub fn new_store(opened: Opened, size: usize) -> Result<VolumeStore, StoreFault>
 
 /// How many bytes there are: of a file by now, of a device as when it was opened. S1 where the system doesn't say.
 pub fn len_by_now<P: Paths>(rt: &P, opened: &Opened) -> Result<u64, StoreFault>
+    ensures len { IfOk result (IsLenOf P.Paths rt.now opened.now.identity opened.now.file opened.now.len) }
     ensures device { IsDevice opened.now.identity → result ≡ Ok opened.now.len }
     ensures refused { IfErr result (λ e. (e ≡ StoreFault.Device) × (P.refuses rt.now ≡ true)) }
 {
@@ -129,6 +131,7 @@ pub fn len_of_most<P: Paths>(
     blocks: u64,
 ) -> Result<u64, StoreFault>
     requires { IsBlockSize size }
+    ensures len { IfOk result (IsLenOf P.Paths rt.now opened.now.identity opened.now.file (min blocks (opened.now.len / size) * size)) }
     ensures device { IsDevice opened.now.identity → result ≡ Ok (min blocks (opened.now.len / size) * size) }
     ensures refused { IfErr result (λ e. (e ≡ StoreFault.Device) × (P.refuses rt.now ≡ true)) }
 {

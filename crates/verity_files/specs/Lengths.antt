@@ -1,0 +1,11 @@
+-- How many bytes there are of what was opened.
+use Rattle.std.specs.Prelude.{◌≡◌, ℕ}
+use Rattle.std.specs.declared.fs.File.{File}
+use Rattle.verity_files.specs.declared.identity.Identity.{Identity}
+use Rattle.verity_files.specs.declared.identity.Identity.TheVariants as identity
+use Rattle.verity_files.specs.declared.paths.Paths.{Ghosts}
+
+-- of a file as many as the system says by now, of a device so many
+abbrev pub IsLenOf : {P : Type 0} → Ghosts P → P → Identity → File → (of_device len : ℕ) → Type 0
+IsLenOf facts p (identity.File dev ino) file of_device len = facts.has_len p file len
+IsLenOf facts p (identity.Device rdev) file of_device len = len ≡ of_device
