@@ -2,6 +2,7 @@
 behind."""
 import os
 import subprocess
+import tempfile
 import threading
 
 from cases.case import UUID, Case, image
@@ -12,6 +13,8 @@ HASHES = volume(17).device(DATA)
 SMALL = ["--salt", "00ff", "--uuid", UUID, "--data-block-size", "512", "--hash-block-size", "512"]
 NOT_UNDERSTOOD = ("error: the value of HASH is not understood\n", 2)
 OFFSETS = ((), ("--hash-offset", "1024"))
+# A folder in memory, whose files can be longer than those of most disks.
+MEMORY = "/dev/shm"
 
 
 def symlink(target, name):
@@ -151,6 +154,51 @@ class WhileServed(Case):
                 server.kill()
 
 
+class Oversized(Case):
+    """Words on a volume whose HASH is a link to a file of so many bytes more, of which the disk holds none."""
+
+    def __init__(self, name, words, output, status, length):
+        super().__init__(f"slips: {name}", words, output, status, {"data": DATA, "hash": HASHES, "script": b"shrink 1\ncommit\n"})
+        self.length = length
+
+    def run(self, tool, folder):
+        link = os.path.join(folder, "hash")
+        with tempfile.TemporaryDirectory(dir=MEMORY) as room:
+            long = os.path.join(room, "long")
+            with open(long, "wb") as file:
+                file.write(HASHES)
+                file.truncate(self.length)
+            os.remove(link)
+            os.symlink(long, link)
+            seen = super().run(tool, folder)
+            left, length = os.listdir(room), os.path.getsize(long)
+            os.remove(link)
+            with open(long, "rb") as file, open(link, "wb") as kept:
+                kept.write(file.read(len(HASHES)))
+        if (left, length) != (["long"], self.length):
+            raise OSError(f"{left} is left, and HASH has {length} bytes")
+        return seen
+
+
+def can_be(length):
+    """Whether a file of so many bytes can be made in memory."""
+    try:
+        with tempfile.TemporaryFile(dir=MEMORY) as file:
+            file.truncate(length)
+    except OSError:
+        return False
+    return True
+
+
+def too_many_blocks():
+    """HASH of 2^41 blocks and one, over which changes can't be kept until a commit, where a file of so many can be made; of 2^41 it is
+    taken, and the script is looked for."""
+    most = 2**41 * 512
+    if can_be(most + 512):
+        yield Oversized("edit, HASH of too many blocks", ["edit", "data", "hash", "script"], "refused E6 hash\n", 1, most + 512)
+        yield Oversized("edit, HASH of the most blocks, no script", ["edit", "data", "hash", "other"], "refused S1\n", 1, most)
+
+
 def two_at_once():
     """A volume that another program works on."""
     line = volume(17).line(DATA)
@@ -180,5 +228,5 @@ def two_at_once():
 
 
 def cases():
-    for table in (one_file, no_image, no_device, made_through_links, two_at_once):
+    for table in (one_file, no_image, no_device, made_through_links, too_many_blocks, two_at_once):
         yield from table()

@@ -55,6 +55,18 @@ pub trait Paths {
     /// What was opened begins with these bytes.
     ghost begins: { Self → Opened → List ℕ → Type 0 };
 
+    /// These bytes were read of an opened file from this offset on.
+    ghost reads: { Self → File → ℕ → List ℕ → Type 0 };
+
+    /// These bytes were written to an opened file from this offset on, which made it this one.
+    ghost writes: { Self → File → ℕ → List ℕ → File → Type 0 };
+
+    /// An opened file was given so many bytes, which made it this one.
+    ghost sets_len: { Self → File → ℕ → File → Type 0 };
+
+    /// What was written to an opened file was asked to be kept, which made it this one.
+    ghost syncs: { Self → File → File → Type 0 };
+
     /// The bytes that are read at this path, where they are known.
     ghost text: { Self → List ℕ → Option (List ℕ) };
 
@@ -103,7 +115,8 @@ pub trait Paths {
 
     /// Reads the first bytes of what was opened, as many as `out` has.
     fn read_first(&self, opened: &mut Opened, out: &mut [u8]) -> io::Result<()>
-        ensures { OnOk result (begins self.now opened.old out.new) };
+        ensures read { OnOk result (begins self.now opened.old out.new) }
+        ensures refused { OnErr result (refuses self.now ≡ true) };
 
     /// How many bytes an opened file has by now; of a device it isn't asked.
     fn byte_len(&self, file: &File) -> io::Result<u64>
@@ -112,18 +125,22 @@ pub trait Paths {
 
     /// Reads as many bytes of what was opened as `out` has, from offset `at` on.
     fn read_at(&self, file: &mut File, at: u64, out: &mut [u8]) -> io::Result<()>
+        ensures read { OnOk result (reads self.now file.old at out.new) }
         ensures refused { OnErr result (refuses self.now ≡ true) };
 
     /// Writes these bytes from offset `at` on.
     fn write_at(&self, file: &mut File, at: u64, bytes: &[u8]) -> io::Result<()>
+        ensures written { OnOk result (writes self.now file.old at bytes.now file.new) }
         ensures refused { OnErr result (refuses self.now ≡ true) };
 
     /// Cuts an opened file to `n` bytes, or fills it up to as many with zeros.
     fn set_byte_len(&self, file: &mut File, n: u64) -> io::Result<()>
+        ensures set { OnOk result (sets_len self.now file.old n file.new) }
         ensures refused { OnErr result (refuses self.now ≡ true) };
 
     /// Asks to keep what was written to an opened file.
     fn sync(&self, file: &mut File) -> io::Result<()>
+        ensures synced { OnOk result (syncs self.now file.old file.new) }
         ensures refused { OnErr result (refuses self.now ≡ true) };
 
     /// The bytes of the script at a path, be it a pipe. S1 where it can't be opened or read, or is longer than 2^30 bytes; want of memory.
@@ -166,6 +183,14 @@ impl<R: Files<File = File>> Paths for R {
     ghost has_len = { λ _ _ _. ⊤ };
 
     ghost begins = { λ _ _ _. ⊤ };
+
+    ghost reads = { λ _ _ _ _. ⊤ };
+
+    ghost writes = { λ _ _ _ _ _. ⊤ };
+
+    ghost sets_len = { λ _ _ _ _. ⊤ };
+
+    ghost syncs = { λ _ _ _. ⊤ };
 
     ghost text = { λ _ _. None };
 
