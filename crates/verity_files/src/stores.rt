@@ -4,7 +4,7 @@ ghost use Rattle.std.specs.Prelude.{IsOk, IfOk, IfErr, OnOk, length};
 ghost use Rattle.verity_store.specs.RawFile.{bound_by_file};
 ghost use Rattle.verity_profile.specs.Profile.{IsBlockSize};
 ghost use Rattle.verity_files.specs.Identities.{IsDevice};
-ghost use Rattle.verity_files.specs.Lengths.{IsLenOf};
+ghost use Rattle.verity_files.specs.Lengths.{IsLenOf, IsRagged};
 ghost use Rattle.verity_files.specs.VolumeFiles.{IsPart, LiesIn, room_in};
 
 use crate::asked::Asked;
@@ -28,6 +28,7 @@ pub fn whole_store<P: Paths>(rt: &P, opened: Opened, size: usize) -> Result<Volu
     ensures lies { IfOk result (λ s. LiesIn opened.identity opened.file false opened.len opened.len s.file) }
     ensures size { IfOk result (λ s. ⟦<VolumeStore as BlockStore>⟧.size s ≡ size) }
     ensures wrong_size { (result ≡ Err StoreFault.BlockSize) ↔ ¬ IsBlockSize size }
+    ensures ragged { result ≡ Err StoreFault.Ragged → IsRagged P.Paths rt.now opened.identity opened.file opened.len size }
     ensures memory { result ≢ Err StoreFault.NoMemory }
     ensures system { result ≡ Err StoreFault.Device → P.refuses rt.now ≡ true }
 {
@@ -47,6 +48,8 @@ pub fn store_of_most<P: Paths>(
     ensures lies { IfOk result (λ s. LiesIn opened.identity opened.file false opened.len (min blocks (opened.len / size) * size) s.file) }
     ensures size { IfOk result (λ s. ⟦<VolumeStore as BlockStore>⟧.size s ≡ size) }
     ensures wrong_size { (result ≡ Err StoreFault.BlockSize) ↔ ¬ IsBlockSize size }
+    ensures ragged { result ≡ Err StoreFault.Ragged → IsRagged P.Paths rt.now opened.identity opened.file
+        (min blocks (opened.len / size) * size) size }
     ensures memory { result ≢ Err StoreFault.NoMemory }
     ensures system { result ≡ Err StoreFault.Device → P.refuses rt.now ≡ true }
 {

@@ -1,11 +1,17 @@
 -- What `verify` and `serve` print.
-use Rattle.std.specs.Prelude.{◌≡◌, ◌↔◌, ℕ, true, List, [], ◌∷◌, ◌++◌, codes, Option, Ok}
+use Rattle.std.specs.Prelude.{◌≡◌, ◌↔◌, ◌+◌, ℕ, true, List, [], ◌∷◌, ◌++◌, codes, Option, Ok}
 use Rattle.std.specs.List.{flat_map}
 use Rattle.std.specs.Fmt.{decimal}
 use Rattle.std.specs.Io.KnownBytes.{Appends}
 use Rattle.nbd_serve.specs.Lines.{IsServed}
+use Rattle.verity_store.specs.Stores.{IsOnlyRead}
+use Rattle.verity_store.specs.declared.store.BlockStore as store
+use Rattle.verity_superblock.specs.Line.{TableLine, Line}
+use Rattle.verity_chain.specs.Table.{tree_len}
 use Rattle.verity_chain.specs.Texts.{place_text}
 use Rattle.verity_chain.specs.declared.place.Place.{Place}
+use Rattle.verity_report.specs.Report.{IsReportOf}
+use Rattle.verity_report.specs.Stores.{BothTell, held_in}
 use Rattle.verity_report.specs.declared.finding.Verdict.{Verdict}
 use Rattle.verity_report.specs.declared.finding.Verdict.TheVariants as verdict
 use Rattle.verity_files.specs.Faults.{line}
@@ -25,12 +31,36 @@ last_line (fault ∷ faults) = line (codes "corrupt")
 abbrev pub report_lines : List (Place × Verdict) → ℕ → List ℕ
 report_lines faults unchecked = flat_map place_line faults ++ (codes "unchecked " ++ (line (decimal unchecked) ++ last_line faults))
 
--- what `verify` prints, and its status: a report, which is of no block exactly where the status is 0
-pub record IsReported (status : ℕ) (old new : Option (List ℕ)) : Type 0 where
-  pub faults : List (Place × Verdict)
-  pub unchecked : ℕ
-  pub printed : Appends old new (report_lines faults unchecked)
-  pub done : (status ≡ 0) ↔ (faults ≡ [])
+module _ {D H : Type 0} (data_facts : store.Ghosts D) (hash_facts : store.Ghosts H) where
+  -- These blocks are reported of a volume in two stores, and so many weren't read: over stores that tell those that are wrong in what the
+  -- stores hold; over any stores each other place of the volume was read.
+  pub record IsReportOver (table : TableLine) (image : D) (device : H) (faults : List (Place × Verdict)) (unchecked : ℕ) : Type 0 where
+    pub image' : D
+    pub device' : H
+    pub image_read : IsOnlyRead data_facts image image'
+    pub device_read : IsOnlyRead hash_facts device device'
+    pub told : BothTell data_facts hash_facts image device → IsReportOf table (held_in data_facts hash_facts table image device) faults
+        unchecked (data_facts.failures image + hash_facts.failures device) (data_facts.failures image' + hash_facts.failures device')
+    pub counted : unchecked + (data_facts.reads image' + hash_facts.reads device')
+        ≡ data_facts.reads image + hash_facts.reads device + (tree_len table + table.data_blocks)
+
+  -- the same of the volume of a table line, in two stores of which this holds
+  pub record IsFound (text : List ℕ) (are_there : TableLine → D → H → Type 0) (faults : List (Place × Verdict)) (unchecked : ℕ)
+      : Type 0 where
+    pub table : TableLine
+    pub image : D
+    pub device : H
+    pub parsed : Line text table
+    pub there : are_there table image device
+    pub reported : IsReportOver table image device faults unchecked
+
+  -- what `verify` prints, and its status: such a report, which is of no block exactly where the status is 0
+  pub record IsReported (text : List ℕ) (are_there : TableLine → D → H → Type 0) (status : ℕ) (old new : Option (List ℕ)) : Type 0 where
+    pub faults : List (Place × Verdict)
+    pub unchecked : ℕ
+    pub found : IsFound text are_there faults unchecked
+    pub printed : Appends old new (report_lines faults unchecked)
+    pub done : (status ≡ 0) ↔ (faults ≡ [])
 
 -- what `serve` prints where it is done: `listening`, and a line for each of as many sessions as were asked for, none of which names a
 -- fault

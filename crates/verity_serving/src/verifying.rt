@@ -1,17 +1,18 @@
 //! The command `verify`: reports what is wrong in a volume.
 
-ghost use Rattle.std.specs.Prelude.{◌≡◌, true, ◌↔◌, [], OnOk, IfOk, IfErr};
+ghost use Rattle.std.specs.Prelude.{◌≡◌, ◌-◌, ◌^◌, true, ◌↔◌, [], OnOk, IfOk, IfErr};
 ghost use Rattle.std.specs.Io.KnownBytes.{Appends};
 ghost use Rattle.verity_volume.specs.Lines.{IsOfOutput};
 ghost use Rattle.verity_files.specs.Errors.{IsS1For};
 ghost use Rattle.verity_gate.specs.Refusals.{BlamesNone};
-ghost use Rattle.verity_serving.specs.Printed.{place_line, report_lines, IsReported};
+ghost use Rattle.verity_opening.specs.Opening.{LiesAt};
+ghost use Rattle.verity_serving.specs.Printed.{place_line, report_lines, IsFound, IsReported, IsReportOver};
 
 use std::alloc::Global;
 use std::io::{Eprint, IsTerminal, Write};
 use std::time::Clock;
 use verity_check::{Place, Report, Verdict, Verifier};
-use verity_files::{Command, DONE, Failure, Paths, REFUSED};
+use verity_files::{Command, DONE, Failure, Paths, REFUSED, VolumeStore};
 use verity_opening::open_stores;
 use verity_store::BlockStore;
 use verity_superblock::Table;
@@ -30,7 +31,10 @@ pub fn verify<R: Paths + Clock + Eprint + AllocGlobal, W: Write, E: IsTerminal>(
     output: &mut W,
     errors: &E,
 ) -> Result<u8, Failure>
-    ensures reported { IfOk result (λ status. IsReported status (W.contents output.old) (W.contents output.new)) }
+    ensures reported { IfOk result (λ status. IsReported ⟦<VolumeStore as BlockStore>⟧ ⟦<VolumeStore as BlockStore>⟧ words.now.table.now
+        (λ table image device. LiesAt R.Paths rt.now table.dev table.data_blocks table.data_block_size image.file
+        × LiesAt R.Paths rt.now table.hash_dev (2 ^ 64 - 1) table.hash_block_size device.file)
+        status (W.contents output.old) (W.contents output.new)) }
     ensures blames { IfErr result BlamesNone }
     ensures system { IfErr result (IsS1For (R.refuses rt.now ≡ true)) }
 {
@@ -43,6 +47,10 @@ fn report_of<R: Paths + Clock + Eprint + AllocGlobal, E: IsTerminal>(
     words: &VerifyWords<'_>,
     errors: &E,
 ) -> Result<Report, Failure>
+    ensures found { IfOk result (λ report. IsFound ⟦<VolumeStore as BlockStore>⟧ ⟦<VolumeStore as BlockStore>⟧ words.now.table.now
+        (λ table image device. LiesAt R.Paths rt.now table.dev table.data_blocks table.data_block_size image.file
+        × LiesAt R.Paths rt.now table.hash_dev (2 ^ 64 - 1) table.hash_block_size device.file)
+        report.faults report.unchecked) }
     ensures blames { IfErr result BlamesNone }
     ensures system { IfErr result (IsS1For (R.refuses rt.now ≡ true)) }
 {
@@ -66,6 +74,8 @@ fn checked<D: BlockStore + Drop, H: BlockStore + Drop>(
     data_store: D,
     hash_store: H,
 ) -> Result<Report, Failure>
+    ensures reported { IfOk result (λ report. IsReportOver D.BlockStore H.BlockStore table data_store hash_store
+        report.faults report.unchecked) }
     ensures blames { IfErr result BlamesNone }
     ensures system { IfErr result (IsS1For ⊥) }
 {

@@ -1,5 +1,7 @@
 //! The editors whose commits go through a journal: over stores whose changes are kept beside a volume's files until then.
-ghost use Rattle.std.specs.Prelude.{◌≡◌, Bool, false, true, length, IfOk, IfErr, OnErr, OnOk};
+ghost use Rattle.std.specs.Prelude.{◌≡◌, ◌*◌, ◌/◌, min, Bool, false, true, length, IfOk, IfErr, OnErr, OnOk};
+ghost use Rattle.verity_profile.specs.Profile.{IsBlockSize};
+ghost use Rattle.verity_files.specs.Lengths.{IsRagged};
 ghost use Rattle.verity_volume.specs.Refusals.{IsOfStore, IsOfStores};
 
 use crate::edits::Edits;
@@ -16,7 +18,8 @@ use verity_watch::{Meter, Watched};
 /// A store over one of a volume's files.
 pub trait OverFile: BlockStore + Drop {
     /// A store over a file as it stands, of whose bytes nothing is known, or over the first blocks of a device, at most so many.
-    /// S1 only where the system refused a call.
+    /// S1 only where the system refused a call, S2 where the file is no whole number of blocks, S4 for all but the block sizes of the
+    /// profile.
     fn over_file<P: Paths>(
         rt: &P,
         opened: Opened,
@@ -24,6 +27,9 @@ pub trait OverFile: BlockStore + Drop {
         blocks: u64,
     ) -> Result<Self, StoreFault>
         ensures unknown { IfOk result (λ s. Self.tells s ≡ false) }
+        ensures ragged { IfErr result (λ fault. fault ≡ StoreFault.Ragged → IsRagged P.Paths rt.now opened.identity opened.file
+            (min blocks (opened.len / size) * size) size) }
+        ensures wrong_size { IfErr result (λ fault. fault ≡ StoreFault.BlockSize → ¬ IsBlockSize size) }
         ensures system { IfErr result (λ fault. fault ≡ StoreFault.Device → P.refuses rt.now ≡ true) };
 }
 
