@@ -32,8 +32,8 @@ abbrev pub report_lines : List (Place × Verdict) → ℕ → List ℕ
 report_lines faults unchecked = flat_map place_line faults ++ (codes "unchecked " ++ (line (decimal unchecked) ++ last_line faults))
 
 module _ {D H : Type 0} (data_facts : store.Ghosts D) (hash_facts : store.Ghosts H) where
-  -- These blocks are reported of a volume in two stores, and so many weren't read: over stores that tell those that are wrong in what the
-  -- stores hold; over any stores each other place of the volume was read.
+  -- These blocks are reported of a volume in two stores, and so many places weren't checked: over stores that tell those that are wrong in
+  -- what the stores hold; over any stores as many blocks were read as the volume has other places.
   pub record IsReportOver (table : TableLine) (image : D) (device : H) (faults : List (Place × Verdict)) (unchecked : ℕ) : Type 0 where
     pub image' : D
     pub device' : H
