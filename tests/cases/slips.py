@@ -155,7 +155,7 @@ class WhileServed(Case):
 
 
 class Oversized(Case):
-    """Words on a volume whose HASH is a link to a file of so many bytes more, of which the disk holds none."""
+    """Words on a volume whose HASH is a link to a file that begins with it and has so many bytes in all."""
 
     def __init__(self, name, words, output, status, length):
         super().__init__(f"slips: {name}", words, output, status, {"data": DATA, "hash": HASHES, "script": b"shrink 1\ncommit\n"})
