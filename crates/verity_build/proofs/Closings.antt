@@ -3,8 +3,8 @@ use Rattle.std.proofs.Common.{◌≡◌, ◌≢◌, ℕ, zero, suc, ◌+◌, ◌
 use Rattle.std.specs.Prelude.{Option}
 use Rattle.std.proofs.lemmas.Bool.{cases_eq}
 use Rattle.verity_digest.specs.Tree.{Hashing}
-use Rattle.verity_digest.specs.Shape.{row_len, level_len, blocks_of_levels}
-use Rattle.verity_digest.proofs.Counts.{blocks_of_levels-first, blocks_of_levels-none}
+use Rattle.verity_digest.specs.Shape.{level_len, blocks_of_levels}
+use Rattle.verity_digest.proofs.Counts.{blocks_of_levels-first}
 use Rattle.verity_geometry.specs.Geometry.{Shape, IsShape, digests_per_block, levels_of, total_of}
 use Rattle.verity_geometry.proofs.Shapes.{wide}
 use Rattle.verity_tree.specs.Open.{Open}

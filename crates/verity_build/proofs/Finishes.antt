@@ -1,7 +1,7 @@
 -- Behind the last data block: the root is there, and a store with each closed block in its place holds
 -- the tree.
-use Rattle.std.proofs.Common.{◌≡◌, ◌≢◌, ℕ, suc, ◌+◌, ◌-◌, ◌/◌, ◌<◌, ◌≤◌, min, List, [], ◌∷◌, ◌++◌, length, take, drop, replicate}
-use Rattle.std.proofs.Common.{get_or, set, ⊎_elim, refl, sym, ap, ◌∙◌, subst, arith}
+use Rattle.std.proofs.Common.{◌≡◌, ℕ, suc, ◌+◌, ◌-◌, ◌/◌, ◌<◌, ◌≤◌, min, List, [], ◌∷◌, ◌++◌, length, take, drop, replicate}
+use Rattle.std.proofs.Common.{get_or, set, ⊎_elim, sym, ap, ◌∙◌, arith}
 use Rattle.std.specs.Prelude.{Option, None, Some}
 use Rattle.std.proofs.lemmas.Bool.{cases_lt}
 use Rattle.std.proofs.lemmas.List.{ext_get_or, get_or-drop, get_or-take, get_or_append_left, get_or-append-add, length-append}
@@ -15,7 +15,7 @@ use Rattle.verity_digest.proofs.Counts.{row_len_top}
 use Rattle.verity_digest.proofs.Rows.{root-row}
 use Rattle.verity_profile.specs.Profile.{zero_block}
 use Rattle.verity_geometry.specs.Geometry.{Shape, IsShape, IsOfShape, digests_per_block, levels_of, len_of, place_of, total_of}
-use Rattle.verity_geometry.proofs.OfShape.{IsOfShape-hashing, tree-shape_place, tree_by_shape_places, length-shape_tree}
+use Rattle.verity_geometry.proofs.OfShape.{IsOfShape-hashing, tree-shape_place, tree_by_shape_places}
 use Rattle.verity_geometry.proofs.Shapes.{wide, some}
 use Rattle.verity_store.specs.Blocks.{resized}
 use Rattle.verity_tree.specs.Open.{Open}

@@ -8,3 +8,4 @@ pub mod Compares
 pub mod Closings
 pub mod Refusals
 pub mod Offsets
+pub mod Givens

@@ -1,18 +1,18 @@
 -- The open blocks hold the image's digests, and a block that is closed is the image's own.
-use Rattle.std.proofs.Common.{◌≡◌, ◌≢◌, ℕ, zero, suc, ◌+◌, ◌-◌, ◌*◌, ◌<◌, ◌≤◌, List, [], ◌∷◌, ◌++◌, length, map, take, drop, get_or}
+use Rattle.std.proofs.Common.{◌≡◌, ℕ, zero, suc, ◌+◌, ◌*◌, ◌<◌, ◌≤◌, List, [], ◌∷◌, ◌++◌, length, map, take, drop, get_or}
 use Rattle.std.proofs.Common.{⊎_elim, refl, sym, ap, ◌∙◌, subst, arith}
 use Rattle.std.specs.Prelude.{Option, Some, None}
 use Rattle.std.specs.Fork.{slice_chunk}
 use Rattle.std.proofs.lemmas.Bool.{cases_lt, cases_eq}
-use Rattle.std.proofs.lemmas.List.{length-append, length-map, length-take, length-drop, get_or-map, get_or-drop, take_more, take_all}
-use Rattle.verity_digest.specs.Tree.{Hashing, per_block, hash_block, IsHashing}
+use Rattle.std.proofs.lemmas.List.{length-append, length-map, length-drop, get_or-map, get_or-drop, take_more, take_all}
+use Rattle.verity_digest.specs.Tree.{Hashing, per_block, hash_block}
 use Rattle.verity_digest.specs.Rows.{row, block_at}
-use Rattle.verity_digest.specs.Shape.{row_len, level_len}
+use Rattle.verity_digest.specs.Shape.{row_len}
 use Rattle.verity_digest.proofs.Rows.{length-row, block_at-run}
 use Rattle.verity_digest.proofs.Counts.{row_len-zero}
 use Rattle.verity_tree.specs.Open.{Open}
 use Rattle.verity_tree.specs.Climb.{open_at, AreEmpty, Comes, Closes}
-use Rattle.verity_build.specs.Progress.{came, InOrder, Growing, Settling, IsRight}
+use Rattle.verity_build.specs.Progress.{came, Growing, Settling, IsRight}
 use Rattle.verity_build.proofs.Settles.{index_below, settling_all}
 
 -- an open block holds a run of these digests

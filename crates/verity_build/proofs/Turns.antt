@@ -2,13 +2,13 @@
 use Rattle.std.proofs.Common.{◌≡◌, ℕ, suc, ◌/◌, ◌<◌, ◌≤◌, List, [], length, get_or, sym, ap, ◌∙◌, subst, arith}
 use Rattle.std.specs.Prelude.{Option}
 use Rattle.verity_digest.specs.Hash.{Salted, size_of, hashing, salted_digest}
-use Rattle.verity_digest.specs.Tree.{Hashing, per_block, hash_block, tree, IsHashing}
+use Rattle.verity_digest.specs.Tree.{Hashing, per_block, hash_block, tree}
 use Rattle.verity_digest.specs.Rows.{block_at}
 use Rattle.verity_digest.specs.Shape.{row_len, level_count}
 use Rattle.verity_digest.proofs.Counts.{row_len_top}
 use Rattle.verity_digest.proofs.Rows.{level_block-row}
-use Rattle.verity_geometry.specs.Geometry.{Shape, IsShape, IsOfShape, digests_per_block, levels_of, len_of, place_of}
-use Rattle.verity_geometry.proofs.OfShape.{IsOfShape-hashing, same_per_block, tree-shape_place}
+use Rattle.verity_geometry.specs.Geometry.{Shape, IsShape, digests_per_block, levels_of, len_of, place_of}
+use Rattle.verity_geometry.proofs.OfShape.{IsOfShape-hashing, tree-shape_place}
 use Rattle.verity_geometry.proofs.Shapes.{wide, some}
 use Rattle.verity_tree.specs.Open.{Open}
 use Rattle.verity_tree.specs.Climb.{open_at, Comes, Closes}

@@ -1,5 +1,5 @@
 -- What a build and a comparison begin with.
-use Rattle.std.specs.Prelude.{◌≡◌, ℕ, ◌+◌, ◌^◌, ◌≤◌, List, length, None}
+use Rattle.std.specs.Prelude.{◌≡◌, ℕ, ◌+◌, ◌^◌, ◌≤◌, length, None}
 use Rattle.verity_geometry.specs.Geometry.{total_of}
 use Rattle.verity_superblock.specs.Image.{start_behind}
 use Rattle.verity_superblock.specs.Superblock.{superblock}

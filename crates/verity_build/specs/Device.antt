@@ -1,5 +1,5 @@
 -- What a hash store holds while a tree is written to it, or compared with it.
-use Rattle.std.specs.Prelude.{◌≡◌, ℕ, ◌+◌, ◌<◌, List, [], length, slice_index_or, Option, true}
+use Rattle.std.specs.Prelude.{◌≡◌, ℕ, ◌+◌, ◌<◌, List, [], length, slice_index_or, Option}
 use Rattle.verity_digest.specs.Tree.{Hashing, tree}
 use Rattle.verity_geometry.specs.Geometry.{Shape, place_of}
 use Rattle.verity_store.specs.Stores.{IsLater}

@@ -1,5 +1,5 @@
 -- When which fault is answered.
-use Rattle.std.specs.Prelude.{◌≡◌, ℕ, ◌<◌}
+use Rattle.std.specs.Prelude.{◌≡◌, ℕ}
 use Rattle.verity_profile.specs.Profile.{IsBlockCount}
 use Rattle.verity_geometry.specs.declared.fault.GeometryFault.TheVariants.{BadCount}
 use Rattle.verity_store.specs.declared.fault.Which.{Which}

@@ -5,3 +5,4 @@ pub mod Parameters
 pub mod Faults
 pub mod Texts
 pub mod Differences
+pub mod Given

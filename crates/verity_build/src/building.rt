@@ -1,5 +1,5 @@
 //! Builds a hash device.
-ghost use Rattle.std.specs.Prelude.{◌≡◌, ◌≢◌, ℕ, suc, ◌+◌, ◌-◌, ◌/◌, ◌^◌, ◌<◌, ◌≤◌, ◌↔◌, ◌++◌, ◌∷◌, [], true, length};
+ghost use Rattle.std.specs.Prelude.{◌≡◌, ◌≢◌, ℕ, suc, ◌+◌, ◌-◌, ◌/◌, ◌^◌, ◌<◌, ◌≤◌, ◌↔◌, ◌++◌, ◌∷◌, List, [], true, length};
 ghost use Rattle.std.specs.Prelude.{slice_index_or, slice_set, OnOk, OnErr, IfOk, IfErr, IsErrOf, None};
 ghost use Rattle.std.specs.List.{concat};
 ghost use Rattle.verity_digest.specs.Hash.{hashing};
@@ -12,6 +12,7 @@ ghost use Rattle.verity_superblock.specs.Image.{CanBegin, hash_image, hash_block
 ghost use Rattle.verity_superblock.specs.Superblock.{zero_filled};
 ghost use Rattle.verity_build.specs.Parameters.{salted_by, volume, front};
 ghost use Rattle.verity_build.specs.Faults.{CanBuild, Explains};
+ghost use Rattle.verity_build.specs.Given.{IsGivenImage, IsRootOfGiven};
 ghost use Rattle.verity_tree.specs.Climb.{AreEmpty};
 ghost use Rattle.verity_build.specs.Progress.{Growing, Grown, Settling, IsRight};
 ghost use Rattle.verity_build.specs.Device.{AreStored, StaysRight, StaysStored, WritesFrom};
@@ -86,6 +87,8 @@ fn write_tree<A: Allocator, D: BlockStore, H: BlockStore>(
     ensures grown { OnOk result (Grown (digests_per_block tree.old.geometry) tree.old.geometry.blocks (opens tree.new) tree.new.root) }
     ensures right { OnOk result (D.tells data_store.old ≡ true → let h = hashing tree.old.hasher.salted tree.old.geometry.hash_size in
         IsRight h (D.content data_store.old) (opens tree.new) tree.new.root) }
+    ensures given { OnOk result ((image : List (List ℕ)) × IsGivenImage D.BlockStore data_store.old data_store.new image
+        × IsRight (hashing tree.old.hasher.salted tree.old.geometry.hash_size) image (opens tree.new) tree.new.root) }
     ensures stored { OnOk result (D.tells data_store.old ≡ true → H.tells hash_store.old ≡ true
         → let h = hashing tree.old.hasher.salted tree.old.geometry.hash_size in
         AreStored tree.old.geometry start (tree_of h (D.content data_store.old)) (opens tree.new) (H.content hash_store.new)) }
@@ -162,6 +165,8 @@ fn write_device<A: Allocator, D: BlockStore, H: BlockStore>(
         ++ (zero_filled s.hash_size superblock.now ∷ tree_of (hashing tree.old.hasher.salted s.hash_size) (D.content data_store.old))) }
     ensures root { IfOk result (λ digest. D.tells data_store.old ≡ true
         → digest ≡ root (hashing tree.old.hasher.salted tree.old.geometry.hash_size) (D.content data_store.old)) }
+    ensures given { IfOk result (IsRootOfGiven D.BlockStore data_store.old data_store.new
+        (hashing tree.old.hasher.salted tree.old.geometry.hash_size)) }
     ensures front { (q : ℕ) → suc q < start → q < length (H.content hash_store.old)
         → slice_index_or (H.content hash_store.new) q [] ≡ slice_index_or (H.content hash_store.old) q [] }
     ensures data_store { IsOnlyRead D.BlockStore data_store.old data_store.new }
@@ -207,6 +212,8 @@ pub fn build<A: Allocator + Copy, P: Allocator, D: BlockStore, H: BlockStore>(
         (D.content data_store.old) []) }
     ensures root { IfOk result (λ digest. D.tells data_store.old ≡ true
         → digest ≡ root (hashing (salted_by params.now) (H.size hash_store.old)) (D.content data_store.old)) }
+    ensures given { IfOk result (IsRootOfGiven D.BlockStore data_store.old data_store.new
+        (hashing (salted_by params.now) (H.size hash_store.old))) }
     ensures ok { OnOk result (IsBlockCount (length (D.content data_store.old))) }
     ensures bad_count { IsErrOf result (BuildFault.Geometry GeometryFault.BadCount) ↔ ¬ IsBlockCount (length (D.content data_store.old)) }
     ensures fault { IfErr result (Explains (length (D.content data_store.old)) 0 (H.size hash_store.old)
@@ -263,6 +270,8 @@ pub fn build_at<A: Allocator + Copy, P: Allocator, D: BlockStore, H: BlockStore>
         (D.content data_store.old) (front offset (H.size hash_store.old) (H.content hash_store.old))) }
     ensures root { IfOk result (λ digest. D.tells data_store.old ≡ true
         → digest ≡ root (hashing (salted_by params.now) (H.size hash_store.old)) (D.content data_store.old)) }
+    ensures given { IfOk result (IsRootOfGiven D.BlockStore data_store.old data_store.new
+        (hashing (salted_by params.now) (H.size hash_store.old))) }
     ensures ok { OnOk result (CanBuild (length (D.content data_store.old)) offset (H.size hash_store.old)) }
     ensures bad_count { IsErrOf result (BuildFault.Geometry GeometryFault.BadCount) ↔ ¬ IsBlockCount (length (D.content data_store.old)) }
     ensures bad_offset { IsErrOf result BuildFault.Offset ↔ (IsBlockCount (length (D.content data_store.old))

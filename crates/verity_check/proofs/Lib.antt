@@ -7,3 +7,4 @@ pub mod RangeLemmas
 pub mod RangeRuns
 pub mod VerifierLemmas
 pub mod HoldsLaws
+pub mod ReportLaws

@@ -5,3 +5,4 @@ pub mod Refusal
 pub mod Run
 pub mod Verifier
 pub mod Holds
+pub mod Reported

@@ -1,13 +1,18 @@
 //! What follows for callers. Each function does nothing; its contract is a law, in the words of `specs/`. Proofs cite the
-//! lemmas of `proofs/`: `RangeLaw`, `FindingLaws`, `HoldsLaws`, and of `verity_chain`: `ChainLaw`.
-ghost use Rattle.std.specs.Prelude.{◌≡◌, ℕ, suc, ◌+◌, ◌*◌, ◌<◌, ◌≤◌, ◌≢◌, true, List, [], length};
+//! lemmas of `proofs/`: `RangeLaw`, `FindingLaws`, `ReportLaws`, `HoldsLaws`, and of `verity_chain`: `ChainLaw`.
+ghost use Rattle.std.specs.Prelude.{◌≡◌, ℕ, suc, ◌+◌, ◌*◌, ◌<◌, ◌≤◌, ◌≢◌, true, List, [], length, Contains};
 ghost use Rattle.std.specs.List.{concat};
 ghost use Rattle.verity_profile.specs.Profile.{AllSized};
 ghost use Rattle.verity_superblock.specs.Superblock.{Params, IsProfile};
 ghost use Rattle.verity_superblock.specs.Image.{hash_image};
 ghost use Rattle.verity_chain.specs.Table.{Table, IsTable};
 ghost use Rattle.verity_chain.specs.Chain.{AreSized, EndsChain, WrongAt};
-ghost use Rattle.verity_chain.specs.Right.{Fits, IsRight, AreRight, bytes_of};
+ghost use Rattle.verity_chain.specs.Right.{Fits, IsRight, AreRight, GaveOther, bytes_of};
+ghost use Rattle.verity_chain.specs.declared.place.Place.{Place};
+ghost use Rattle.verity_report.specs.declared.finding.Verdict.{Verdict};
+ghost use Rattle.verity_report.specs.declared.finding.Verdict.TheVariants as verdict;
+ghost use Rattle.verity_report.specs.Report.{IsReportGiven};
+ghost use Rattle.verity_check.specs.Reported.{IsWrongPlace, AllChained};
 ghost use Rattle.verity_check.specs.Range.{ServesBytes, Wrong};
 ghost use Rattle.verity_report.specs.declared.finding.Finding.TheVariants.{Good};
 ghost use Rattle.verity_report.specs.Finding.{finding};
@@ -45,6 +50,33 @@ pub fn chained_is_good<D: BlockStore, H: BlockStore>()
         → EndsChain t (hash_given H.BlockStore t marks.of_hash h) (suc level) index block
         → (finding t (held_in D.BlockStore H.BlockStore t d h) [] (suc level) index ≡ Good)
         × (block ≡ held_in D.BlockStore H.BlockStore t d h (suc level) index) }
+{}
+
+/// What a report says, whatever the stores are, by what they gave while it was made. It calls a place bad only where one gave, below a
+/// chain of given blocks, a block without the digest that is named there, so never one of an image that fits the table line, and unread
+/// only where one failed. Where it names no place, of each data block one was given that ends a chain: the image's own, or there is a
+/// clash.
+pub fn report_is_right<D: BlockStore, H: BlockStore>()
+    ensures bad { (t : Table) (marks : Marks) (d : _) (h : _) (faults : List (Place × Verdict)) (unchecked old new : ℕ) → IsTable t
+        → IsReportGiven t (given_in D.BlockStore H.BlockStore t marks d h) faults unchecked old new
+        → (place : Place) → Contains faults (place, verdict.Bad)
+        → IsWrongPlace t (given_in D.BlockStore H.BlockStore t marks d h) place }
+    ensures other { (t : Table) (marks : Marks) (d : _) (h : _) (faults : List (Place × Verdict)) (unchecked old new : ℕ) → IsTable t
+        → IsReportGiven t (given_in D.BlockStore H.BlockStore t marks d h) faults unchecked old new
+        → (image : List (List ℕ)) → Fits t image → (place : Place) → Contains faults (place, verdict.Bad)
+        → GaveOther t (given_in D.BlockStore H.BlockStore t marks d h) image }
+    ensures unread { (t : Table) (marks : Marks) (d : _) (h : _) (faults : List (Place × Verdict)) (unchecked old new : ℕ) → IsTable t
+        → IsReportGiven t (given_in D.BlockStore H.BlockStore t marks d h) faults unchecked old new
+        → (place : Place) → Contains faults (place, verdict.Unread) → old < new }
+    ensures verified { (t : Table) (marks : Marks) (d : _) (h : _) (unchecked old new : ℕ) → IsTable t
+        → IsReportGiven t (given_in D.BlockStore H.BlockStore t marks d h) [] unchecked old new
+        → AllChained t (given_in D.BlockStore H.BlockStore t marks d h) }
+    ensures right { (t : Table) (marks : Marks) (d : _) (h : _) (unchecked old new : ℕ) → IsTable t
+        → IsDataStoreOf D.BlockStore t d → IsHashStoreOf H.BlockStore t h
+        → IsReportGiven t (given_in D.BlockStore H.BlockStore t marks d h) [] unchecked old new
+        → (image : List (List ℕ)) → Fits t image → (n : ℕ) → n < t.data_blocks
+        → (block : List ℕ) × given_in D.BlockStore H.BlockStore t marks d h 0 n block
+        × IsRight t (given_in D.BlockStore H.BlockStore t marks d h) image n block }
 {}
 
 /// Where the stores hold the image and its tree, nothing wrong was given, and what was served is the image's.

@@ -47,11 +47,11 @@ IsOfSystem refuses store.Device = refuses
 IsOfSystem refuses store.NoMemory = ⊤
 IsOfSystem refuses _ = ⊥
 
--- and S5, of this store, where its lock is asked for too
-abbrev pub IsOfLock : Type 0 → Which → Fault → Type 0
-IsOfLock refuses which (InUse other) = other ≡ which
-IsOfLock refuses which (Store fault) = IsOfSystem refuses fault
-IsOfLock refuses which _ = ⊥
+-- and S5, of this store, where its lock is asked for too, which another's shuts out
+abbrev pub IsOfLock : (refuses shut_out : Type 0) → Which → Fault → Type 0
+IsOfLock refuses shut_out which (InUse other) = (other ≡ which) × shut_out
+IsOfLock refuses shut_out which (Store fault) = IsOfSystem refuses fault
+IsOfLock refuses shut_out which _ = ⊥
 
 -- where it is S1, for this reason
 abbrev pub IsS1For : Type 0 → Failure → Type 0

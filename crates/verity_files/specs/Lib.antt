@@ -6,3 +6,4 @@ pub mod Lengths
 pub mod Misread
 pub mod VolumeFiles
 pub mod Words
+pub mod Opening

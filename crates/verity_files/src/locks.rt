@@ -22,7 +22,7 @@ enum Told {
 /// out; S1 where the system fails, S3 for want of memory.
 pub(crate) fn take_lock(file: &File, lock: Lock, which: Which) -> Result<(), Fault>
     ensures open { lock ≡ Lock.Open → IsOk result }
-    ensures refused { IfErr result (IsOfLock ⊤ which) }
+    ensures refused { IfErr result (IsOfLock ⊤ ⊤ which) }
 {
     answer(ask(file, lock), which)
 }
@@ -52,7 +52,7 @@ fn answer(told: Told, which: Which) -> Result<(), Fault>
     ensures locked { IsOk result ↔ (told ≡ Told.Locked) }
     ensures in_use { (result ≡ Err (fault.InUse which)) ↔ (told ≡ Told.InUse) }
     ensures memory { (result ≡ Err (fault.Store StoreFault.NoMemory)) ↔ (told ≡ Told.NoMemory) }
-    ensures refused { IfErr result (IsOfLock ⊤ which) }
+    ensures refused { IfErr result (IsOfLock ⊤ ⊤ which) }
     ensures failed { (result ≡ Err (fault.Store StoreFault.Device)) ↔ (told ≡ Told.Failed) }
 {
     match told {

@@ -3,6 +3,7 @@ ghost use Rattle.std.specs.Prelude.{◌≡◌, ⊤, true, IfOk, IfErr};
 ghost use Rattle.std.specs.IoError.{error_kind};
 ghost use Rattle.verity_files.specs.Commands.{lock_of, writes};
 ghost use Rattle.verity_files.specs.Errors.{IsOfLock, IsOfSystem, is_memory, store_fault_of};
+ghost use Rattle.verity_files.specs.Opening.{IsShutOut};
 ghost use Rattle.verity_files.specs.declared.failure.Failure.TheVariants as failure;
 
 use crate::command::Command;
@@ -50,7 +51,7 @@ pub fn open_locked<P: Paths>(
     ensures opened { IfOk result (P.opens rt.now path.now) }
     ensures permitted { IfOk result (λ opened. P.permits rt.now opened (writes command which)) }
     ensures locked { IfOk result (λ opened. P.locks rt.now opened (lock_of command)) }
-    ensures refused { IfErr result (IsOfLock (P.refuses rt.now ≡ true) which) }
+    ensures refused { IfErr result (IsOfLock (P.refuses rt.now ≡ true) (IsShutOut P.Paths rt.now path.now (lock_of command)) which) }
 {
     let opened = open_there(rt, path, command, which)?;
     rt.lock(&opened, command.lock(), which)?;

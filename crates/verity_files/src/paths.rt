@@ -40,6 +40,9 @@ pub trait Paths {
     /// This lock was taken on what was opened.
     ghost locks: { Self → Opened → Lock → Type 0 };
 
+    /// Another has a lock on what was opened that shuts this one out.
+    ghost shuts_out: { Self → Opened → Lock → Type 0 };
+
     /// A path leads to the file whose own path this is, or has no other.
     ghost leads: { Self → List ℕ → List ℕ → Type 0 };
 
@@ -97,7 +100,7 @@ pub trait Paths {
     fn lock(&self, opened: &Opened, lock: Lock, which: Which) -> Result<(), Fault>
         ensures locked { OnOk result (locks self.now opened.now lock) }
         ensures open { lock ≡ Lock.Open → IsOk result }
-        ensures refused { IfErr result (IsOfLock (refuses self.now ≡ true) which) };
+        ensures refused { IfErr result (IsOfLock (refuses self.now ≡ true) (shuts_out self.now opened.now lock) which) };
 
     /// The path of what a path leads to; the path itself where there is nothing, or the system doesn't say. No error but want of memory.
     fn real_path(&self, alloc: Global, path: &str) -> Result<String, Failure>
@@ -154,7 +157,8 @@ pub trait Paths {
         ensures refused { IfErr result (IsOfScript (refuses self.now ≡ true)) };
 
     /// Asks for the entries of the folder to be kept in which a path stands.
-    fn sync_folder(&self, path: &str) -> io::Result<()>;
+    fn sync_folder(&self, path: &str) -> io::Result<()>
+        ensures refused { OnErr result (refuses self.now ≡ true) };
 
     /// Removes a file that this program made, where nothing was written to it yet; of a link, the file that it names.
     fn unmake(&self, alloc: Global, path: &str);
@@ -173,6 +177,8 @@ impl<R: Files<File = File>> Paths for R {
     ghost permits = { λ _ _ _. ⊤ };
 
     ghost locks = { λ _ _ _. ⊤ };
+
+    ghost shuts_out = { λ _ _ _. ⊤ };
 
     ghost leads = { λ _ _ _. ⊤ };
 

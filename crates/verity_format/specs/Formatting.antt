@@ -1,12 +1,15 @@
 -- What `format` was asked for, and the line of what it made.
-use Rattle.std.specs.Prelude.{◌≡◌, ◌<◌, ◌/◌, ℕ, List, Option, Some, None, Result, Ok, Err, IfSome, MatchOption}
+use Rattle.std.specs.Prelude.{◌≡◌, ◌≢◌, ◌<◌, ◌/◌, ℕ, List, Option, Some, None, Result, Ok, Err, IfSome, MatchOption}
 use Rattle.verity_superblock.specs.Line.{TableLine, algorithm_of}
 use Rattle.verity_digest.specs.Hash.{name_of}
+use Rattle.verity_files.specs.Commands.{lock_of}
 use Rattle.verity_files.specs.Words.{number_in, uuid_in}
+use Rattle.verity_files.specs.declared.command.Command.TheVariants.{Format}
 use Rattle.verity_files.specs.declared.failure.Failure.{Failure}
 use Rattle.verity_files.specs.declared.failure.Word.TheVariants as word
 use Rattle.verity_files.specs.declared.opening.Opened.{Opened}
 use Rattle.verity_files.specs.declared.paths.Paths.{Ghosts}
+use Rattle.verity_gate.specs.Journals.{IsShut}
 use Rattle.verity_words.specs.declared.words.format.FormatWords.{FormatWords}
 use Rattle.verity_format.specs.declared.formatting.Made.{Made}
 use Rattle.verity_format.specs.declared.formatting.Shape.{Shape}
@@ -51,3 +54,14 @@ line_made words shape made salt = record {
   root = made.root;
   salt = salt;
 }
+
+-- what `format` works on: two files that were opened at its paths and locked; no gate is open beside the hash device
+pub record AreTaken {P : Type 0} (facts : Ghosts P) (p : P) (words : FormatWords) : Type 0 where
+  pub image : Opened
+  pub device : Opened
+  pub data_opened : facts.opens p words.data_path.now image
+  pub hash_opened : facts.opens p words.hash_path.now device
+  pub apart : image.identity ≢ device.identity
+  pub data_locked : facts.locks p image (lock_of Format)
+  pub hash_locked : facts.locks p device (lock_of Format)
+  pub shut : IsShut facts p words.hash_path.now

@@ -1,3 +1,4 @@
 pub mod Blamed
 pub mod Formatting
 pub mod Printed
+pub mod Made

@@ -1,18 +1,30 @@
 -- What `format` prints.
 use Rattle.std.specs.Prelude.{◌≡◌, ℕ, List, Option, Some, Ok}
 use Rattle.std.specs.Io.KnownBytes.{Appends}
+use Rattle.verity_digest.specs.Hash.{name_of}
+use Rattle.verity_store.specs.Stores.{IsOnlyRead}
+use Rattle.verity_store.specs.declared.store.BlockStore as store
 use Rattle.verity_superblock.specs.Image.{start_behind}
 use Rattle.verity_superblock.specs.Line.{TableLine, IsTableLine, canonical}
+use Rattle.verity_build.specs.Given.{AreGiven}
+use Rattle.verity_chain.specs.Right.{Fits}
 use Rattle.verity_files.specs.Faults.{line}
 use Rattle.verity_files.specs.Words.{number_in, salt_of}
 use Rattle.verity_files.specs.declared.failure.Word.TheVariants as word
 use Rattle.verity_words.specs.declared.words.format.FormatWords.{FormatWords}
+use Rattle.verity_format.specs.Formatting.{IsAsked}
+use Rattle.verity_format.specs.declared.formatting.Shape.{Shape}
 
--- what `format` prints: one table line of the profile, with the paths, the block sizes and the salt that were asked for, of a tree that
--- begins behind the superblock
-pub record IsFormatted (words : FormatWords) (old new : Option (List ℕ)) : Type 0 where
+-- what `format` prints: one table line of the profile, with the paths, the block sizes, the algorithm and the salt that were asked for, of
+-- a tree that begins behind the superblock; it fits an image of which each block was read of a store of which this holds
+pub record IsFormatted {D : Type 0} (facts : store.Ghosts D) (lies : Shape → D → Type 0) (words : FormatWords)
+    (old new : Option (List ℕ)) : Type 0 where
   pub table : TableLine
   pub offset : ℕ
+  pub shape : Shape
+  pub image : List (List ℕ)
+  pub source : D
+  pub source' : D
   pub profile : IsTableLine table
   pub dev : table.dev ≡ words.data_path.now
   pub hash_dev : table.hash_dev ≡ words.hash_path.now
@@ -21,4 +33,10 @@ pub record IsFormatted (words : FormatWords) (old new : Option (List ℕ)) : Typ
   pub salt : salt_of words.salt.now ≡ Some table.salt
   pub asked : number_in word.HashOffset words.hash_offset.now ≡ Ok offset
   pub start : table.hash_start_block ≡ start_behind offset table.hash_block_size
+  pub algorithm : words.algorithm.now ≡ name_of table.algorithm
+  pub shaped : IsAsked words shape
+  pub there : lies shape source
+  pub read : IsOnlyRead facts source source'
+  pub given : AreGiven facts source source' image
+  pub fits : Fits table image
   pub printed : Appends old new (line (canonical table))

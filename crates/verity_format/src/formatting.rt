@@ -1,6 +1,9 @@
 //! The command `format`: makes the hash device of a block image.
 
-ghost use Rattle.std.specs.Prelude.{◌≡◌, ◌⊎◌, true, None, Ok, Err, IfSome, IfOk, IfErr, OnOk, string_bytes};
+ghost use Rattle.std.specs.Prelude.{◌≡◌, ◌≢◌, ◌⊎◌, true, None, Ok, Err, IfSome, IfOk, IfErr, OnOk, string_bytes};
+ghost use Rattle.verity_digest.specs.Hash.{hashing};
+ghost use Rattle.verity_build.specs.Parameters.{salted_by};
+ghost use Rattle.verity_files.specs.Commands.{lock_of};
 ghost use Rattle.verity_files.specs.Words.{number_in};
 ghost use Rattle.verity_files.specs.declared.failure.Failure.TheVariants as failure;
 ghost use Rattle.verity_files.specs.declared.failure.Word.TheVariants as word;
@@ -13,7 +16,8 @@ ghost use Rattle.verity_gate.specs.Refusals.{BlamesAtMost};
 ghost use Rattle.verity_files.specs.Misread.{IsMisread};
 ghost use Rattle.verity_volume.specs.Opening.{IsOneFile};
 ghost use Rattle.verity_format.specs.Blamed.{FormatBlames, Misreads};
-ghost use Rattle.verity_format.specs.Formatting.{line_made, some_blocks, FallsShort, HasFewer, IsAsked, IsShort};
+ghost use Rattle.verity_format.specs.Formatting.{line_made, some_blocks, AreTaken, FallsShort, HasFewer, IsAsked, IsShort};
+ghost use Rattle.verity_format.specs.Made.{IsMadeOf, LiesAs, LiesAsked};
 ghost use Rattle.verity_format.specs.Printed.{IsFormatted};
 
 use std::alloc::Global;
@@ -64,7 +68,10 @@ pub fn format<R: Paths + Clock + Eprint + AllocGlobal, W: Write, E: IsTerminal>(
     output: &mut W,
     errors: &E,
 ) -> Result<(), Failure>
-    ensures printed { OnOk result (IsFormatted words.now (W.contents output.old) (W.contents output.new)) }
+    ensures printed { OnOk result (IsFormatted ⟦<VolumeStore as BlockStore>⟧
+        (λ shape source. LiesAsked R.Paths rt.now words.now.data_path.now shape source.file)
+        words.now (W.contents output.old) (W.contents output.new)) }
+    ensures taken { OnOk result (AreTaken R.Paths rt.now words.now) }
     ensures blames { IfErr result (FormatBlames R.Paths rt.now words.now) }
     ensures system { IfErr result (IsS1For ((R.refuses rt.now ≡ true) ⊎ FallsShort R.Paths rt.now words.now)) }
 {
@@ -130,6 +137,11 @@ fn make<R: Paths + Clock + Eprint + AllocGlobal>(
     salt_bytes: &[u8],
     is_watched: bool,
 ) -> Result<Made, Failure>
+    ensures taken { OnOk result (AreTaken R.Paths rt.now words.now) }
+    ensures built { IfOk result (λ made. IsMadeOf ⟦<VolumeStore as BlockStore>⟧
+        (λ source. LiesAsked R.Paths rt.now words.now.data_path.now shape.now source.file)
+        (hashing (record { algorithm = shape.now.algorithm; salt = salt_bytes.now }) shape.now.hash_block_size)
+        shape.now.data_block_size made.data_blocks made.root) }
     ensures start { IfOk result (λ made. made.hash_start_block ≡ start_behind shape.now.hash_offset shape.now.hash_block_size) }
     ensures one { IfErr result (λ e. e ≡ Failure.Word word.Hash
         → IsOneFile R.Paths rt.now words.now.data_path.now words.now.hash_path.now) }
@@ -150,10 +162,10 @@ fn make<R: Paths + Clock + Eprint + AllocGlobal>(
         shape.hash_offset,
     );
     match built {
-        Ok((data_blocks, root)) => Ok(Made {
-            data_blocks,
+        Ok(image) => Ok(Made {
+            data_blocks: image.0,
             hash_start_block: tree_start(shape.hash_offset, hash_size)?,
-            root,
+            root: image.1,
         }),
         Err(fault) => {
             if is_new {
@@ -173,7 +185,11 @@ fn build_watched<R: Clock + Eprint + AllocGlobal>(
     hash_store: VolumeStore,
     params: &BuildParameters,
     offset: u64,
-) -> Result<(u64, Digest), BuildFault> {
+) -> Result<(u64, Digest), BuildFault>
+    ensures { IfOk result (λ built. IsMadeOf ⟦<VolumeStore as BlockStore>⟧ (λ source. source ≡ data_store)
+        (hashing (salted_by params.now) (⟦<VolumeStore as BlockStore>⟧.size hash_store))
+        (⟦<VolumeStore as BlockStore>⟧.size data_store) built.0 built.1) }
+{
     let progress = progress_of(rt, is_watched, &data_store);
     let mut data_store = Watched::new(data_store, progress.as_ref());
     let mut hash_store = hash_store;
@@ -196,7 +212,10 @@ fn data_blocks(asked: Option<&str>) -> Result<Option<u64>, Failure>
 
 /// DATA, and which file it is.
 fn open_data<R: Paths>(rt: &R, path: &str, shape: &Shape) -> Result<(VolumeStore, Identity), Fault>
-    ensures opened { IfOk result (λ opened. (image : Opened) × R.opens rt.now path.now image × (image.identity ≡ opened.1)) }
+    ensures opened { IfOk result (λ opened. (image : Opened) × R.opens rt.now path.now image × (image.identity ≡ opened.1)
+        × R.locks rt.now image (lock_of Command.Format)) }
+    ensures lies { IfOk result (λ opened. LiesAsked R.Paths rt.now path.now shape.now opened.0.file) }
+    ensures size { IfOk result (λ opened. ⟦<VolumeStore as BlockStore>⟧.size opened.0 ≡ shape.now.data_block_size) }
     ensures system { IfErr result (λ e. e ≡ Fault.Store StoreFault.Device
         → (R.refuses rt.now ≡ true) ⊎ IsShort R.Paths rt.now path.now shape.now) }
 {
@@ -208,7 +227,9 @@ fn open_data<R: Paths>(rt: &R, path: &str, shape: &Shape) -> Result<(VolumeStore
 
 /// A store over all of DATA, or over as many blocks as were asked for.
 fn image_store<R: Paths>(rt: &R, data: Opened, shape: &Shape) -> Result<VolumeStore, StoreFault>
-    ensures { result ≡ Err StoreFault.Device → (R.refuses rt.now ≡ true) ⊎ HasFewer «data» shape.now }
+    ensures lies { IfOk result (λ store. LiesAs shape.now «data» store.file) }
+    ensures size { IfOk result (λ store. ⟦<VolumeStore as BlockStore>⟧.size store ≡ shape.now.data_block_size) }
+    ensures short { result ≡ Err StoreFault.Device → (R.refuses rt.now ≡ true) ⊎ HasFewer «data» shape.now }
 {
     match shape.data_blocks {
         Some(blocks) => store_of_first(data, shape.data_block_size, blocks),
@@ -225,6 +246,8 @@ fn open_hash<R: Paths + AllocGlobal>(
     data: Identity,
 ) -> Result<(VolumeStore, bool), Failure>
     ensures size { IfOk result (λ opened. ⟦<VolumeStore as BlockStore>⟧.size opened.0 ≡ shape.now.hash_block_size) }
+    ensures opened { OnOk result ((device : Opened) × R.opens rt.now path.now device × («data» ≢ device.identity)
+        × R.locks rt.now device (lock_of Command.Format)) }
     ensures one { IfErr result (λ e. e ≡ Failure.Word word.Hash
         → (device : Opened) × R.opens rt.now path.now device × («data» ≡ device.identity)) }
     ensures blames { IfErr result (BlamesAtMost word.Hash) }
@@ -255,7 +278,8 @@ fn lock_or_unmake<R: Paths + AllocGlobal>(
     hash: &Opened,
     is_new: bool,
 ) -> Result<(), Fault>
-    ensures { IfErr result (IsOfLock (R.refuses rt.now ≡ true) Which.Hash) }
+    ensures locked { OnOk result (R.locks rt.now hash.now (lock_of Command.Format)) }
+    ensures refused { IfErr result (IsOfLock (R.refuses rt.now ≡ true) (R.shuts_out rt.now hash.now (lock_of Command.Format)) Which.Hash) }
 {
     let taken = rt.lock(hash, Command::Format.lock(), Which::Hash);
     if is_new && matches!(taken, Err(Fault::Store(_))) {

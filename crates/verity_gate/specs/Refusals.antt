@@ -1,24 +1,42 @@
 -- Why a journal isn't found, opened or recovered from.
-use Rattle.std.specs.Prelude.{◌≡◌, ⊤}
+use Rattle.std.specs.Prelude.{◌≡◌, ◌⊎◌, ℕ, true, List, ⊤}
 use Rattle.verity_files.specs.Errors.{IsOfSystem}
+use Rattle.verity_files.specs.Identities.{IsDevice}
+use Rattle.verity_files.specs.declared.opening.Opened.{Opened}
+use Rattle.verity_files.specs.declared.paths.Paths.{Ghosts}
 use Rattle.verity_files.specs.declared.failure.Failure.{Failure}
 use Rattle.verity_files.specs.declared.failure.Failure.TheVariants as failure
 use Rattle.verity_files.specs.declared.failure.Word.{Word}
 use Rattle.verity_files.specs.declared.fault.Fault.{Fault}
 use Rattle.verity_files.specs.declared.fault.Fault.TheVariants as fault
 use Rattle.verity_pending.specs.declared.fault.EditFault.TheVariants as edit
+use Rattle.verity_store.specs.declared.fault.StoreFault.{StoreFault}
 use Rattle.verity_store.specs.declared.fault.StoreFault.TheVariants as store
+use Rattle.verity_gate.specs.Journals.{Beside}
 
 -- no word of the command is blamed
 abbrev pub BlamesNone : Failure → Type 0
 BlamesNone (failure.Word word) = ⊥
 BlamesNone _ = ⊤
 
--- a journal isn't opened: want of memory, or what stands there can't be used
-abbrev pub IsUnopened : Fault → Type 0
-IsUnopened (fault.Store store.NoMemory) = ⊤
-IsUnopened fault.Journal = ⊤
-IsUnopened _ = ⊥
+-- no journal can be used at a path: the system refused a call, or a block device was opened there
+abbrev pub IsUnusableAt : {P : Type 0} → Ghosts P → P → List ℕ → Type 0
+IsUnusableAt facts p path = (facts.refuses p ≡ true) ⊎ ((opened : Opened) × facts.opens p path opened × IsDevice opened.identity)
+
+-- nor beside a hash device
+abbrev pub IsUnusable : {P : Type 0} → Ghosts P → P → List ℕ → Type 0
+IsUnusable facts p hash_path = (path : List ℕ) × Beside facts p hash_path path × IsUnusableAt facts p path
+
+-- of a journal S3 for want of memory, S7 for all else
+abbrev pub journal_fault_of : StoreFault → Fault
+journal_fault_of store.NoMemory = fault.Store store.NoMemory
+journal_fault_of _ = fault.Journal
+
+-- a journal isn't opened: want of memory, or it can't be used
+abbrev pub IsUnopened : Type 0 → Fault → Type 0
+IsUnopened unusable (fault.Store store.NoMemory) = ⊤
+IsUnopened unusable fault.Journal = unusable
+IsUnopened unusable _ = ⊥
 
 -- nor is it read
 abbrev pub IsUnread : Failure → Type 0
@@ -26,12 +44,12 @@ IsUnread failure.NoMemory = ⊤
 IsUnread (failure.Refused fault.Journal) = ⊤
 IsUnread _ = ⊥
 
--- a gate isn't shut: want of memory, it is open, or it can't be looked at
-abbrev pub IsUnshut : Failure → Type 0
-IsUnshut failure.NoMemory = ⊤
-IsUnshut (failure.Refused fault.UnderWay) = ⊤
-IsUnshut (failure.Refused fault.Journal) = ⊤
-IsUnshut _ = ⊥
+-- a gate isn't shut: want of memory, it is open, or its journal can't be used
+abbrev pub IsUnshut : (under_way unusable : Type 0) → Failure → Type 0
+IsUnshut under_way unusable failure.NoMemory = ⊤
+IsUnshut under_way unusable (failure.Refused fault.UnderWay) = under_way
+IsUnshut under_way unusable (failure.Refused fault.Journal) = unusable
+IsUnshut under_way unusable _ = ⊥
 
 -- no other word than this one is blamed
 abbrev pub BlamesAtMost : Word → Failure → Type 0

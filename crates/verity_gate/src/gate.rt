@@ -1,18 +1,18 @@
 //! The gate of a journal, and what stands at a journal's path.
-ghost use Rattle.std.specs.Prelude.{◌≡◌, Ok, IfOk, IfErr, OnOk};
+ghost use Rattle.std.specs.Prelude.{◌≡◌, true, IfOk, IfErr, OnOk};
+ghost use Rattle.verity_files.specs.Identities.{IsDevice};
 ghost use Rattle.verity_gate.specs.Journals.{HasOpenGate, HasShutGate, IsFound, IsOpen, IsOpenAt, IsOtherShut, IsShut, IsShutAt};
-ghost use Rattle.verity_gate.specs.Refusals.{IsUnopened, IsUnshut};
+ghost use Rattle.verity_gate.specs.Refusals.{IsUnopened, IsUnshut, IsUnusable, IsUnusableAt, journal_fault_of};
 
 use crate::places::path_beside;
 use verity_files::{Command, Failure, Fault, Identity, Opened, Paths, open_there};
 use verity_store::{StoreFault, Which};
 
-/// That no commit of a hash device is under way, as the journal beside it says: S6 where its gate is open. Of a device, which
-/// has none beside it, nothing is known.
+/// That no commit of a hash device is under way, as the journal beside it says: S6 where its gate is open, S7 where it is no regular file
+/// or the system refuses to open or read it. Of a device, which has none beside it, nothing is known.
 pub fn check_gate<P: Paths + AllocGlobal>(rt: &P, hash_path: &str) -> Result<(), Failure>
     ensures shut { OnOk result (IsShut P.Paths rt.now hash_path.now) }
-    ensures under_way { IfErr result (λ e. e ≡ Failure.Refused Fault.UnderWay → IsOpen P.Paths rt.now hash_path.now) }
-    ensures refused { IfErr result IsUnshut }
+    ensures refused { IfErr result (IsUnshut (IsOpen P.Paths rt.now hash_path.now) (IsUnusable P.Paths rt.now hash_path.now)) }
 {
     if rt.is_device(hash_path) {
         return Ok(());
@@ -28,8 +28,7 @@ pub fn check_other_gate<P: Paths + AllocGlobal>(
     named: &str,
 ) -> Result<(), Failure>
     ensures shut { OnOk result (IsOtherShut P.Paths rt.now hash_path.now named.now) }
-    ensures under_way { IfErr result (λ e. e ≡ Failure.Refused Fault.UnderWay → IsOpen P.Paths rt.now hash_path.now) }
-    ensures refused { IfErr result IsUnshut }
+    ensures refused { IfErr result (IsUnshut (IsOpen P.Paths rt.now hash_path.now) (IsUnusable P.Paths rt.now hash_path.now)) }
 {
     if rt.is_device(hash_path) {
         return Ok(());
@@ -43,11 +42,10 @@ pub fn check_other_gate<P: Paths + AllocGlobal>(
     }
 }
 
-/// That the gate of a journal is closed, or there is none. S6.
+/// That the gate of a journal is closed, or there is none. S6, S7.
 fn check_gate_at<P: Paths>(rt: &P, path: &str) -> Result<(), Failure>
     ensures shut { OnOk result (IsShutAt P.Paths rt.now path.now) }
-    ensures under_way { IfErr result (λ e. e ≡ Failure.Refused Fault.UnderWay → IsOpenAt P.Paths rt.now path.now) }
-    ensures refused { IfErr result IsUnshut }
+    ensures refused { IfErr result (IsUnshut (IsOpenAt P.Paths rt.now path.now) (IsUnusableAt P.Paths rt.now path.now)) }
 {
     let Some(opened) = open_journal(rt, path, Command::Verify)? else {
         return Ok(());
@@ -58,8 +56,7 @@ fn check_gate_at<P: Paths>(rt: &P, path: &str) -> Result<(), Failure>
 /// That what was opened is empty, or its first byte is 0.
 fn check_first_byte<P: Paths>(rt: &P, opened: Opened) -> Result<(), Failure>
     ensures shut { OnOk result (HasShutGate P.Paths rt.now opened) }
-    ensures under_way { IfErr result (λ e. e ≡ Failure.Refused Fault.UnderWay → HasOpenGate P.Paths rt.now opened) }
-    ensures refused { IfErr result IsUnshut }
+    ensures refused { IfErr result (IsUnshut (HasOpenGate P.Paths rt.now opened) (P.refuses rt.now ≡ true)) }
 {
     if opened.len == 0 {
         return Ok(());
@@ -83,28 +80,34 @@ pub(crate) fn open_journal<P: Paths>(
     command: Command,
 ) -> Result<Option<Opened>, Fault>
     ensures found { IfOk result (IsFound P.Paths rt.now path.now) }
-    ensures refused { IfErr result IsUnopened }
+    ensures refused { IfErr result (IsUnopened (IsUnusableAt P.Paths rt.now path.now)) }
 {
     if !rt.is_there(path)? {
         return Ok(None);
     }
-    match regular(open_there(rt, path, command, Which::Hash)) {
-        Ok(opened) => Ok(Some(opened)),
-        Err(fault) => Err(fault),
+    match open_there(rt, path, command, Which::Hash) {
+        Ok(opened) => Ok(Some(regular(opened)?)),
+        Err(fault) => Err(journal_fault(fault)),
     }
 }
 
 /// A journal that was opened, where it is a regular file. S7.
-pub(crate) fn regular(opened: Result<Opened, StoreFault>) -> Result<Opened, Fault>
-    ensures same { IfOk result (λ journal. «opened» ≡ Ok journal) }
-    ensures refused { IfErr result IsUnopened }
+pub(crate) fn regular(opened: Opened) -> Result<Opened, Fault>
+    ensures same { IfOk result (λ journal. journal ≡ opened) }
+    ensures refused { IfErr result (IsUnopened (IsDevice opened.identity)) }
 {
-    match opened {
-        Ok(opened) => match opened.identity {
-            Identity::File(_, _) => Ok(opened),
-            Identity::Device(_) => Err(Fault::Journal),
-        },
-        Err(StoreFault::NoMemory) => Err(Fault::Store(StoreFault::NoMemory)),
-        Err(_) => Err(Fault::Journal),
+    match opened.identity {
+        Identity::File(_, _) => Ok(opened),
+        Identity::Device(_) => Err(Fault::Journal),
+    }
+}
+
+/// S3 for want of memory, S7 for all else.
+pub(crate) fn journal_fault(fault: StoreFault) -> Fault
+    ensures { result ≡ journal_fault_of fault }
+{
+    match fault {
+        StoreFault::NoMemory => Fault::Store(StoreFault::NoMemory),
+        _ => Fault::Journal,
     }
 }

@@ -7,7 +7,7 @@ ghost use Rattle.verity_gate.specs.Journals.{IsOneOf, Recovers, Stands, Starts, 
 ghost use Rattle.verity_files.specs.Errors.{IsS1For};
 ghost use Rattle.verity_gate.specs.Refusals.{BlamesAtMost, IsOfFile, IsOfJournal, IsUnread};
 
-use crate::gate::{open_journal, regular};
+use crate::gate::{journal_fault, open_journal, regular};
 use std::alloc::{AllocError, Global};
 use std::fs::File;
 use verity_edit::EditFault;
@@ -106,7 +106,7 @@ pub fn make_journal<P: Paths + AllocGlobal>(
     ensures refused { IfErr result (IsOfJournal (P.refuses rt.now ≡ true)) }
 {
     let opened = match rt.open_or_make(rt.alloc(), path) {
-        Ok((opened, _)) => regular(Ok(opened))?,
+        Ok((opened, _)) => regular(opened)?,
         Err(fault) => return Err(journal_fault(fault)),
     };
     match started_anew(rt, path, data, hash, opened) {
@@ -134,16 +134,6 @@ fn started_anew<P: Paths + AllocGlobal>(
         return Err(Fault::Journal);
     }
     started(rt, data, hash, journal, Vec::new(rt.alloc()))
-}
-
-/// S3 for want of memory, S7 for all else.
-fn journal_fault(fault: StoreFault) -> Fault
-    ensures { IsOfJournal ⊥ result }
-{
-    match fault {
-        StoreFault::NoMemory => Fault::Store(StoreFault::NoMemory),
-        _ => Fault::Journal,
-    }
 }
 
 /// The three files, started.

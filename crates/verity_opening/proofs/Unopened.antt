@@ -9,14 +9,67 @@ use Rattle.verity_files.specs.declared.failure.Failure.TheVariants as failure
 use Rattle.verity_files.specs.Errors.{IsS1For}
 use Rattle.verity_files.specs.Faults.{failure_of, is_want}
 use Rattle.verity_files.specs.declared.fault.Fault.TheVariants as fault
-use Rattle.verity_opening.specs.Opening.{OpensNoHub}
+use Rattle.verity_store.specs.declared.fault.Which.TheVariants as which
+use Rattle.verity_superblock.specs.Line.{TableLine, Line}
+use Rattle.verity_files.specs.declared.command.Command.{Command}
+use Rattle.verity_files.specs.declared.paths.Paths.{Ghosts}
+use Rattle.verity_gate.specs.Journals.{IsOpen}
+use Rattle.verity_gate.specs.Refusals.{IsUnshut, IsUnusable}
+use Rattle.verity_opening.specs.Opening.{OpensNone, OpensNoHub}
 
--- a verifier isn't made for one of three reasons
-pub unmade : (line name : List ℕ) (cache : ℕ) (e : CheckFault) → (e ≡ check.CacheSize → ¬ IsCacheSize cache)
-    → (e ≡ check.Lengths) ⊎ (e ≡ check.CacheSize) ⊎ (e ≡ check.NoMemory) → OpensNoHub line name cache (failure_of (fault.Check e))
-unmade line name cache e size (inl is) = subst (λ e. OpensNoHub line name cache (failure_of (fault.Check e))) (sym is) tt
-unmade line name cache e size (inr (inl is)) = subst (λ e. OpensNoHub line name cache (failure_of (fault.Check e))) (sym is) (size is)
-unmade line name cache e size (inr (inr is)) = subst (λ e. OpensNoHub line name cache (failure_of (fault.Check e))) (sym is) tt
+module _ {P : Type 0} (facts : Ghosts P) (p : P) (command : Command) where
+  -- a verifier isn't made for one of three reasons
+  pub unmade : (line name : List ℕ) (cache : ℕ) (e : CheckFault) → (e ≡ check.CacheSize → ¬ IsCacheSize cache)
+      → (e ≡ check.Lengths) ⊎ (e ≡ check.CacheSize) ⊎ (e ≡ check.NoMemory)
+      → OpensNoHub facts p line name cache command (failure_of (fault.Check e))
+  unmade line name cache e size (inl is) =
+      subst (λ e. OpensNoHub facts p line name cache command (failure_of (fault.Check e))) (sym is) tt
+  unmade line name cache e size (inr (inl is)) =
+      subst (λ e. OpensNoHub facts p line name cache command (failure_of (fault.Check e))) (sym is) (size is)
+  unmade line name cache e size (inr (inr is)) =
+      subst (λ e. OpensNoHub facts p line name cache command (failure_of (fault.Check e))) (sym is) tt
+
+  module _ (table : TableLine) where
+    -- nor where its files aren't opened
+    pub unopened : (line name : List ℕ) (cache : ℕ) (e : Failure) → Line line table → OpensNone facts p table command e
+        → OpensNoHub facts p line name cache command e
+    unopened line name cache failure.NoMemory parsed is = tt
+    unopened line name cache (failure.Refused (fault.Store f)) parsed is = (table, parsed, is)
+    unopened line name cache (failure.Refused (fault.InUse which.Data)) parsed is = (table, parsed, is)
+    unopened line name cache (failure.Refused (fault.InUse which.Hash)) parsed is = (table, parsed, is)
+    unopened line name cache (failure.Refused fault.UnderWay) parsed is = (table, parsed, is)
+    unopened line name cache (failure.Refused fault.Journal) parsed is = (table, parsed, is)
+    unopened line name cache (failure.Word word) parsed is = elim is [ ]
+    unopened line name cache (failure.Refused fault.NewInUse) parsed is = elim is [ ]
+    unopened line name cache (failure.Refused (fault.Salt f)) parsed is = elim is [ ]
+    unopened line name cache (failure.Refused (fault.Superblock f)) parsed is = elim is [ ]
+    unopened line name cache (failure.Refused (fault.Table f)) parsed is = elim is [ ]
+    unopened line name cache (failure.Refused (fault.Build f)) parsed is = elim is [ ]
+    unopened line name cache (failure.Refused (fault.Check f)) parsed is = elim is [ ]
+    unopened line name cache (failure.Refused (fault.Edit f)) parsed is = elim is [ ]
+    unopened line name cache (failure.Refused (fault.Session f)) parsed is = elim is [ ]
+    unopened line name cache (failure.Refused fault.Socket) parsed is = elim is [ ]
+    unopened line name cache failure.Output parsed is = elim is [ ]
+
+    -- the gate beside the hash device isn't shut
+    pub unshut : (e : Failure) → IsUnshut (IsOpen facts p table.hash_dev) (IsUnusable facts p table.hash_dev) e
+        → OpensNone facts p table command e
+    unshut failure.NoMemory is = tt
+    unshut (failure.Refused fault.UnderWay) is = is
+    unshut (failure.Refused fault.Journal) is = is
+    unshut (failure.Refused (fault.Store f)) is = elim is [ ]
+    unshut (failure.Refused (fault.InUse which)) is = elim is [ ]
+    unshut (failure.Word word) is = elim is [ ]
+    unshut (failure.Refused fault.NewInUse) is = elim is [ ]
+    unshut (failure.Refused (fault.Salt f)) is = elim is [ ]
+    unshut (failure.Refused (fault.Superblock f)) is = elim is [ ]
+    unshut (failure.Refused (fault.Table f)) is = elim is [ ]
+    unshut (failure.Refused (fault.Build f)) is = elim is [ ]
+    unshut (failure.Refused (fault.Check f)) is = elim is [ ]
+    unshut (failure.Refused (fault.Edit f)) is = elim is [ ]
+    unshut (failure.Refused (fault.Session f)) is = elim is [ ]
+    unshut (failure.Refused fault.Socket) is = elim is [ ]
+    unshut failure.Output is = elim is [ ]
 
 -- what is made of an error is said of what was made
 pub of_made : {T : Type 0} (r : Result T Failure) (made : Failure) (Said : Failure → Type 0) → IsErrAnd r (λ e. e ≡ made) → Said made

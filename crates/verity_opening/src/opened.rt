@@ -19,8 +19,8 @@ use verity_superblock::{Table, TableFault};
 /// A hub over two files.
 pub type FileHub = Hub<VolumeStore, VolumeStore>;
 
-/// Opens the two files that a table line names for a command, the data device first. S6 where a commit is under way in the
-/// journal beside the hash device.
+/// Opens the two files that a table line names for a command, the data device first. S1 to S4 of either; S5 where another's lock shuts the
+/// command's out; S6 where a commit is under way in the journal beside the hash device, S7 where that can't be used.
 pub fn open_stores<R: Paths + AllocGlobal>(
     rt: &R,
     table: &Table,
@@ -33,7 +33,7 @@ pub fn open_stores<R: Paths + AllocGlobal>(
     ensures shut { OnOk result (IsShut R.Paths rt.now table.now.hash_dev) }
     ensures data_size { IfOk result (λ stores. ⟦<VolumeStore as BlockStore>⟧.size stores.0 ≡ table.now.data_block_size) }
     ensures hash_size { IfOk result (λ stores. ⟦<VolumeStore as BlockStore>⟧.size stores.1 ≡ table.now.hash_block_size) }
-    ensures refused { IfErr result OpensNone }
+    ensures refused { IfErr result (OpensNone R.Paths rt.now table.now command) }
     ensures system { IfErr result (IsS1For (R.refuses rt.now ≡ true)) }
 {
     let data = open_locked(rt, table.dev(), command, Which::Data)?;
@@ -63,7 +63,7 @@ pub fn open_hub<R: Paths + AllocGlobal>(
     ensures offer { IfOk result (λ hub. hub.0.offer ≡ offered hub.1.table name.now) }
     ensures none { IfOk result (λ hub. (hub.0.next ≡ 0) × (hub.0.sessions ≡ [])) }
     ensures cache { IsOk result → IsCacheSize cache }
-    ensures refused { IfErr result (OpensNoHub line.now name.now cache) }
+    ensures refused { IfErr result (OpensNoHub R.Paths rt.now line.now name.now cache command) }
     ensures system { IfErr result (IsS1For (R.refuses rt.now ≡ true)) }
 {
     let table = table_in(rt.alloc(), line)?;

@@ -12,13 +12,15 @@ use Rattle.verity_digest.specs.Shape.{blocks_of_levels, level_start}
 use Rattle.verity_digest.proofs.Counts.{row_len-zero, blocks_of_levels-none, top_start, last_end, next_start}
 use Rattle.verity_chain.specs.Table.{Table, IsTable, hashing_of, branching, height, row_len, tree_len, path_index}
 use Rattle.verity_chain.specs.declared.place.Place.{Place}
-use Rattle.verity_report.specs.Finding.{Held, Spot, is_among, judge, below, alone, found, finding}
-use Rattle.verity_report.specs.Report.{entries_from, unchecked_from, IsReportOf, place_of, entry, unchecked_one, row_entries}
+use Rattle.verity_chain.specs.Chain.{Given}
+use Rattle.verity_chain.proofs.ChainLemmas.{Grows}
+use Rattle.verity_report.specs.Finding.{Held, Spot, Tells, IsChecked, is_among, judge, below, alone, found, finding}
+use Rattle.verity_report.specs.Report.{entries_from, unchecked_from, IsReportOf, IsReportGiven, place_of, entry, unchecked_one, row_entries}
 use Rattle.verity_report.specs.Report.{row_unchecked, judged}
 use Rattle.verity_report.specs.Descent.{Known, blank, nothing_known, known, seen_in, tally, places, faults_below, AreSeenTo, named_by}
 use Rattle.verity_report.specs.Descent.{IsNamed}
 use Rattle.verity_report.specs.Descent.{is_good, IsNoted, IsStep, IsRun, IsUnder, IsDownTo, compared, AreSeen, AreUnseen, IsLast, Stands}
-use Rattle.verity_report.specs.Descent.{IsSoFar, AreRows}
+use Rattle.verity_report.specs.Descent.{IsSoFar, AreRows, AreHeld}
 use Rattle.verity_report.proofs.RowCounts.{counts_or, same_parent, seen_run}
 use Rattle.verity_chain.proofs.TableLaws.{path_index-suc}
 use Rattle.verity_report.specs.declared.finding.Verdict.{Verdict}
@@ -155,10 +157,10 @@ module _ (t : Table) (held : Held) where
         ∙ ap (λ n. judged t n (is_among all r i) (held r i)) (sym is)
 
     -- what is found at a place, by the digest that is named there
-    finding_named : (rows : List Known) (unchecked : ℕ) → Stands t held all rows unchecked → r ≤ height t
+    finding_named : (given : Given) (rows : List Known) (unchecked : ℕ) → Stands t given held all rows unchecked → r ≤ height t
         → (r < height t → seen_in rows (suc r) ≡ suc (i / branching t)) → IsNamed t r i rows named
         → finding t held all r i ≡ judged t named (is_among all r i) (held r i)
-    finding_named rows unchecked s row parent name = elim (cases_lt r (height t)) [
+    finding_named given rows unchecked s row parent name = elim (cases_lt r (height t)) [
       | inl under ↦
           let up : height t - r ≡ suc (height t - suc r) = omega (arith, under) in
           let last = s.last r (i / branching t) under (parent under) in
@@ -171,15 +173,72 @@ module _ (t : Table) (held : Held) where
           ap (λ m. found t held all m r i) none ∙ ap (λ n. judged t n (is_among all r i) (held r i)) (sym (name.top same))
     ]
 
-  module _ (r i : ℕ) (f : Finding) (block : List ℕ) (rows rows' : List Known) (step : IsStep r f (place_of r i) block rows rows')
-      (at : seen_in rows r ≡ i) (row : r ≤ height t) (kept : 0 < r → f ≡ Good → block ≡ held r i) where
+  -- what was listed and counted of all rows
+  listed_all : (all : List Spot) (rows : List Known) (h : ℕ)
+      → ((r : ℕ) → r ≤ h → (known rows r).faults ≡ row_entries t held all r (row_len t r))
+      → faults_below rows (suc h) ≡ entries_from t held all h
+  listed_all all rows zero each = append-nil (known rows 0).faults ∙ each 0 (omega arith)
+  listed_all all rows (suc h) each =
+      ap (λ fs. fs ++ faults_below rows (suc h)) (each (suc h) (omega arith))
+      ∙ ap (λ fs. row_entries t held all (suc h) (row_len t (suc h)) ++ fs)
+      (listed_all all rows h (λ r low. each r (omega (arith, low))))
+
+  counted_all : (all : List Spot) (h : ℕ) → tally (λ r. row_unchecked t held all r (row_len t r)) h ≡ unchecked_from t held all h
+  counted_all all zero = refl
+  counted_all all (suc h) = ap (λ u. row_unchecked t held all (suc h) (row_len t (suc h)) + u) (counted_all all h)
+
+  whole : (given : Given) (failed : List Spot) (rows : List Known) (unchecked base now : ℕ) (faults : List (Place × Verdict))
+      → length failed + base ≤ now → Stands t given held failed rows unchecked
+      → AreSeenTo t t.data_blocks rows → faults ≡ faults_below rows (suc (height t)) → IsReportOf t held faults unchecked base now
+  whole given failed rows unchecked base now faults count s seen is = record {
+    failed = failed;
+    count = count;
+    faults_are = is ∙ listed_all failed rows (height t)
+        (λ r low. s.faults r low ∙ ap (λ n. row_entries t held failed r n) (seen r low));
+    unchecked_are = s.unchecked
+        ∙ tally_same (λ r. row_unchecked t held failed r (row_len t r)) (λ r. row_unchecked t held failed r (seen_in rows r))
+        (height t) (λ r low. ap (λ n. row_unchecked t held failed r n) (seen r low))
+        ∙ counted_all failed (height t);
+  }
+
+-- blocks, with one more at a place
+abbrev pick : Bool → List ℕ → List ℕ → List ℕ
+pick true x y = x
+pick false x y = y
+
+abbrev with_block : Held → ℕ → ℕ → List ℕ → Held
+with_block blocks r i block q j = pick ((q == r) && (j == i)) block (blocks q j)
+
+with_here : (blocks : Held) (r i : ℕ) (block : List ℕ) → with_block blocks r i block r i ≡ block
+with_here blocks r i block =
+    ap (λ b. pick b block (blocks r i)) ((Decides-and (r == r) (i == i) (Decides-eqb r r) (Decides-eqb i i)).1 (refl, refl))
+
+with_other : (blocks : Held) (r i : ℕ) (block : List ℕ) (q j : ℕ) → ((q ≡ r) × (j ≡ i) → ⊥) → with_block blocks r i block q j ≡ blocks q j
+with_other blocks r i block q j isnt = ap (λ b. pick b block (blocks q j)) (differs q j r i isnt)
+
+-- what is found of a block is found of what is held, if a block that was checked is held
+checked_judge : (b : Bool) → IsChecked (judge false b)
+checked_judge true = tt
+checked_judge false = tt
+
+judged_held : (t : Table) (named : Option (List ℕ)) (failed : Bool) (block held : List ℕ)
+    → (IsChecked (judged t named failed block) → held ≡ block) → judged t named failed held ≡ judged t named failed block
+judged_held t None failed block held same = refl
+judged_held t (Some digest) true block held same = refl
+judged_held t (Some digest) false block held same =
+    ap (λ y. judged t (Some digest) false y) (same (checked_judge (bytes_eq ((hashing_of t).digest block) digest)))
+
+module _ (t : Table) (given more : Given) (grows : Grows given more) where
+  module _ (r i : ℕ) (f : Finding) (kept block : List ℕ) (rows rows' : List Known) (step : IsStep r f (place_of r i) kept rows rows')
+      (at : seen_in rows r ≡ i) (row : r ≤ height t) (is_kept : 0 < r → f ≡ Good → kept ≡ block)
+      (gave : IsChecked f → more r i block) where
     next_seen : seen_in rows' r ≡ suc i
     next_seen = step.noted.seen ∙ ap (λ n. suc n) at
 
     -- what is known is still right
-    stands_more : (all : List Spot) (unchecked : ℕ) → Stands t held all rows unchecked → finding t held all r i ≡ f →
-        Stands t held all rows' (unchecked + unchecked_one f)
-    stands_more all unchecked s is = record {
+    stands_more : (held : Held) (all : List Spot) (unchecked : ℕ) → Stands t given held all rows unchecked → finding t held all r i ≡ f
+        → (IsChecked f → held r i ≡ block) → Stands t more held all rows' (unchecked + unchecked_one f)
+    stands_more held all unchecked s is is_held = record {
       faults = λ q low. elim (cases_eq q r) [
         | inl e ↦ subst (λ k. (known rows' k).faults ≡ row_entries t held all k (seen_in rows' k)) (sym e)
             (step.noted.faults
@@ -205,7 +264,7 @@ module _ (t : Table) (held : Held) where
             let here : IsLast t held all r i (known rows' r) = record {
               good = λ g.
                   let is_f : f ≡ Good = only_good f (sym step.noted.good ∙ g) in
-                  (is ∙ is_f, step.noted.kept ∙ kept some is_f);
+                  (is ∙ is_f, step.noted.kept ∙ is_kept some is_f ∙ sym (is_held (subst IsChecked (sym is_f) tt)));
               bad = λ b g.
                   let is_f : f ≡ Good = sym is ∙ g in
                   let one : is_good f ≡ true = ap is_good is_f in
@@ -218,99 +277,136 @@ module _ (t : Table) (held : Held) where
             let same : seen_in rows' (suc l) ≡ seen_in rows (suc l) = ap (λ (k : Known). k.seen) (step.others (suc l) ne) in
             subst (λ k. IsLast t held all (suc l) j k) (sym (step.others (suc l) ne)) (s.last l j low (sym same ∙ e))
       ];
+      gave = λ q j low lt checked. elim (cases_eq q r) [
+        | inl e ↦
+            let there : seen_in rows' q ≡ seen_in rows' r = ap (seen_in rows') e in
+            let before : seen_in rows q ≡ seen_in rows r = ap (seen_in rows) e in
+            elim (cases_eq j i) [
+              | inl same ↦
+                  let is_checked : IsChecked f =
+                  subst IsChecked (ap (λ m. finding t held all m j) e ∙ ap (λ m. finding t held all r m) same ∙ is) checked in
+                  subst (λ m. more m j (held m j)) (sym e) (subst (λ m. more r m (held r m)) (sym same)
+                  (subst (λ y. more r i y) (sym (is_held is_checked)) (gave is_checked)))
+              | inr ne ↦ grows q j (held q j) (s.gave q j low (omega (arith, lt, ne, there, before, next_seen, at)) checked)
+            ]
+        | inr ne ↦
+            let same : seen_in rows' q ≡ seen_in rows q = ap (λ (k : Known). k.seen) (step.others q ne) in
+            grows q j (held q j) (s.gave q j low (omega (arith, lt, same)) checked)
+      ];
     }
+
+    -- blocks that are held with this one were held without it
+    held_before : (blocks held : Held) → AreHeld more rows' (with_block blocks r i block) held → AreHeld given rows blocks held
+    held_before blocks held are q j lt old =
+        let other : with_block blocks r i block q j ≡ blocks q j = with_other blocks r i block q j (λ h.
+        let there : seen_in rows q ≡ seen_in rows r = ap (seen_in rows) h.0 in omega (arith, lt, h.1, there, at)) in
+        are q j (omega (arith, lt, seen_grows rows rows' r i at next_seen step.others q))
+        (subst (λ y. more q j y) (sym other) (grows q j (blocks q j) old)) ∙ other
+
+    held_here : (blocks held : Held) → AreHeld more rows' (with_block blocks r i block) held → IsChecked f → held r i ≡ block
+    held_here blocks held are checked =
+        let here : with_block blocks r i block r i ≡ block = with_here blocks r i block in
+        are r i (omega (arith, next_seen)) (subst (λ y. more r i y) (sym here) (gave checked)) ∙ here
 
     -- one more place was looked at
     pub so_far_more : (unchecked base now now' : ℕ) (named : Option (List ℕ)) (failed : Bool)
-        → IsSoFar t held rows unchecked base now
+        → IsSoFar t given rows unchecked base now
         → (r < height t → seen_in rows (suc r) ≡ suc (i / branching t)) → IsNamed t r i rows named
-        → f ≡ judged t named failed (held r i) → now ≤ now' → (failed ≡ true → now < now')
-        → IsSoFar t held rows' (unchecked + unchecked_one f) base now'
-    so_far_more unchecked base now now' named failed d parent name outcome grows rises = by_failure failed outcome rises where
-      by_failure : (b : Bool) → f ≡ judged t named b (held r i) → (b ≡ true → now < now') →
-          IsSoFar t held rows' (unchecked + unchecked_one f) base now'
+        → f ≡ judged t named failed block → now ≤ now' → (failed ≡ true → now < now')
+        → IsSoFar t more rows' (unchecked + unchecked_one f) base now'
+    so_far_more unchecked base now now' named failed d parent name outcome later rises = by_failure failed outcome rises where
+      after : (held : Held) (all : List Spot) (b : Bool) → Stands t given held all rows unchecked → is_among all r i ≡ b →
+          f ≡ judged t named b block → (IsChecked f → held r i ≡ block) → Stands t more held all rows' (unchecked + unchecked_one f)
+      after held all b s among outcome' is_held =
+          stands_more held all unchecked s
+          (finding_named t held all r i named given rows unchecked s row parent name
+          ∙ ap (λ b. judged t named b (held r i)) among
+          ∙ judged_held t named b block (held r i) (λ checked. is_held (subst IsChecked (sym outcome') checked))
+          ∙ sym outcome') is_held
+
+      by_failure : (b : Bool) → f ≡ judged t named b block → (b ≡ true → now < now') →
+          IsSoFar t more rows' (unchecked + unchecked_one f) base now'
       by_failure false outcome' rises' = record {
         failed = d.failed;
-        count = omega (arith, d.count, grows);
+        blocks = with_block d.blocks r i block;
+        count = omega (arith, d.count, later);
         seen = seen_after rows rows' r i at next_seen step.others d.failed d.seen;
-        all = λ rest u.
-            let s = d.all rest (unseen_before rows rows' r i at next_seen step.others rest u) in
-            stands_more (rest ++ d.failed) unchecked s
-            (finding_named (rest ++ d.failed) r i named rows unchecked s row parent name
-            ∙ ap (λ b. judged t named b (held r i)) (not_among rows rows' r i at next_seen step.others rest d.failed u d.seen)
-            ∙ sym outcome');
+        all = λ rest held u are.
+            after held (rest ++ d.failed) false
+            (d.all rest held (unseen_before rows rows' r i at next_seen step.others rest u) (held_before d.blocks held are))
+            (not_among rows rows' r i at next_seen step.others rest d.failed u d.seen) outcome' (held_here d.blocks held are);
       }
       by_failure true outcome' rises' = record {
         failed = (r, i) ∷ d.failed;
+        blocks = with_block d.blocks r i block;
         count = omega (arith, d.count, rises' refl);
         seen = (omega (arith, next_seen), seen_after rows rows' r i at next_seen step.others d.failed d.seen);
-        all = λ rest u.
+        all = λ rest held u are.
             let turn : (rest ++ ((r, i) ∷ [])) ++ d.failed ≡ rest ++ ((r, i) ∷ d.failed) = append_assoc rest ((r, i) ∷ []) d.failed in
-            let s = subst (λ all. Stands t held all rows unchecked) turn
-            (d.all (rest ++ (r, i) ∷ []) (unseen_with rows rows' r i at next_seen step.others rest u)) in
-            stands_more (rest ++ ((r, i) ∷ d.failed)) unchecked s
-            (finding_named (rest ++ ((r, i) ∷ d.failed)) r i named rows unchecked s row parent name
-            ∙ ap (λ b. judged t named b (held r i)) (among_here r i rest d.failed) ∙ sym outcome');
+            let s = subst (λ all. Stands t given held all rows unchecked) turn
+            (d.all (rest ++ (r, i) ∷ []) held (unseen_with rows rows' r i at next_seen step.others rest u)
+            (held_before d.blocks held are)) in
+            after held (rest ++ ((r, i) ∷ d.failed)) true s (among_here r i rest d.failed) outcome' (held_here d.blocks held are);
       }
 
-  -- a store may have failed more often
-  pub so_far_later : (rows : List Known) (unchecked base now now' : ℕ) → now ≤ now' → IsSoFar t held rows unchecked base now →
-      IsSoFar t held rows unchecked base now'
-  so_far_later rows unchecked base now now' grows d = record {
+  -- a store may have given more, and failed more often
+  pub so_far_later : (rows : List Known) (unchecked base now now' : ℕ) → now ≤ now' → IsSoFar t given rows unchecked base now →
+      IsSoFar t more rows unchecked base now'
+  so_far_later rows unchecked base now now' later d = record {
     failed = d.failed;
-    count = omega (arith, d.count, grows);
+    blocks = d.blocks;
+    count = omega (arith, d.count, later);
     seen = d.seen;
-    all = d.all;
+    all = λ rest held u are.
+        let s = d.all rest held u (λ r i lt old. are r i lt (grows r i (d.blocks r i) old)) in
+        record {
+          faults = s.faults;
+          unchecked = s.unchecked;
+          last = s.last;
+          gave = λ r i low lt checked. grows r i (held r i) (s.gave r i low lt checked);
+        };
   }
 
+module _ (t : Table) (given : Given) where
   -- nothing was looked at
   pub so_far_none : (rows : List Known) (base : ℕ) → ((r : ℕ) → r ≤ height t → (seen_in rows r ≡ 0) × ((known rows r).faults ≡ []))
-      → IsSoFar t held rows 0 base base
+      → IsSoFar t given rows 0 base base
   so_far_none rows base none = record {
     failed = [];
+    blocks = λ r i. [];
     count = omega arith;
     seen = tt;
-    all = λ rest u. record {
+    all = λ rest held u are. record {
       faults = λ r low. (none r low).1 ∙ sym (ap (λ n. row_entries t held (rest ++ []) r n) (none r low).0);
       unchecked =
           sym (tally_same (λ r. 0) (λ r. row_unchecked t held (rest ++ []) r (seen_in rows r)) (height t)
           (λ r low. ap (λ n. row_unchecked t held (rest ++ []) r n) (none r low).0) ∙ zeros (height t));
       last = λ l i low e. absurd (omega (arith, e, (none (suc l) (omega (arith, low))).0));
+      gave = λ r i low lt checked. absurd (omega (arith, lt, (none r low).0));
     };
   } where
     zeros : (h : ℕ) → tally (λ r. 0) h ≡ 0
     zeros zero = refl
     zeros (suc h) = let z = zeros h in omega (arith, z)
 
-  -- what was listed and counted of all rows
-  listed_all : (all : List Spot) (rows : List Known) (h : ℕ)
-      → ((r : ℕ) → r ≤ h → (known rows r).faults ≡ row_entries t held all r (row_len t r))
-      → faults_below rows (suc h) ≡ entries_from t held all h
-  listed_all all rows zero each = append-nil (known rows 0).faults ∙ each 0 (omega arith)
-  listed_all all rows (suc h) each =
-      ap (λ fs. fs ++ faults_below rows (suc h)) (each (suc h) (omega arith))
-      ∙ ap (λ fs. row_entries t held all (suc h) (row_len t (suc h)) ++ fs)
-      (listed_all all rows h (λ r low. each r (omega (arith, low))))
+  module _ (rows : List Known) (unchecked base now : ℕ) (faults : List (Place × Verdict)) (d : IsSoFar t given rows unchecked base now)
+      (seen : AreSeenTo t t.data_blocks rows) (is : faults ≡ faults_below rows (suc (height t))) where
+    -- every place was looked at
+    pub report_given : IsReportGiven t given faults unchecked base now
+    unfolding whole
+    report_given =
+        let s = d.all [] d.blocks tt (λ r i lt gave. refl) in
+        record {
+          blocks = d.blocks;
+          report = whole t d.blocks given d.failed rows unchecked base now faults d.count s seen is;
+          gave = λ r i low lt checked. s.gave r i low (omega (arith, lt, seen r low)) checked;
+        }
 
-  counted_all : (all : List Spot) (h : ℕ) → tally (λ r. row_unchecked t held all r (row_len t r)) h ≡ unchecked_from t held all h
-  counted_all all zero = refl
-  counted_all all (suc h) = ap (λ u. row_unchecked t held all (suc h) (row_len t (suc h)) + u) (counted_all all h)
-
-  -- every place was looked at
-  pub report_whole : (rows : List Known) (unchecked base now : ℕ) (faults : List (Place × Verdict)) → IsSoFar t held rows unchecked base now
-      → AreSeenTo t t.data_blocks rows → faults ≡ faults_below rows (suc (height t)) → IsReportOf t held faults unchecked base now
-  report_whole rows unchecked base now faults d seen is =
-      let s = d.all [] tt in
-      record {
-        failed = d.failed;
-        count = d.count;
-        faults_are = is ∙ listed_all d.failed rows (height t)
-            (λ r low. s.faults r low ∙ ap (λ n. row_entries t held d.failed r n) (seen r low));
-        unchecked_are = s.unchecked
-            ∙ tally_same (λ r. row_unchecked t held d.failed r (row_len t r)) (λ r. row_unchecked t held d.failed r (seen_in rows r))
-            (height t) (λ r low. ap (λ n. row_unchecked t held d.failed r n) (seen r low))
-            ∙ counted_all d.failed (height t);
-      }
+    -- .. and what was given is what is held
+    pub report_told : (held : Held) → Tells given held → IsReportOf t held faults unchecked base now
+    report_told held tells =
+        whole t held given d.failed rows unchecked base now faults d.count
+        (d.all [] held tt (λ r i lt gave. sym (tells r i (d.blocks r i) gave))) seen is
 
 -- how many places there are
 above : Table → ℕ → ℕ
@@ -381,17 +477,17 @@ pub run_above : (count l : ℕ) (old new : List Known) → IsRun count old new �
 run_above count l old new run = run.others (suc l) (λ e. omega (arith, e))
 
 -- one more data block was looked at
-pub data_more : (t : Table) (held : Held) (n most count : ℕ) (f : Finding) (block : List ℕ) (first rows rows' : List Known)
+pub data_more : (t : Table) (given : Given) (n most count : ℕ) (f : Finding) (kept block : List ℕ) (first rows rows' : List Known)
     (unchecked base now now' : ℕ) (named : Option (List ℕ)) (failed : Bool)
-    → IsUnder t n most first → IsRun count first rows → count < most → IsStep 0 f (place_of 0 (n + count)) block rows rows'
-    → IsNamed t 0 (n + count) rows named → f ≡ judged t named failed (held 0 (n + count))
+    → IsUnder t n most first → IsRun count first rows → count < most → IsStep 0 f (place_of 0 (n + count)) kept rows rows'
+    → IsNamed t 0 (n + count) rows named → f ≡ judged t named failed block → (IsChecked f → given 0 (n + count) block)
     → now ≤ now' → (failed ≡ true → now < now')
-    → IsSoFar t held rows unchecked base now → IsSoFar t held rows' (unchecked + unchecked_one f) base now'
-data_more t held n most count f block first rows rows' unchecked base now now' named failed under run few step name outcome grows
-    rises d =
-    so_far_more t held 0 (n + count) f block rows rows' step (run_next t n most count first rows under run) (omega arith)
-    (λ some. absurd (omega (arith, some))) unchecked base now now' named failed d
-    (λ some. ap (λ (k : Known). k.seen) (run_above count 0 first rows run) ∙ under.parent some count few) name outcome grows rises
+    → IsSoFar t given rows unchecked base now → IsSoFar t given rows' (unchecked + unchecked_one f) base now'
+data_more t given n most count f kept block first rows rows' unchecked base now now' named failed under run few step name outcome gave
+    later rises d =
+    so_far_more t given given (λ r i y old. old) 0 (n + count) f kept block rows rows' step (run_next t n most count first rows under run)
+    (omega arith) (λ some. absurd (omega (arith, some))) gave unchecked base now now' named failed d
+    (λ some. ap (λ (k : Known). k.seen) (run_above count 0 first rows run) ∙ under.parent some count few) name outcome later rises
 
 -- what is found by a digest is what is judged of its block
 pub compared_judged : (t : Table) (named : Option (List ℕ)) (block : List ℕ) →

@@ -4,8 +4,9 @@ use Rattle.std.specs.Prelude.{slice_index_or, Option, Some, None}
 use Rattle.verity_digest.specs.Tree.{slot}
 use Rattle.verity_digest.specs.Shape as shape
 use Rattle.verity_chain.specs.Table.{Table, hashing_of, branching, height, path_index}
+use Rattle.verity_chain.specs.Chain.{Given}
 use Rattle.std.specs.Str.{bytes_eq}
-use Rattle.verity_report.specs.Finding.{Held, Spot, judge, finding}
+use Rattle.verity_report.specs.Finding.{Held, Spot, IsChecked, judge, finding}
 use Rattle.verity_report.specs.Report.{entry, row_entries, row_unchecked}
 use Rattle.verity_chain.specs.declared.place.Place.{Place}
 use Rattle.verity_report.specs.declared.finding.Verdict.{Verdict}
@@ -121,15 +122,23 @@ pub record IsLast (t : Table) (held : Held) (failed : List Spot) (r i : ℕ) (k 
   pub good : k.good ≡ true → (finding t held failed r i ≡ Good) × (k.block ≡ held r i)
   pub bad : k.good ≡ false → finding t held failed r i ≡ Good → ⊥
 
--- what is known is right, where these reads fail
-pub record Stands (t : Table) (held : Held) (failed : List Spot) (rows : List Known) (missed : ℕ) : Type 0 where
+-- what is known is right of these blocks, where these reads fail, and those that were checked were given
+pub record Stands (t : Table) (given : Given) (held : Held) (failed : List Spot) (rows : List Known) (missed : ℕ) : Type 0 where
   pub faults : (r : ℕ) → r ≤ height t → (known rows r).faults ≡ row_entries t held failed r (seen_in rows r)
   pub unchecked : missed ≡ tally (λ r. row_unchecked t held failed r (seen_in rows r)) (height t)
   pub last : (l i : ℕ) → l < height t → seen_in rows (suc l) ≡ suc i → IsLast t held failed (suc l) i (known rows (suc l))
+  pub gave : (r i : ℕ) → r ≤ height t → i < seen_in rows r → IsChecked (finding t held failed r i) → given r i (held r i)
 
--- reads of places that were looked at failed, no more than the stores have failed, and whatever fails later, what is known is right
-pub record IsSoFar (t : Table) (held : Held) (rows : List Known) (unchecked failures_old failures_new : ℕ) : Type 0 where
+-- of these blocks those that were given at places that were looked at are held there
+abbrev pub AreHeld : Given → List Known → Held → Held → Type 0
+AreHeld given rows blocks held = (r i : ℕ) → i < seen_in rows r → given r i (blocks r i) → held r i ≡ blocks r i
+
+-- reads of places that were looked at failed, no more than the stores have failed, and of the others these blocks were given; whatever
+-- fails later, and whatever else is held, what is known is right
+pub record IsSoFar (t : Table) (given : Given) (rows : List Known) (unchecked failures_old failures_new : ℕ) : Type 0 where
   pub failed : List Spot
+  pub blocks : Held
   pub count : length failed + failures_old ≤ failures_new
   pub seen : AreSeen rows failed
-  pub all : (rest : List Spot) → AreUnseen rows rest → Stands t held (rest ++ failed) rows unchecked
+  pub all : (rest : List Spot) (held : Held) → AreUnseen rows rest → AreHeld given rows blocks held
+      → Stands t given held (rest ++ failed) rows unchecked

@@ -34,6 +34,13 @@ judge true _ = Unread
 judge false true = Good
 judge false false = Bad
 
+-- a block was read at the place, and compared
+abbrev pub IsChecked : Finding → Type 0
+IsChecked Good = Unit {0}
+IsChecked Bad = Unit {0}
+IsChecked Unread = ⊥
+IsChecked Unchecked = ⊥
+
 -- a place is looked at only below a good one
 abbrev pub below : Finding → Finding → Finding
 below Good finding = finding

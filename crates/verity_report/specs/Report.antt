@@ -1,8 +1,9 @@
 -- A report: which places it names, in which order, and how many it counts as unchecked.
-use Rattle.std.specs.Prelude.{ℕ, zero, suc, ◌+◌, ◌≤◌, ◌≡◌, List, [], ◌∷◌, ◌++◌, length, Option, Some, None, Bool}
+use Rattle.std.specs.Prelude.{ℕ, zero, suc, ◌+◌, ◌<◌, ◌≤◌, ◌≡◌, List, [], ◌∷◌, ◌++◌, length, Option, Some, None, Bool}
 use Rattle.std.specs.Str.{bytes_eq}
 use Rattle.verity_chain.specs.Table.{Table, hashing_of, height, row_len}
-use Rattle.verity_report.specs.Finding.{Held, Spot, judge, finding}
+use Rattle.verity_chain.specs.Chain.{Given}
+use Rattle.verity_report.specs.Finding.{Held, Spot, IsChecked, judge, finding}
 use Rattle.verity_chain.specs.declared.place.Place.{Place}
 use Rattle.verity_chain.specs.declared.place.Place.TheVariants as places
 use Rattle.verity_report.specs.declared.finding.Finding.{Finding}
@@ -69,3 +70,10 @@ pub record IsReportOf (t : Table) (held : Held) (faults : List (Place × Verdict
   pub count : length failed + failures_old ≤ failures_new
   pub faults_are : faults ≡ listed t held failed
   pub unchecked_are : unchecked ≡ unchecked_count t held failed
+
+-- a report of what was given: of blocks, one for each place, of which each that was checked was given at its place
+pub record IsReportGiven (t : Table) (given : Given) (faults : List (Place × Verdict)) (unchecked : ℕ)
+    (failures_old failures_new : ℕ) : Type 0 where
+  pub blocks : Held
+  pub report : IsReportOf t blocks faults unchecked failures_old failures_new
+  pub gave : (r i : ℕ) → r ≤ height t → i < row_len t r → IsChecked (finding t blocks report.failed r i) → given r i (blocks r i)

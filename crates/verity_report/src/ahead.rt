@@ -3,6 +3,7 @@ ghost use Rattle.std.specs.Prelude.{◌≡◌, ◌≢◌, ℕ, ◌+◌, ◌-◌,
 ghost use Rattle.std.specs.Fork.{slice_chunk};
 ghost use Rattle.verity_store.specs.Given.{GaveSince};
 ghost use Rattle.verity_store.specs.Stores.{IsOnlyRead};
+ghost use Rattle.verity_report.specs.Stores.{GivesOwn};
 
 use verity_digest::Digest;
 use verity_store::BlockStore;
@@ -49,6 +50,7 @@ pub fn read_ahead<S: BlockStore>(store: &mut S, first: u64, count: usize, out: &
         → (j : ℕ) → j < result → GaveSince (S.given store.new) mark (first + j) (slice_chunk out.new (S.size store.old) j) }
     ensures right { S.tells store.old ≡ true
         → (j : ℕ) → j < result → slice_index_or (S.content store.old) (first + j) [] ≡ slice_chunk out.new (S.size store.old) j }
+    ensures own { GivesOwn S.BlockStore store.old store.new }
     ensures failed { result < count → S.failures store.old < S.failures store.new }
     ensures counted { S.reads store.new ≡ S.reads store.old + min count (result + 1) }
     ensures read { IsOnlyRead S.BlockStore store.old store.new }

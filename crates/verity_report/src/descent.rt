@@ -1,10 +1,12 @@
 //! Down to a data block: the hash blocks above it that weren't looked at.
-ghost use Rattle.std.specs.Prelude.{◌≡◌, ℕ, suc, ◌+◌, ◌/◌, ◌^◌, ◌<◌, ◌≤◌, true, Bool, [], length, slice_index_or, OnOk};
+ghost use Rattle.std.specs.Prelude.{◌≡◌, ℕ, suc, ◌+◌, ◌/◌, ◌^◌, ◌<◌, ◌≤◌, true, Bool, List, length, drop, OnOk};
+ghost use Rattle.verity_store.specs.Given.{GaveSince};
 ghost use Rattle.verity_store.specs.Stores.{IsOnlyRead};
-ghost use Rattle.verity_chain.specs.Table.{IsTable, branching, height, row_len, hash_place};
+ghost use Rattle.verity_chain.specs.Table.{IsTable, branching, height, row_len};
 ghost use Rattle.verity_chain.specs.Stores.{IsHashStoreOf};
 ghost use Rattle.verity_report.specs.Report.{unchecked_one, judged};
-ghost use Rattle.verity_report.specs.Finding.{Held};
+ghost use Rattle.verity_report.specs.Finding.{IsChecked};
+ghost use Rattle.verity_report.specs.Stores.{GivesOwn, listed_in};
 ghost use Rattle.verity_report.specs.Descent.{AreRows, AreSeenTo, IsDownTo, IsSoFar, seen_in, places};
 
 use crate::finding::Finding;
@@ -24,10 +26,10 @@ fn look<S: BlockStore, A: Allocator>(
 ) -> Finding
     requires within { number < length (S.content store.old) }
     requires sized { length block.old ≡ S.size store.old }
-    ensures told { S.tells store.old ≡ true → (failed : Bool)
-        × (result ≡ judged tree.old named failed (slice_index_or (S.content store.old) number []))
+    ensures judged { (failed : Bool) × (result ≡ judged tree.old named failed block.new)
         × (failed ≡ true → S.failures store.old < S.failures store.new) }
-    ensures good { S.tells store.old ≡ true → result ≡ Finding.Good → block.new ≡ slice_index_or (S.content store.old) number [] }
+    ensures gave { IsChecked result → (mark : ℕ) → mark ≤ length (S.given store.old) → GaveSince (S.given store.new) mark number block.new }
+    ensures own { GivesOwn S.BlockStore store.old store.new }
     ensures counted { S.reads store.new + unchecked_one result ≡ S.reads store.old + 1 }
     ensures keeps { IsOnlyRead S.BlockStore store.old store.new }
     ensures same { tree.new ≡ tree.old }
@@ -67,10 +69,12 @@ fn visit<H: BlockStore, A: Allocator>(
     ensures rows { OnOk result (AreRows tree.old rows.new) }
     ensures here { OnOk result (seen_in rows.new (suc level) ≡ suc index) }
     ensures others { OnOk result ((r : ℕ) → (r ≡ suc level → ⊥) → seen_in rows.new r ≡ seen_in rows.old r) }
-    ensures told { H.tells hash_store.old ≡ true → (held : Held)
-        → held (suc level) index ≡ slice_index_or (H.content hash_store.old) (hash_place tree.old level index) []
-        → (base other : ℕ) → IsSoFar tree.old held rows.old unchecked.old base (other + H.failures hash_store.old)
-        → OnOk result (IsSoFar tree.old held rows.new unchecked.new base (other + H.failures hash_store.new)) }
+    ensures found { (mark : ℕ) → mark ≤ length (H.given hash_store.old) → (gave : List (ℕ × List ℕ)) (base other : ℕ)
+        → IsSoFar tree.old (listed_in tree.old gave (drop mark (H.given hash_store.old))) rows.old unchecked.old
+        base (other + H.failures hash_store.old)
+        → OnOk result (IsSoFar tree.old (listed_in tree.old gave (drop mark (H.given hash_store.new))) rows.new unchecked.new
+        base (other + H.failures hash_store.new)) }
+    ensures own { GivesOwn H.BlockStore hash_store.old hash_store.new }
     ensures counted { OnOk result (unchecked.new + H.reads hash_store.new ≡ unchecked.old + H.reads hash_store.old + 1) }
     ensures added { OnOk result (places tree.old rows.new ≡ places tree.old rows.old + 1) }
     ensures keeps { IsOnlyRead H.BlockStore hash_store.old hash_store.new }
@@ -103,10 +107,12 @@ fn step_down<H: BlockStore, A: Allocator>(
     requires room { unchecked.old < 2 ^ 63 }
     ensures rows { OnOk result (AreRows tree.old rows.new) }
     ensures down { OnOk result (IsDownTo tree.old n level rows.new) }
-    ensures told { H.tells hash_store.old ≡ true → (held : Held)
-        → ((l i : ℕ) → held (suc l) i ≡ slice_index_or (H.content hash_store.old) (hash_place tree.old l i) [])
-        → (base other : ℕ) → IsSoFar tree.old held rows.old unchecked.old base (other + H.failures hash_store.old)
-        → OnOk result (IsSoFar tree.old held rows.new unchecked.new base (other + H.failures hash_store.new)) }
+    ensures found { (mark : ℕ) → mark ≤ length (H.given hash_store.old) → (gave : List (ℕ × List ℕ)) (base other : ℕ)
+        → IsSoFar tree.old (listed_in tree.old gave (drop mark (H.given hash_store.old))) rows.old unchecked.old
+        base (other + H.failures hash_store.old)
+        → OnOk result (IsSoFar tree.old (listed_in tree.old gave (drop mark (H.given hash_store.new))) rows.new unchecked.new
+        base (other + H.failures hash_store.new)) }
+    ensures own { GivesOwn H.BlockStore hash_store.old hash_store.new }
     ensures counted { OnOk result (unchecked.new + H.reads hash_store.new + places tree.old rows.old
         ≡ unchecked.old + H.reads hash_store.old + places tree.old rows.new) }
     ensures most { OnOk result (unchecked.new ≤ unchecked.old + 1) }
@@ -138,10 +144,12 @@ pub(crate) fn go_down<H: BlockStore, A: Allocator>(
     requires room { unchecked.old ≤ 2 ^ 61 }
     ensures rows { OnOk result (AreRows tree.old rows.new) }
     ensures path { OnOk result (IsDownTo tree.old n 0 rows.new) }
-    ensures told { H.tells hash_store.old ≡ true → (held : Held)
-        → ((l i : ℕ) → held (suc l) i ≡ slice_index_or (H.content hash_store.old) (hash_place tree.old l i) [])
-        → (base other : ℕ) → IsSoFar tree.old held rows.old unchecked.old base (other + H.failures hash_store.old)
-        → OnOk result (IsSoFar tree.old held rows.new unchecked.new base (other + H.failures hash_store.new)) }
+    ensures found { (mark : ℕ) → mark ≤ length (H.given hash_store.old) → (gave : List (ℕ × List ℕ)) (base other : ℕ)
+        → IsSoFar tree.old (listed_in tree.old gave (drop mark (H.given hash_store.old))) rows.old unchecked.old
+        base (other + H.failures hash_store.old)
+        → OnOk result (IsSoFar tree.old (listed_in tree.old gave (drop mark (H.given hash_store.new))) rows.new unchecked.new
+        base (other + H.failures hash_store.new)) }
+    ensures own { GivesOwn H.BlockStore hash_store.old hash_store.new }
     ensures counted { OnOk result (unchecked.new + H.reads hash_store.new + places tree.old rows.old
         ≡ unchecked.old + H.reads hash_store.old + places tree.old rows.new) }
     ensures most { OnOk result (unchecked.new ≤ unchecked.old + 14) }

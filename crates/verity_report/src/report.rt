@@ -3,8 +3,8 @@ ghost use Rattle.std.specs.Prelude.{◌≡◌, ℕ, ◌+◌, ◌≤◌, OnOk, If
 ghost use Rattle.verity_store.specs.Stores.{IsOnlyRead};
 ghost use Rattle.verity_chain.specs.Table.{IsTable, height, tree_len};
 ghost use Rattle.verity_chain.specs.Stores.{IsHashStoreOf};
-ghost use Rattle.verity_report.specs.Report.{IsReportOf};
-ghost use Rattle.verity_report.specs.Stores.{BothTell, held_in, IsDataStoreOf};
+ghost use Rattle.verity_report.specs.Report.{IsReportOf, IsReportGiven};
+ghost use Rattle.verity_report.specs.Stores.{BothTell, held_in, IsDataStoreOf, GivesOwn, gave_between, given_between, listed_in};
 ghost use Rattle.verity_report.specs.Descent.{AreRows, AreSeenTo, IsSoFar, known, seen_in, faults_below};
 
 use crate::descent::go_down;
@@ -113,10 +113,12 @@ fn go_through<D: BlockStore, H: BlockStore, A: Allocator>(
     requires unlisted { (r : ℕ) → r ≤ height tree.old → (known rows.old r).faults ≡ [] }
     ensures rows { OnOk result (AreRows tree.old rows.new) }
     ensures seen { OnOk result (AreSeenTo tree.old tree.old.data_blocks rows.new) }
-    ensures told { BothTell D.BlockStore H.BlockStore data_store.old hash_store.old
-        → IfOk result (λ unchecked. IsSoFar tree.old (held_in D.BlockStore H.BlockStore tree.old data_store.old hash_store.old)
+    ensures found { IfOk result (λ unchecked. IsSoFar tree.old (listed_in tree.old
+        (gave_between D.BlockStore data_store.old data_store.new) (gave_between H.BlockStore hash_store.old hash_store.new))
         rows.new unchecked
         (D.failures data_store.old + H.failures hash_store.old) (D.failures data_store.new + H.failures hash_store.new)) }
+    ensures data_own { GivesOwn D.BlockStore data_store.old data_store.new }
+    ensures hash_own { GivesOwn H.BlockStore hash_store.old hash_store.new }
     ensures counted { IfOk result (λ unchecked. unchecked + (D.reads data_store.new + H.reads hash_store.new)
         ≡ D.reads data_store.old + H.reads hash_store.old + (tree_len tree.old + tree.old.data_blocks)) }
     ensures data_keeps { IsOnlyRead D.BlockStore data_store.old data_store.new }
@@ -148,6 +150,10 @@ pub fn check_all<D: BlockStore, H: BlockStore, A: Allocator + Copy + Drop>(
     requires hash_store { IsHashStoreOf H.BlockStore tree.old hash_store.old }
     requires data_room { tree.old.data_block_size ≤ length run.old }
     requires hash_whole { length hash_block.old ≡ tree.old.hash_block_size }
+    ensures given { IfOk result (λ report. IsReportGiven tree.old
+        (given_between D.BlockStore H.BlockStore tree.old data_store.old hash_store.old data_store.new hash_store.new)
+        report.faults report.unchecked
+        (D.failures data_store.old + H.failures hash_store.old) (D.failures data_store.new + H.failures hash_store.new)) }
     ensures told { BothTell D.BlockStore H.BlockStore data_store.old hash_store.old
         → IfOk result (λ report. IsReportOf tree.old (held_in D.BlockStore H.BlockStore tree.old data_store.old hash_store.old)
         report.faults report.unchecked

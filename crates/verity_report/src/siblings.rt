@@ -1,9 +1,9 @@
 //! Along the data blocks below one parent.
-ghost use Rattle.std.specs.Prelude.{◌≡◌, ℕ, ◌+◌, ◌-◌, ◌*◌, ◌%◌, ◌^◌, ◌<◌, ◌≤◌, true, false, [], length, slice_index_or, OnOk, IfOk};
+ghost use Rattle.std.specs.Prelude.{◌≡◌, ℕ, ◌+◌, ◌-◌, ◌*◌, ◌%◌, ◌^◌, ◌<◌, ◌≤◌, true, false, List, [], length, drop, slice_index_or};
+ghost use Rattle.std.specs.Prelude.{Contains, OnOk, IfOk};
 ghost use Rattle.verity_store.specs.Stores.{IsOnlyRead};
 ghost use Rattle.verity_chain.specs.Table.{IsTable, hashing_of, branching, height};
-ghost use Rattle.verity_report.specs.Finding.{Held};
-ghost use Rattle.verity_report.specs.Stores.{IsDataStoreOf};
+ghost use Rattle.verity_report.specs.Stores.{IsDataStoreOf, GivesOwn, listed_in};
 ghost use Rattle.verity_report.specs.Descent.{AreRows, AreSeenTo, IsDownTo, IsUnder, IsRun, IsSoFar, known, places, compared};
 
 use crate::ahead::{read_ahead, run_len};
@@ -28,8 +28,9 @@ fn pass_over<A: Allocator>(
     requires bad { (0 < height tree.now) × ((known rows.old 1).good ≡ false) }
     requires room { unchecked.old + count ≤ 2 ^ 62 }
     ensures run { OnOk result (IsRun count rows.old rows.new) }
-    ensures told { (held : Held) (base now : ℕ) → IsSoFar tree.now held rows.old unchecked.old base now
-        → OnOk result (IsSoFar tree.now held rows.new unchecked.new base now) }
+    ensures found { (data_gave hash_gave : List (ℕ × List ℕ)) (base now : ℕ)
+        → IsSoFar tree.now (listed_in tree.now data_gave hash_gave) rows.old unchecked.old base now
+        → OnOk result (IsSoFar tree.now (listed_in tree.now data_gave hash_gave) rows.new unchecked.new base now) }
     ensures counted { OnOk result (unchecked.new ≡ unchecked.old + count) }
 {
     let _levels = tree.levels();
@@ -73,11 +74,11 @@ fn note_run<A: Allocator>(
     requires good { 0 < height tree.now → (known rows.old 1).good ≡ true }
     requires room { unchecked.old ≤ 2 ^ 62 }
     ensures run { OnOk result (IsRun (length digests.now) rows.old rows.new) }
-    ensures told { (held : Held)
-        → ((j : ℕ) → j < length digests.now
-        → slice_index_or digests.now j [] ≡ (hashing_of tree.now).digest (held 0 (n + j)))
-        → (base now : ℕ) → IsSoFar tree.now held rows.old unchecked.old base now
-        → OnOk result (IsSoFar tree.now held rows.new unchecked.new base now) }
+    ensures found { (data_gave hash_gave : List (ℕ × List ℕ)) (blocks : ℕ → List ℕ)
+        → ((j : ℕ) → j < length digests.now → (slice_index_or digests.now j [] ≡ (hashing_of tree.now).digest (blocks j))
+        × Contains data_gave (n + j, blocks j))
+        → (base now : ℕ) → IsSoFar tree.now (listed_in tree.now data_gave hash_gave) rows.old unchecked.old base now
+        → OnOk result (IsSoFar tree.now (listed_in tree.now data_gave hash_gave) rows.new unchecked.new base now) }
     ensures counted { OnOk result (unchecked.new ≡ unchecked.old) }
 {
     'each: for j in 0..digests.len() {
@@ -112,10 +113,12 @@ fn look_ahead<D: BlockStore, A: Allocator>(
     ensures some { IfOk result (λ looked. 0 < looked) }
     ensures most { IfOk result (λ looked. looked ≤ count) }
     ensures run { IfOk result (λ looked. IsRun looked rows.old rows.new) }
-    ensures told { D.tells data_store.old ≡ true → (held : Held)
-        → ((i : ℕ) → held 0 i ≡ slice_index_or (D.content data_store.old) i [])
-        → (base other : ℕ) → IsSoFar tree.old held rows.old unchecked.old base (D.failures data_store.old + other)
-        → OnOk result (IsSoFar tree.old held rows.new unchecked.new base (D.failures data_store.new + other)) }
+    ensures found { (mark : ℕ) → mark ≤ length (D.given data_store.old) → (gave : List (ℕ × List ℕ)) (base other : ℕ)
+        → IsSoFar tree.old (listed_in tree.old (drop mark (D.given data_store.old)) gave) rows.old unchecked.old
+        base (D.failures data_store.old + other)
+        → OnOk result (IsSoFar tree.old (listed_in tree.old (drop mark (D.given data_store.new)) gave) rows.new unchecked.new
+        base (D.failures data_store.new + other)) }
+    ensures own { GivesOwn D.BlockStore data_store.old data_store.new }
     ensures unchecked { OnOk result (unchecked.new ≡ unchecked.old) }
     ensures counted { IfOk result (λ looked. D.reads data_store.new ≡ D.reads data_store.old + looked) }
     ensures keeps { IsOnlyRead D.BlockStore data_store.old data_store.new }
@@ -160,10 +163,12 @@ pub(crate) fn look_at_run<D: BlockStore, A: Allocator>(
     ensures within { IfOk result (λ next. next ≤ tree.old.data_blocks) }
     ensures rows { OnOk result (AreRows tree.old rows.new) }
     ensures before { IfOk result (λ next. AreSeenTo tree.old next rows.new) }
-    ensures told { D.tells data_store.old ≡ true → (held : Held)
-        → ((i : ℕ) → held 0 i ≡ slice_index_or (D.content data_store.old) i [])
-        → (base other : ℕ) → IsSoFar tree.old held rows.old unchecked.old base (D.failures data_store.old + other)
-        → OnOk result (IsSoFar tree.old held rows.new unchecked.new base (D.failures data_store.new + other)) }
+    ensures found { (mark : ℕ) → mark ≤ length (D.given data_store.old) → (gave : List (ℕ × List ℕ)) (base other : ℕ)
+        → IsSoFar tree.old (listed_in tree.old (drop mark (D.given data_store.old)) gave) rows.old unchecked.old
+        base (D.failures data_store.old + other)
+        → OnOk result (IsSoFar tree.old (listed_in tree.old (drop mark (D.given data_store.new)) gave) rows.new unchecked.new
+        base (D.failures data_store.new + other)) }
+    ensures own { GivesOwn D.BlockStore data_store.old data_store.new }
     ensures counted { OnOk result (unchecked.new + D.reads data_store.new + places tree.old rows.old
         ≡ unchecked.old + D.reads data_store.old + places tree.old rows.new) }
     ensures most { IfOk result (λ next. unchecked.new + n ≤ unchecked.old + next) }

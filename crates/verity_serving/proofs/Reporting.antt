@@ -6,13 +6,17 @@ use Rattle.verity_store.specs.declared.store.BlockStore as store
 use Rattle.verity_superblock.specs.Line.{TableLine, Line}
 use Rattle.verity_chain.specs.Table.{tree_len}
 use Rattle.verity_chain.specs.declared.place.Place.{Place}
-use Rattle.verity_report.specs.Report.{IsReportOf}
+use Rattle.verity_report.specs.Report.{IsReportOf, IsReportGiven}
+use Rattle.verity_report.specs.Stores.{given_between}
 use Rattle.verity_report.specs.declared.finding.Verdict.{Verdict}
 use Rattle.verity_check.specs.Verifier.{Verifying, StoresTell, IsOnlyReading, held_for}
 use Rattle.verity_serving.specs.Printed.{report_lines, IsFound, IsReported, IsReportOver}
 
 module _ {D H : Type 0} (data_facts : store.Ghosts D) (hash_facts : store.Ghosts H) where
   pub over : (old new : Verifying D H) (faults : List (Place × Verdict)) (unchecked : ℕ)
+      → IsReportGiven old.table (given_between data_facts hash_facts old.table old.data_store old.hash_store new.data_store new.hash_store)
+      faults unchecked (data_facts.failures old.data_store + hash_facts.failures old.hash_store)
+      (data_facts.failures new.data_store + hash_facts.failures new.hash_store)
       → (StoresTell data_facts hash_facts old → IsReportOf old.table (held_for data_facts hash_facts old) faults unchecked
       (data_facts.failures old.data_store + hash_facts.failures old.hash_store)
       (data_facts.failures new.data_store + hash_facts.failures new.hash_store))
@@ -20,11 +24,12 @@ module _ {D H : Type 0} (data_facts : store.Ghosts D) (hash_facts : store.Ghosts
       ≡ data_facts.reads old.data_store + hash_facts.reads old.hash_store + (tree_len old.table + old.table.data_blocks)
       → IsOnlyReading data_facts hash_facts old new
       → IsReportOver data_facts hash_facts old.table old.data_store old.hash_store faults unchecked
-  over old new faults unchecked told counted keeps = record {
+  over old new faults unchecked given told counted keeps = record {
     image' = new.data_store;
     device' = new.hash_store;
     image_read = keeps.data_store;
     device_read = keeps.hash_store;
+    given = given;
     told = told;
     counted = counted;
   }

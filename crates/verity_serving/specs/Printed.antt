@@ -10,8 +10,8 @@ use Rattle.verity_superblock.specs.Line.{TableLine, Line}
 use Rattle.verity_chain.specs.Table.{tree_len}
 use Rattle.verity_chain.specs.Texts.{place_text}
 use Rattle.verity_chain.specs.declared.place.Place.{Place}
-use Rattle.verity_report.specs.Report.{IsReportOf}
-use Rattle.verity_report.specs.Stores.{BothTell, held_in}
+use Rattle.verity_report.specs.Report.{IsReportOf, IsReportGiven}
+use Rattle.verity_report.specs.Stores.{BothTell, given_between, held_in}
 use Rattle.verity_report.specs.declared.finding.Verdict.{Verdict}
 use Rattle.verity_report.specs.declared.finding.Verdict.TheVariants as verdict
 use Rattle.verity_files.specs.Faults.{line}
@@ -32,13 +32,15 @@ abbrev pub report_lines : List (Place × Verdict) → ℕ → List ℕ
 report_lines faults unchecked = flat_map place_line faults ++ (codes "unchecked " ++ (line (decimal unchecked) ++ last_line faults))
 
 module _ {D H : Type 0} (data_facts : store.Ghosts D) (hash_facts : store.Ghosts H) where
-  -- These blocks are reported of a volume in two stores, and so many places weren't checked: over stores that tell those that are wrong in
-  -- what the stores hold; over any stores as many blocks were read as the volume has other places.
+  -- These blocks are reported of a volume in two stores, and so many places weren't checked: over any stores those that are wrong in what
+  -- the stores gave, which was as many blocks as the volume has other places; over stores that tell those that are wrong in what they hold.
   pub record IsReportOver (table : TableLine) (image : D) (device : H) (faults : List (Place × Verdict)) (unchecked : ℕ) : Type 0 where
     pub image' : D
     pub device' : H
     pub image_read : IsOnlyRead data_facts image image'
     pub device_read : IsOnlyRead hash_facts device device'
+    pub given : IsReportGiven table (given_between data_facts hash_facts table image device image' device') faults unchecked
+        (data_facts.failures image + hash_facts.failures device) (data_facts.failures image' + hash_facts.failures device')
     pub told : BothTell data_facts hash_facts image device → IsReportOf table (held_in data_facts hash_facts table image device) faults
         unchecked (data_facts.failures image + hash_facts.failures device) (data_facts.failures image' + hash_facts.failures device')
     pub counted : unchecked + (data_facts.reads image' + hash_facts.reads device')

@@ -1,14 +1,14 @@
 //! The command `recover`: makes whole a commit that a stop cut short.
 
-ghost use Rattle.std.specs.Prelude.{◌≡◌, ◌⊎◌, true, OnOk, IfErr, codes};
+ghost use Rattle.std.specs.Prelude.{◌≡◌, true, OnOk, IfOk, IfErr};
 ghost use Rattle.std.specs.Io.KnownBytes.{Appends};
-ghost use Rattle.verity_files.specs.Faults.{line};
 ghost use Rattle.verity_files.specs.Errors.{IsS1For};
 ghost use Rattle.verity_files.specs.declared.failure.Word.TheVariants as word;
 ghost use Rattle.verity_gate.specs.Journals.{IsOneOf};
 ghost use Rattle.verity_gate.specs.Refusals.{BlamesAtMost};
 ghost use Rattle.verity_volume.specs.Lines.{IsOfOutput};
 ghost use Rattle.verity_tool.specs.Blamed.{RecoverBlames};
+ghost use Rattle.verity_tool.specs.Printed.{IsMade, IsRecovered, recovered_line};
 
 use std::io::Write;
 use verity_files::{Command, Failure, Opened, Paths, Word, check_paths};
@@ -23,8 +23,7 @@ pub fn recover<R: Paths + AllocGlobal, W: Write>(
     words: &RecoverWords<'_>,
     output: &mut W,
 ) -> Result<(), Failure>
-    ensures printed { OnOk result (Appends (W.contents output.old) (W.contents output.new) (line (codes "recovered"))
-        ⊎ Appends (W.contents output.old) (W.contents output.new) (line (codes "nothing to recover"))) }
+    ensures printed { OnOk result (IsRecovered R.Paths rt.now words.now (W.contents output.old) (W.contents output.new)) }
     ensures blames { IfErr result (RecoverBlames R.Paths rt.now words.now) }
     ensures system { IfErr result (IsS1For (R.refuses rt.now ≡ true)) }
 {
@@ -48,6 +47,7 @@ fn make_whole<R: Paths + AllocGlobal>(
     hash: &Opened,
     names: &str,
 ) -> Result<bool, Failure>
+    ensures made { IfOk result (IsMade R.Paths rt.now path.now data.now.len hash.now.len names.now) }
     ensures word { IfErr result (λ e. e ≡ Failure.Word word.Journal
         → IsOneOf R.Paths rt.now path.now data.now.identity hash.now.identity) }
     ensures refused { IfErr result (BlamesAtMost word.Journal) }
@@ -62,8 +62,7 @@ fn make_whole<R: Paths + AllocGlobal>(
 
 /// Prints whether there were changes to make.
 fn print_recovered<W: Write>(is_recovered: bool, output: &mut W) -> Result<(), Failure>
-    ensures printed { OnOk result (Appends (W.contents output.old) (W.contents output.new) (line (codes "recovered"))
-        ⊎ Appends (W.contents output.old) (W.contents output.new) (line (codes "nothing to recover"))) }
+    ensures printed { OnOk result (Appends (W.contents output.old) (W.contents output.new) (recovered_line is_recovered)) }
     ensures refused { IfErr result IsOfOutput }
 {
     if is_recovered {

@@ -1,5 +1,5 @@
 -- The fields of the hash blocks that wait.
-use Rattle.std.specs.Prelude.{◌≡◌, ℕ, ◌*◌, ◌<◌, ◌≤◌, length}
+use Rattle.std.specs.Prelude.{◌≡◌, ◌*◌, ◌≤◌, length}
 use Rattle.verity_tree.specs.Filled.{slots}
 use Rattle.verity_tree.specs.Waits.{Waits}
 use Rattle.verity_tree.specs.declared.waiting.Waiting.TheInside.{Inside}

@@ -1,9 +1,9 @@
 //! The digests of the data blocks in their order, of which several are made at a time.
-ghost use Rattle.std.specs.Prelude.{◌≡◌, ◌+◌, ◌-◌, ◌%◌, ◌^◌, ◌<◌, ◌≤◌, [], true, length, slice_index_or, OnOk, OnErr, IfOk, IfErr};
+ghost use Rattle.std.specs.Prelude.{◌≡◌, ℕ, ◌+◌, ◌-◌, ◌%◌, ◌^◌, ◌<◌, ◌≤◌, [], true, length, slice_index_or, OnOk, OnErr, IfOk, IfErr};
 ghost use Rattle.verity_digest.specs.Hash.{size_of, salted_digest};
 ghost use Rattle.verity_store.specs.Stores.{IsOnlyRead};
 ghost use Rattle.verity_geometry.specs.Geometry.{digests_per_block};
-ghost use Rattle.verity_tree.specs.Ahead.{AreAhead, most_at_a_time};
+ghost use Rattle.verity_tree.specs.Ahead.{AreAhead, AreOfGiven, IsOfGiven, most_at_a_time};
 ghost use Rattle.verity_tree.specs.Opens.{opens};
 
 use crate::open_tree::OpenTree;
@@ -87,6 +87,8 @@ impl Leaves {
         requires room { tree.old.geometry.data_size ≤ length buffer.old }
         ensures ahead { OnOk result (AreAhead D.BlockStore tree.old.hasher.salted n data_store.new self.new.digests self.new.taken
             self.new.held) }
+        ensures given { OnOk result ((mark : ℕ) → mark ≤ length (D.given data_store.old)
+            → AreOfGiven D.BlockStore tree.old.hasher.salted mark n data_store.new self.new.digests self.new.taken self.new.held) }
         ensures some { OnOk result (self.new.taken < self.new.held) }
         ensures reads { OnOk result (D.reads data_store.new ≡ D.reads data_store.old + (self.new.held - self.new.taken)) }
         ensures reads_most { D.reads data_store.new + n ≤ D.reads data_store.old + tree.old.geometry.blocks }
@@ -137,6 +139,10 @@ impl Leaves {
             → digest ≡ salted_digest tree.old.hasher.salted (slice_index_or (D.content data_store.old) n [])) }
         ensures ahead { OnOk result (AreAhead D.BlockStore tree.old.hasher.salted (n + 1) data_store.new self.new.digests self.new.taken
             self.new.held) }
+        ensures given { (mark : ℕ) → mark ≤ length (D.given data_store.old)
+            → AreOfGiven D.BlockStore tree.old.hasher.salted mark n data_store.old self.old.digests self.old.taken self.old.held
+            → IfOk result (λ digest. IsOfGiven D.BlockStore tree.old.hasher.salted mark n data_store.new digest
+            × AreOfGiven D.BlockStore tree.old.hasher.salted mark (n + 1) data_store.new self.new.digests self.new.taken self.new.held) }
         ensures reads { OnOk result (D.reads data_store.new + (self.old.held - self.old.taken) ≡ D.reads data_store.old + 1 +
             (self.new.held - self.new.taken)) }
         ensures reads_most { D.reads data_store.new + n + (self.old.held - self.old.taken) ≤ D.reads data_store.old +

@@ -21,4 +21,4 @@ pub use lines::{Devices, LineParts, committed_line, print_superblock, table_line
 pub use opened_volume::{OpenedVolume, Sizes, offset_of, open_both, open_volume};
 pub use staging::{OverFile, StagedEdits, StagedFile};
 pub use superblock::read_superblock;
-pub use watching::{WatchedFile, end_progress, is_watched, progress_of};
+pub use watching::{end_progress, is_watched, progress_of};

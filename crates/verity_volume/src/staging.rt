@@ -45,13 +45,13 @@ impl OverFile for VolumeStore {
 }
 
 /// Nobody watches it any more.
-impl<'a, M: Meter> OverFile for Watched<'a, VolumeStore, M> {
+impl<'a, M: Meter> OverFile for Watched<VolumeStore, Option<&'a M>> {
     fn over_file<P: Paths>(
         rt: &P,
         opened: Opened,
         size: usize,
         blocks: u64,
-    ) -> Result<Watched<'a, VolumeStore, M>, StoreFault> {
+    ) -> Result<Watched<VolumeStore, Option<&'a M>>, StoreFault> {
         let store = store_of_most(rt, opened, size, blocks)?;
         Ok(Watched::new(store, None))
     }

@@ -3,12 +3,8 @@ ghost use Rattle.std.specs.Prelude.{◌≡◌, ◌≢◌, ◌&&◌, not, true, f
 
 use std::io::Eprint;
 use std::time::Clock;
-use verity_files::VolumeStore;
 use verity_store::BlockStore;
-use verity_watch::{Progress, Watched};
-
-/// A store in a file, of which a meter may be told.
-pub type WatchedFile<'a, M> = Watched<'a, VolumeStore, M>;
+use verity_watch::Progress;
 
 /// Whether someone looks on: standard error is a terminal, and nothing else was asked for.
 pub fn is_watched(is_quiet: bool, is_terminal: bool) -> bool

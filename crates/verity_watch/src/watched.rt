@@ -10,25 +10,34 @@ pub trait Meter {
     fn note(&self, bytes: u64);
 }
 
+/// A meter, or nobody.
+impl<M: Meter> Meter for Option<&M> {
+    fn note(&self, bytes: u64) {
+        if let Some(meter) = self {
+            meter.note(bytes);
+        }
+    }
+}
+
 /// A store over another, which tells a meter of each block that is read or written, before it is. A contract sees the store
 /// below in its place.
 ///
 /// Each call is the like call of the store below, and its fault that one's. It takes no memory.
 #[derive(Drop)]
-pub struct Watched<'a, S: BlockStore, M: Meter> {
+pub struct Watched<S: BlockStore, M: Meter> {
     store: S,
-    meter: Option<&'a M>,
+    meter: M,
 }
 
-impl<'a, S: BlockStore, M: Meter> Model for Watched<'a, S, M> {
+impl<S: BlockStore, M: Meter> Model for Watched<S, M> {
     ghost Value = { S };
 
     ghost view = { λ w. w.store };
 }
 
-impl<'a, S: BlockStore, M: Meter> Watched<'a, S, M> {
-    /// The store, of which a meter is told; without one, nobody.
-    pub fn new(store: S, meter: Option<&'a M>) -> Watched<'a, S, M>
+impl<S: BlockStore, M: Meter> Watched<S, M> {
+    /// The store, of which this meter is told: no other is at hand, whichever kind of meter it is.
+    pub fn new(store: S, meter: M) -> Watched<S, M>
         ensures { result ≡ store }
     {
         Watched { store, meter }
@@ -43,13 +52,11 @@ impl<'a, S: BlockStore, M: Meter> Watched<'a, S, M> {
 
     /// Tells the meter.
     fn tell(&self, bytes: usize) {
-        if let Some(meter) = self.meter {
-            meter.note(bytes as u64);
-        }
+        self.meter.note(bytes as u64);
     }
 }
 
-impl<'a, S: BlockStore, M: Meter> BlockStore for Watched<'a, S, M> {
+impl<S: BlockStore, M: Meter> BlockStore for Watched<S, M> {
     ghost size = { λ s. S.size s };
 
     ghost content = { λ s. S.content s };

@@ -24,6 +24,7 @@ returns g c =
       bytes = subst (λ (in_front : List (List ℕ)). OnOk c.build_at.result (D.tells image ≡ true → H.tells device ≡ true
           → concat (H.content c.build_at.new.hash_store) ≡ hash_image p (D.content image) in_front)) none done.bytes;
       root = done.root;
+      given = done.given;
       ok = good_count blocks 0 size c.build_at.result done.ok;
       bad_count = done.bad_count;
       fault = done.fault;

@@ -1,4 +1,4 @@
-use Rattle.std.proofs.Common.{◌≡◌, ℕ, suc, ◌+◌, ◌-◌, ◌/◌, ◌<◌, ◌≤◌, List, [], ◌∷◌, ◌++◌, Result, Ok, Err, true}
+use Rattle.std.proofs.Common.{◌≡◌, ℕ, ◌+◌, ◌-◌, ◌/◌, ◌<◌, ◌≤◌, List, [], ◌∷◌, ◌++◌, Result, Ok, Err, true}
 use Rattle.std.proofs.Common.{length, get_or, refl, sym, ap, ◌∙◌, subst, arith}
 use Rattle.std.specs.List.{concat}
 use Rattle.std.proofs.lemmas.List.Folds.{concat-append}
@@ -9,9 +9,10 @@ use Rattle.verity_geometry.specs.Geometry.{Shape}
 use Rattle.verity_store.specs.Blocks.{resized}
 use Rattle.verity_store.proofs.StoreLemmas.{later_then, only_read_same}
 use Rattle.verity_superblock.specs.Superblock.{Params, zero_filled}
-use Rattle.verity_superblock.specs.Image.{hash_blocks, superblock_block, tree_of}
+use Rattle.verity_superblock.specs.Image.{superblock_block, tree_of}
 use Rattle.verity_store.specs.declared.fault.Which.{Which}
 use Rattle.verity_build.specs.Faults.{CanBuild, HasFailed}
+use Rattle.verity_build.specs.Given.{IsRootOfGiven}
 use Rattle.verity_build.specs.Parameters.{salted_by, volume, front}
 use Rattle.verity_build.specs.declared.fault.BuildFault.{BuildFault}
 use Rattle.verity_build.specs.declared.fault.BuildFault.TheVariants.{Store}
@@ -36,6 +37,7 @@ returns-in_err-made g c =
       built = tt;
       bytes = tt;
       root = tt;
+      given = tt;
       ok = tt;
       bad_count = tells_bad_count by_data by_hash blocks c.args.offset (H.size device) answer tt why;
       bad_offset = tells_bad_offset by_data by_hash blocks c.args.offset (H.size device) answer tt why;
@@ -80,6 +82,7 @@ returns-in-Ok g c =
       built = built;
       bytes = λ td th. ap concat (built td th) ∙ concat-append in_front (superblock_block p blocks ∷ tree_of p (D.content image));
       root = λ td. done.root td ∙ ap (λ (h : Hashing). root h (D.content image)) hashes;
+      given = subst (λ (h : Hashing). IsRootOfGiven D image c.write_device.new.data_store h c.in-Ok.root) hashes done.given;
       ok = can;
       bad_count = tells_bad_count ⊥ ⊥ blocks c.args.offset size answer can tt;
       bad_offset = tells_bad_offset ⊥ ⊥ blocks c.args.offset size answer can tt;
@@ -125,6 +128,7 @@ returns g c =
       built = tt;
       bytes = tt;
       root = tt;
+      given = tt;
       ok = tt;
       bad_count = tells_bad_count by_data by_hash blocks c.args.offset size answer tt why;
       bad_offset = tells_bad_offset by_data by_hash blocks c.args.offset size answer tt why;

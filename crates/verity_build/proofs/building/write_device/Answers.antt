@@ -1,4 +1,4 @@
-use Rattle.std.proofs.Common.{◌≡◌, ◌≢◌, ℕ, suc, ◌+◌, ◌-◌, ◌<◌, ◌≤◌, List, [], Err, true, length, get_or, set, refl}
+use Rattle.std.proofs.Common.{◌≡◌, ◌≢◌, ℕ, ◌+◌, ◌-◌, ◌<◌, ◌≤◌, List, [], Err, length, get_or, set, refl}
 use Rattle.std.proofs.Common.{sym, ap, ◌∙◌, subst, arith}
 use Rattle.std.proofs.lemmas.Result.{err_from_is_err_and}
 use Rattle.verity_store.specs.Given.{GoesOn}
@@ -60,6 +60,7 @@ returns-in_default g c =
     record {
       written = tt;
       root = tt;
+      given = tt;
       front = λ q below inside. ap (λ (blocks : List (List ℕ)). get_or blocks q []) cut.partly.3
           ∙ get_or-resized_old (H.size device) cut.partly.0 (H.content device) q (omega (arith, cut.partly.1)) inside;
       data_store = only_read_same D image;
@@ -86,6 +87,7 @@ returns-in_err-write_tree g c =
     rw (p.1, p.2) record {
       written = tt;
       root = tt;
+      given = tt;
       front = λ q below inside. wrote.hash_store.front q (omega arith)
           ∙ ap (λ (blocks : List (List ℕ)). get_or blocks q []) cut.done
           ∙ get_or-resized_old (H.size device) (c.args.start + c.total.result) (H.content device) q (omega arith) inside;
@@ -114,6 +116,7 @@ returns-in_default-write_superblock g c =
     record {
       written = tt;
       root = tt;
+      given = tt;
       front = λ q below inside. last.others.1 q (λ is. absurd (omega arith)) ∙ wrote.hash_store.front q (omega arith)
           ∙ ap (λ (blocks : List (List ℕ)). get_or blocks q []) cut.done
           ∙ get_or-resized_old (H.size device) (c.args.start + c.total.result) (H.content device) q (omega arith) inside;
@@ -140,6 +143,18 @@ returns-clause-root g c = λ tells.
     root_right first.geometry (opens new) new.root first.shaped (levels_of_opens new ∙ ap levels_of wrote.geometry) wrote.grown
     first.hasher.salted (g.D.BlockStore.content c.args.data_store.now) first.sized c.requires.blocks c.in-Some.root
     (wrote.right tells) c.in-Some.is
+
+pub returns-clause-given : goal.returns-clause-given
+returns-clause-given g c =
+    let first = c.args.tree.now in
+    let new = c.write_tree.new.tree in
+    let wrote = c.in_ok-write_tree.ensures in
+    let image = wrote.given.0 in (
+      image,
+      wrote.given.1,
+      root_right first.geometry (opens new) new.root first.shaped (levels_of_opens new ∙ ap levels_of wrote.geometry) wrote.grown
+          first.hasher.salted image first.sized (wrote.given.1.blocks ∙ c.requires.blocks) c.in-Some.root wrote.given.2 c.in-Some.is,
+    )
 
 pub returns-clause-front : goal.returns-clause-front
 returns-clause-front g c = λ q below inside.

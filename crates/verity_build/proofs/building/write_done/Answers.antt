@@ -1,6 +1,5 @@
-use Rattle.std.proofs.Common.{◌≡◌, ◌≢◌, ℕ, suc, ◌+◌, ◌*◌, ◌/◌, ◌<◌, ◌≤◌, List, [], true, length, get_or, set, sym, ap, ◌∙◌, subst, arith}
+use Rattle.std.proofs.Common.{◌≡◌, ℕ, suc, ◌+◌, ◌<◌, ◌≤◌, length, set, sym, ap, ◌∙◌, subst, arith}
 use Rattle.std.proofs.Math.Numerals.{add-one}
-use Rattle.std.proofs.lemmas.Bool.{eqb-true}
 use Rattle.std.proofs.lemmas.Result.{err_from_is_err_and}
 use Rattle.verity_digest.specs.Hash.{Salted, hashing}
 use Rattle.verity_digest.specs.Tree.{Hashing, hash_block, tree}
@@ -9,8 +8,7 @@ use Rattle.verity_geometry.proofs.Shapes.{wide}
 use Rattle.verity_store.specs.Stores.{IsLater}
 use Rattle.verity_tree.specs.Opens.{hashing_of, opens}
 use Rattle.verity_tree.proofs.Trees.{levels_of_opens, closes_as}
-use Rattle.verity_tree.specs.Open.{Open}
-use Rattle.verity_tree.specs.Climb.{open_at, Closes}
+use Rattle.verity_tree.specs.Climb.{open_at}
 use Rattle.verity_build.specs.Progress.{Settling}
 use Rattle.verity_build.specs.Device.{AreStored}
 use Rattle.verity_build.proofs.Settles.{index_below, settling_next, growing_end, grown_end}

@@ -1,19 +1,18 @@
-use Rattle.std.proofs.Common.{◌≡◌, ℕ, ◌+◌, ◌<◌, ◌≤◌, List, [], true, length, get_or, refl, sym, ap, ◌∙◌, subst, arith}
-use Rattle.std.specs.Prelude.{Option, None}
+use Rattle.std.proofs.Common.{◌≡◌, ℕ, ◌+◌, ◌<◌, List, [], true, length, get_or, refl, sym, ap, ◌∙◌, subst, arith}
 use Rattle.std.proofs.lemmas.Result.{err_from_is_err_and}
 use Rattle.verity_digest.specs.Hash.{Salted, hashing, salted_digest}
 use Rattle.verity_digest.specs.Tree.{Hashing, tree}
 use Rattle.verity_geometry.specs.Geometry.{Shape, digests_per_block, levels_of}
 use Rattle.verity_geometry.proofs.Shapes.{wide, some}
-use Rattle.verity_store.specs.Stores.{IsOnlyRead}
 use Rattle.verity_store.proofs.StoreLemmas.{only_read_same, only_read_then}
 use Rattle.verity_tree.specs.Opens.{opens}
 use Rattle.verity_tree.proofs.Trees.{levels_of_opens}
-use Rattle.verity_tree.specs.Open.{Open}
-use Rattle.verity_tree.specs.Ahead.{AreAhead}
+use Rattle.verity_store.proofs.GivenLemmas.{goes_on_len}
+use Rattle.verity_tree.specs.Ahead.{AreAhead, AreOfGiven, IsOfGiven}
+use Rattle.verity_build.proofs.Givens.{given_none, given_more, given_all}
 use Rattle.verity_tree.specs.Climb.{Comes}
 use Rattle.verity_build.specs.Progress.{Growing, Grown, Settling, IsRight}
-use Rattle.verity_build.specs.Device.{AreStored, StaysRight, StaysStored}
+use Rattle.verity_build.specs.Device.{StaysRight, StaysStored}
 use Rattle.verity_build.proofs.Refusals.{same_fault}
 use Rattle.verity_tree.proofs.Ahead.{ahead_none, comes_now}
 use Rattle.verity_build.proofs.Settles.{growing_empty, settling_from}
@@ -38,6 +37,8 @@ loop-n-init g c =
       geometry = refl;
       right = λ tells. subst (λ r. IsRight h image (opens first) r) (sym c.requires.rootless)
           (right_empty h image (opens first) c.requires.empty);
+      given = given_none D c.args.data_store.now h s.blocks (opens first) first.root c.requires.empty c.requires.rootless;
+      of_given = λ j low. absurd (omega (arith, low, c.new-leaves.ensures.taken, c.new-leaves.ensures.held));
       stored = λ td th l i there below. let zeros = (c.requires.empty l there).1 in absurd (omega arith);
       data_store = only_read_same D c.args.data_store.now;
       ahead = ahead_none D first.hasher.salted 0 c.args.data_store.now c.new-leaves.result.digests c.new-leaves.result.taken
@@ -98,6 +99,12 @@ loop-n-preserved g c =
     subst (λ d. Comes 0 d (opens now) (opens mid) now.root mid.root)
     (next.right (kept.data_store.later.tells ∙ tells)
     ∙ (λ i. salted_digest (kept.salted i) (get_or (kept.data_store.content i) n []))) comes in
+    let mark : ℕ = length (D.given c.args.data_store.now) in
+    let of_given = next.given mark (goes_on_len _ _ kept.data_store.later.gave)
+    (subst (λ x. AreOfGiven D x mark n c.loop-n.data_store c.loop-n.leaves.digests c.loop-n.leaves.taken c.loop-n.leaves.held)
+    (sym kept.salted) kept.of_given) in
+    let one : IsOfGiven D salted mark n c.next.new.data_store digest =
+    subst (λ x. IsOfGiven D x mark n c.next.new.data_store digest) kept.salted of_given.0 in
     let mid_right : D.tells c.args.data_store.now ≡ true → IsRight h image (opens mid) mid.root = λ tells.
     come_right salted s n block (opens now) (opens mid) now.root mid.root first.shaped first.sized levels growing
     (comes_right tells) image c.requires.blocks below refl (kept.right tells) in
@@ -121,6 +128,13 @@ loop-n-preserved g c =
       salted = wrote.salted ∙ same_salted;
       geometry = wrote.geometry ∙ geometry;
       right = λ tells. stays_right image c.requires.blocks (mid_right tells);
+      given = given_more D c.args.data_store.now h s.blocks c.loop-n.data_store c.next.new.data_store n salted digest (opens now)
+          (opens new) now.root new.root one (next.read.later.size ∙ kept.data_store.later.size) next.read.later.gave below
+          (λ image count here right. stays_right image count (come_right salted s n one.block (opens now) (opens mid) now.root mid.root
+          first.shaped first.sized levels growing (subst (λ d. Comes 0 d (opens now) (opens mid) now.root mid.root) one.is comes) image
+          count below here right)) kept.given;
+      of_given = subst (λ x. AreOfGiven D x mark (n + 1) c.next.new.data_store c.next.new.self.digests c.next.new.self.taken
+          c.next.new.self.held) kept.salted of_given.1;
       stored = λ td th. stays_stored th image c.requires.blocks (mid_right td)
           (come_stored salted s n block (opens now) (opens mid) now.root mid.root first.shaped first.sized levels growing
           (comes_right td) c.args.start (tree h image) (H.content c.loop-n.hash_store) (kept.stored td th));
@@ -144,6 +158,7 @@ returns-in_err-digest g c =
     rw (p.1, p.2) record {
       grown = tt;
       right = tt;
+      given = tt;
       stored = tt;
       geometry = next.geometry ∙ kept.geometry;
       data_store = only_read_then D image c.loop-n.data_store c.next.new.data_store kept.data_store next.read;
@@ -169,6 +184,7 @@ returns-in_default g c =
     record {
       grown = tt;
       right = tt;
+      given = tt;
       stored = tt;
       geometry = wrote.geometry ∙ geometry;
       data_store = only_read_then D image c.loop-n.data_store c.next.new.data_store kept.data_store next.read;
@@ -198,6 +214,8 @@ returns g c =
     record {
       grown = subst (λ n. Grown (digests_per_block s) n (opens now) now.root) all (kept.grown all);
       right = kept.right;
+      given = given_all D image (hashing c.args.tree.now.hasher.salted s.hash_size) s.blocks c.loop-n.data_store c.loop-n.n (opens now)
+          now.root all c.requires.blocks kept.given;
       stored = kept.stored;
       geometry = kept.geometry;
       data_store = kept.data_store;

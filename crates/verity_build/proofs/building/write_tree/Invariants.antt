@@ -1,10 +1,11 @@
-use Rattle.std.proofs.Common.{◌≡◌, ◌+◌, ◌-◌, ◌<◌, true}
+use Rattle.std.proofs.Common.{◌≡◌, ◌+◌, ◌-◌, ◌<◌, true, length}
 use Rattle.verity_digest.specs.Hash.{hashing}
 use Rattle.verity_digest.specs.Tree.{tree}
 use Rattle.verity_geometry.specs.Geometry.{digests_per_block}
 use Rattle.verity_store.specs.Stores.{IsOnlyRead}
 use Rattle.verity_tree.specs.Opens.{opens}
-use Rattle.verity_tree.specs.Ahead.{AreAhead}
+use Rattle.verity_tree.specs.Ahead.{AreAhead, AreOfGiven}
+use Rattle.verity_build.specs.Given.{IsGivenTo}
 use Rattle.verity_build.specs.Progress.{Growing, Grown, IsRight}
 use Rattle.verity_build.specs.Device.{AreStored, WritesFrom}
 use Rattle.verity_build.proofs.building.write_tree.Given as goal
@@ -22,6 +23,9 @@ invariant-loop-n g l =
       salted : l.tree.hasher.salted ≡ l.fn.tree.hasher.salted;
       geometry : l.tree.geometry ≡ s;
       right : D.tells l.fn.data_store ≡ true → IsRight h image (opens l.tree) l.tree.root;
+      given : IsGivenTo D l.fn.data_store l.data_store h s.blocks l.n (opens l.tree) l.tree.root;
+      of_given : AreOfGiven D l.fn.tree.hasher.salted (length (D.given l.fn.data_store)) l.n l.data_store l.leaves.digests l.leaves.taken
+          l.leaves.held;
       stored : D.tells l.fn.data_store ≡ true → H.tells l.fn.hash_store ≡ true →
           AreStored s l.start (tree h image) (opens l.tree) (H.content l.hash_store);
       data_store : IsOnlyRead D l.fn.data_store l.data_store;

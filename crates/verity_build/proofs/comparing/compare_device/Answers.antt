@@ -1,7 +1,7 @@
-use Rattle.std.proofs.Common.{◌≡◌, ℕ, List, Err, true, length, sym, ap, ◌∙◌, subst}
+use Rattle.std.proofs.Common.{◌≡◌, ℕ, List, Err, true, ap, ◌∙◌, subst}
 use Rattle.std.proofs.lemmas.Result.{err_from_is_err_and}
-use Rattle.verity_digest.specs.Hash.{Salted, hashing}
-use Rattle.verity_digest.specs.Tree.{root, tree}
+use Rattle.verity_digest.specs.Hash.{hashing}
+use Rattle.verity_digest.specs.Tree.{tree}
 use Rattle.verity_geometry.specs.Geometry.{Shape, levels_of}
 use Rattle.verity_tree.specs.Opens.{opens}
 use Rattle.verity_tree.proofs.Trees.{levels_of_opens}

@@ -1,20 +1,17 @@
-use Rattle.std.proofs.Common.{◌≡◌, ℕ, ◌+◌, ◌<◌, ◌≤◌, List, [], true, length, get_or, refl, sym, ap, ◌∙◌, subst, arith}
-use Rattle.std.specs.Prelude.{Option, None}
+use Rattle.std.proofs.Common.{◌≡◌, ℕ, ◌+◌, ◌<◌, List, [], true, length, get_or, refl, sym, ap, ◌∙◌, subst, arith}
 use Rattle.std.proofs.lemmas.Result.{err_from_is_err_and}
 use Rattle.verity_digest.specs.Hash.{Salted, hashing, salted_digest}
 use Rattle.verity_digest.specs.Tree.{Hashing, tree}
 use Rattle.verity_geometry.specs.Geometry.{Shape, digests_per_block, levels_of, total_of}
 use Rattle.verity_geometry.proofs.Shapes.{wide, some}
-use Rattle.verity_store.specs.Stores.{IsOnlyRead}
 use Rattle.verity_store.proofs.StoreLemmas.{only_read_same, only_read_then}
 use Rattle.verity_tree.specs.Opens.{opens}
 use Rattle.verity_tree.proofs.Trees.{levels_of_opens}
-use Rattle.verity_tree.specs.Open.{Open}
 use Rattle.verity_tree.specs.Ahead.{AreAhead}
 use Rattle.verity_tree.specs.Climb.{Comes}
 use Rattle.verity_build.specs.Progress.{Growing, Grown, Settling, IsRight}
 use Rattle.verity_build.specs.Device.{StaysRight}
-use Rattle.verity_build.specs.Differences.{AreCompared, StaysCompared}
+use Rattle.verity_build.specs.Differences.{StaysCompared}
 use Rattle.verity_build.proofs.Refusals.{same_fault}
 use Rattle.verity_tree.proofs.Ahead.{ahead_none, comes_now}
 use Rattle.verity_build.proofs.Settles.{growing_empty, settling_from, same_index}

@@ -11,6 +11,7 @@ use Rattle.verity_store.specs.Stores.{IsLater}
 use Rattle.verity_store.proofs.StoreLemmas.{only_read_then}
 use Rattle.verity_chain.proofs.ChainLemmas.{ok_here}
 use Rattle.verity_store.proofs.RunLemmas.{chunk_below, chunk_here}
+use Rattle.verity_report.proofs.OwnLemmas.{own_then, own_one}
 use Rattle.verity_report.proofs.ahead.read_ahead.Goals as goal
 
 pub each-preserved : goal.each-preserved
@@ -69,6 +70,9 @@ each-preserved g c =
             (ap (λ blocks. slice_index_or blocks (first + j) []) (sym kept.read.content)
             ∙ ok_here c.read.result _ read.right c.if-is_err.ensures.value (kept.read.later.tells ∙ tells) ∙ sym here)
       ];
+      own = own_then S c.args.store.now c.each.store c.read.new.self kept.read read.gave kept.own
+          (own_one S c.each.store c.read.new.self (first + j) ys (ok_here c.read.result _ read.given c.if-is_err.ensures.value)
+          (len ∙ same ∙ sym kept.read.later.size) (ok_here c.read.result _ read.right c.if-is_err.ensures.value));
       counted = omega (arith, read.counted, kept.counted);
       read = only_read_then S c.args.store.now c.each.store c.read.new.self kept.read
           (record { content = read.content; room = read.room; later = later });

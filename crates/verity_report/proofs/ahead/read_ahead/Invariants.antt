@@ -2,6 +2,7 @@ use Rattle.std.proofs.Common.{◌≡◌, ℕ, ◌+◌, ◌<◌, ◌≤◌, [], t
 use Rattle.std.specs.Fork.{slice_chunk}
 use Rattle.verity_store.specs.Given.{GaveSince}
 use Rattle.verity_store.specs.Stores.{IsOnlyRead}
+use Rattle.verity_report.specs.Stores.{GivesOwn}
 use Rattle.verity_report.proofs.ahead.read_ahead.Given as goal
 
 abbrev pub invariant-each : goal.invariant-each
@@ -13,6 +14,7 @@ invariant-each g l =
           → GaveSince (S.given l.store) mark (l.first + k) (slice_chunk l.out size k);
       right : S.tells l.fn.store ≡ true → (k : ℕ) → k < l.j
           → slice_index_or (S.content l.fn.store) (l.first + k) [] ≡ slice_chunk l.out size k;
+      own : GivesOwn S l.fn.store l.store;
       counted : S.reads l.store ≡ S.reads l.fn.store + l.j;
       read : IsOnlyRead S l.fn.store l.store;
     }

@@ -1,7 +1,9 @@
-use Rattle.std.proofs.Common.{◌≡◌, ◌+◌, ◌-◌, ℕ, suc, true, sym, ap, subst, ◌∙◌, get_or, arith, [], refl}
+use Rattle.std.proofs.Common.{◌≡◌, ◌≤◌, ◌+◌, ◌-◌, ℕ, suc, List, length, drop, sym, subst, ◌∙◌, arith, refl}
+use Rattle.verity_store.proofs.GivenLemmas.{goes_on_len}
 use Rattle.verity_store.proofs.StoreLemmas.{only_read_same, only_read_then}
-use Rattle.verity_chain.specs.Table.{Table, hash_place}
-use Rattle.verity_report.specs.Finding.{Held}
+use Rattle.verity_chain.specs.Table.{Table}
+use Rattle.verity_report.specs.Stores.{listed_in}
+use Rattle.verity_report.proofs.OwnLemmas.{own_same, own_then}
 use Rattle.verity_report.specs.Descent.{AreRows, IsDownTo, IsSoFar, places}
 use Rattle.verity_report.proofs.DescentLemmas.{down_start}
 use Rattle.verity_report.proofs.descent.go_down.Goals as goal
@@ -14,7 +16,8 @@ loop-level-init g c =
       rows = c.requires.rows;
       down = subst (λ m. IsDownTo t c.args.n m rows) (sym c.levels-level.ensures.value) (down_start t c.args.n rows c.requires.before);
       low = omega (arith, c.levels-level.ensures.value);
-      told = λ tells held at base other d. d;
+      found = λ mark marked gave base other d. d;
+      own = own_same g.H.BlockStore c.args.hash_store.now;
       counted = refl;
       most = omega (arith, c.levels-level.ensures.value);
       keeps = only_read_same g.H.BlockStore c.args.hash_store.now;
@@ -34,15 +37,9 @@ loop-level-preserved g c =
     let u' = c.step_down.new.unchecked in
     let h = c.loop-level.hash_store in
     let h' = c.step_down.new.hash_store in
-    let told : H.tells c.loop-level.hash_store ≡ true → (held : Held)
-    → ((k i : ℕ) → held (suc k) i ≡ get_or (H.content c.loop-level.hash_store) (hash_place c.args.tree.now k i) [])
-    → (base other : ℕ)
-    → IsSoFar c.args.tree.now held c.loop-level.rows c.loop-level.unchecked base (other + H.failures c.loop-level.hash_store)
-    → IsSoFar c.args.tree.now held c.step_down.new.rows c.step_down.new.unchecked base (other + H.failures c.step_down.new.hash_store) =
-    subst (λ (x : Table). H.tells h ≡ true → (held : Held)
-    → ((k i : ℕ) → held (suc k) i ≡ get_or (H.content h) (hash_place x k i) [])
-    → (base other : ℕ) → IsSoFar x held rows u base (other + H.failures h)
-    → IsSoFar x held rows' u' base (other + H.failures h')) inv.same e.told in
+    let found = subst (λ (x : Table). (mark : ℕ) → mark ≤ length (H.given h) → (gave : List (ℕ × List ℕ)) (base other : ℕ)
+    → IsSoFar x (listed_in x gave (drop mark (H.given h))) rows u base (other + H.failures h)
+    → IsSoFar x (listed_in x gave (drop mark (H.given h'))) rows' u' base (other + H.failures h')) inv.same e.found in
     let counted : c.step_down.new.unchecked + H.reads c.step_down.new.hash_store + places c.args.tree.now c.loop-level.rows
     ≡ c.loop-level.unchecked + H.reads c.loop-level.hash_store + places c.args.tree.now c.step_down.new.rows =
     subst (λ (x : Table). u' + H.reads h' + places x rows ≡ u + H.reads h + places x rows') inv.same e.counted in
@@ -50,9 +47,10 @@ loop-level-preserved g c =
       rows = subst (λ (x : Table). AreRows x rows') inv.same e.rows;
       down = subst (λ (x : Table). IsDownTo x c.args.n (c.loop-level.level - 1) rows') inv.same e.down;
       low = omega (arith, inv.low);
-      told = λ tells held at base other d. told (inv.keeps.later.tells ∙ tells) held
-          (λ k i. at k i ∙ ap (λ content. get_or content (hash_place t k i) []) (sym inv.keeps.content)) base other
-          (inv.told tells held at base other d);
+      found = λ mark marked gave base other d.
+          found mark (omega (arith, marked, goes_on_len _ _ inv.keeps.later.gave)) gave base other
+          (inv.found mark marked gave base other d);
+      own = own_then H _ _ _ inv.keeps e.keeps.later.gave inv.own e.own;
       counted = omega (arith, inv.counted, counted);
       most = omega (arith, inv.most, e.most, c.loop-level-test.true);
       keeps = only_read_then H _ _ _ inv.keeps e.keeps;
@@ -75,3 +73,9 @@ step_down-requires-clause-down g c =
 pub returns-in_err-step_down-clause-keeps : goal.returns-in_err-step_down-clause-keeps
 returns-in_err-step_down-clause-keeps g c =
     only_read_then g.H.BlockStore _ _ _ c.loop-level.invariant.keeps c.in_err-step_down.ensures.keeps
+
+pub returns-in_err-step_down-clause-own : goal.returns-in_err-step_down-clause-own
+returns-in_err-step_down-clause-own g c =
+    let inv = c.loop-level.invariant in
+    let e = c.in_err-step_down.ensures in
+    own_then g.H.BlockStore _ _ _ inv.keeps e.keeps.later.gave inv.own e.own

@@ -3,6 +3,7 @@ use Rattle.verity_chain.specs.Table.{branching}
 use Rattle.verity_chain.proofs.TableLaws.{path_index-suc}
 use Rattle.verity_report.specs.Descent.{seen_in}
 use Rattle.verity_report.proofs.DescentLemmas.{ok_weaker, ok_both, down_passed, down_visited}
+use Rattle.verity_report.proofs.OwnLemmas.{own_same}
 use Rattle.verity_report.proofs.descent.step_down.Goals as goal
 
 pub visit-requires-clause-next : goal.visit-requires-clause-next
@@ -35,10 +36,6 @@ returns-clause-down g c =
     ok_both c.visit.result _ _ _ (λ here others. down_visited t n l c.args.rows.now c.visit.new.rows c.requires.down
     (here ∙ ap (λ i. suc i) c.above-index.ensures.value) others) c.visit.ensures.here c.visit.ensures.others
 
-pub returns-clause-told : goal.returns-clause-told
-returns-clause-told g c = λ tells held at base other d.
-    c.visit.ensures.told tells held (at c.args.level c.above-index.result) base other d
-
 pub returns-clause-counted : goal.returns-clause-counted
 returns-clause-counted g c =
     ok_both c.visit.result _ _ _ (λ counted added. omega (arith, counted, added)) c.visit.ensures.counted c.visit.ensures.added
@@ -46,3 +43,6 @@ returns-clause-counted g c =
 pub returns-clause-most : goal.returns-clause-most
 returns-clause-most g c =
     ok_weaker c.visit.result _ _ (λ counted. omega (arith, counted, c.visit.ensures.keeps.later.reads)) c.visit.ensures.counted
+
+pub returns-then-seen_of-index-clause-own : goal.returns-then-seen_of-index-clause-own
+returns-then-seen_of-index-clause-own g c = own_same g.H.BlockStore c.args.hash_store.now

@@ -1,8 +1,13 @@
-use Rattle.std.proofs.Common.{◌≡◌, ◌+◌, suc, sym, ap, subst, ◌∙◌, get_or, arith, []}
-use Rattle.verity_report.specs.Report.{place_of, judged}
+use Rattle.std.proofs.Common.{◌≡◌, ◌+◌, suc, drop, refl, sym, ap, subst, ◌∙◌, arith}
+use Rattle.verity_store.specs.Given.{GaveSince}
+use Rattle.verity_chain.proofs.ChainLemmas.{Grows}
+use Rattle.verity_report.specs.Finding.{IsChecked}
+use Rattle.verity_report.specs.Report.{place_of}
+use Rattle.verity_report.specs.Stores.{listed_in}
 use Rattle.verity_report.specs.Descent.{Known, seen_in, IsStep, IsNamed, IsSoFar}
 use Rattle.verity_report.proofs.RowCounts.{row_few}
 use Rattle.verity_report.proofs.DescentLemmas.{ok_weaker, ok_both, rows_step, places_step, so_far_more}
+use Rattle.verity_report.proofs.OwnLemmas.{listed_on}
 use Rattle.verity_report.proofs.descent.visit.Goals as goal
 
 pub returns-clause-rows : goal.returns-clause-rows
@@ -52,8 +57,8 @@ pub returns-clause-counted : goal.returns-clause-counted
 returns-clause-counted g c = ok_weaker c.note_block.result _ _ (λ e. omega (arith, e, c.look-finding.ensures.counted))
     c.note_block.ensures.counted
 
-pub returns-clause-told : goal.returns-clause-told
-returns-clause-told g c = λ tells held at base other d.
+pub returns-clause-found : goal.returns-clause-found
+returns-clause-found g c = λ mark marked gave base other d.
     let H = g.H.BlockStore in
     let t = c.args.tree.now in
     let l = c.args.level in
@@ -64,19 +69,21 @@ returns-clause-told g c = λ tells held at base other d.
     let rows = c.args.rows.now in
     let rows' = c.note_block.new.rows in
     let e = c.look-finding.ensures in
-    let look = e.told tells in
+    let old = listed_in t gave (drop mark (H.given c.args.hash_store.now)) in
+    let new = listed_in t gave (drop mark (H.given c.look-finding.new.store)) in
     let turn : c.args.level + 1 ≡ suc c.args.level = omega arith in
-    let place : get_or (H.content c.args.hash_store.now) c.hash_place-number.result [] ≡ held (suc c.args.level) c.args.index =
-    ap (λ p. get_or (H.content c.args.hash_store.now) p []) c.hash_place-number.ensures.value ∙ sym at in
-    let outcome = look.1 ∙ ap (λ b. judged t named look.0 b) place in
     let name = subst (λ m. IsNamed t m i rows named) turn c.name_of-named.ensures in
+    let given : IsChecked c.look-finding.result → new (suc c.args.level) c.args.index c.look-finding.new.block = λ checked.
+    subst (λ n. GaveSince (H.given c.look-finding.new.store) mark n block) c.hash_place-number.ensures.value (e.gave checked mark marked) in
+    let more : Grows old new = listed_on t (H.given c.args.hash_store.now) (H.given c.look-finding.new.store) gave mark
+    e.keeps.later.gave in
     ok_both c.note_block.result _ _ _ (λ s counted.
     let step = subst (λ m. IsStep m f (place_of (suc l) i) block rows rows') turn s in
-    subst (λ u. IsSoFar t held rows' u base (other + H.failures c.look-finding.new.store)) (sym counted)
-    (so_far_more t held (suc l) i f block rows rows' step c.requires.next (omega (arith, c.requires.level))
-    (λ some good. e.good tells good ∙ place)
-    c.args.unchecked.now base (other + H.failures c.args.hash_store.now) (other + H.failures c.look-finding.new.store) named look.0 d
-    c.requires.parent name outcome (omega (arith, e.keeps.later.failures)) (λ b. omega (arith, look.2 b))))
+    subst (λ u. IsSoFar t new rows' u base (other + H.failures c.look-finding.new.store)) (sym counted)
+    (so_far_more t old new more (suc l) i f block block rows rows' step c.requires.next (omega (arith, c.requires.level))
+    (λ some good. refl) given
+    c.args.unchecked.now base (other + H.failures c.args.hash_store.now) (other + H.failures c.look-finding.new.store) named e.judged.0 d
+    c.requires.parent name e.judged.1 (omega (arith, e.keeps.later.failures)) (λ b. omega (arith, e.judged.2 b))))
     c.note_block.ensures.step c.note_block.ensures.counted
 
 pub note_block-requires-clause-seen : goal.note_block-requires-clause-seen

@@ -1,10 +1,11 @@
-use Rattle.std.proofs.Common.{◌≡◌, ◌≤◌, ◌+◌, ℕ, suc, true, [], sym, ap, subst, ◌∙◌, get_or, arith, refl}
+use Rattle.std.proofs.Common.{◌≡◌, ◌≤◌, ◌+◌, ℕ, List, length, drop, sym, ap, subst, ◌∙◌, arith, refl}
 use Rattle.verity_profile.proofs.Bounds.{block_count_high}
+use Rattle.verity_store.proofs.GivenLemmas.{goes_on_len}
 use Rattle.verity_store.proofs.StoreLemmas.{only_read_same, only_read_then}
 use Rattle.verity_digest.proofs.Counts.{row_len-zero}
-use Rattle.verity_chain.specs.Table.{Table, hash_place, branching}
-use Rattle.verity_report.specs.Finding.{Held}
-use Rattle.verity_report.specs.Stores.{held_in}
+use Rattle.verity_chain.specs.Table.{Table, branching}
+use Rattle.verity_report.specs.Stores.{gave_between, listed_in}
+use Rattle.verity_report.proofs.OwnLemmas.{own_same, own_then}
 use Rattle.verity_report.specs.Descent.{AreRows, AreSeenTo, IsDownTo, IsSoFar, places}
 use Rattle.verity_report.proofs.RowCounts.{seen_none}
 use Rattle.verity_report.proofs.DescentLemmas.{so_far_none, places_none, places_all}
@@ -20,9 +21,12 @@ loop-n-init g c =
       rows = c.requires.rows;
       seen = seen_none t c.requires.allowed rows c.requires.unseen;
       within = omega arith;
-      told = λ both. so_far_none t (held_in D H t c.args.data_store.now c.args.hash_store.now) rows
+      found = so_far_none t (listed_in t (gave_between D c.args.data_store.now c.args.data_store.now)
+          (gave_between H c.args.hash_store.now c.args.hash_store.now)) rows
           (D.failures c.args.data_store.now + H.failures c.args.hash_store.now)
           (λ r low. (c.requires.unseen r low, c.requires.unlisted r low));
+      data_own = own_same D c.args.data_store.now;
+      hash_own = own_same H c.args.hash_store.now;
       counted = omega (arith, places_none t rows c.requires.unseen);
       most = omega arith;
       data_keeps = only_read_same D c.args.data_store.now;
@@ -74,7 +78,6 @@ loop-n-preserved g c =
     let inv = c.loop-n.invariant in
     let e = c.in_ok-go_down.ensures in
     let f = c.in_ok-next.ensures in
-    let held = held_in D H t c.args.data_store.now c.args.hash_store.now in
     let rows = c.loop-n.rows in
     let rows' = c.go_down.new.rows in
     let rows'' = c.look_at_run.new.rows in
@@ -97,20 +100,20 @@ loop-n-preserved g c =
       rows = subst (λ (x : Table). AreRows x rows'') tree f.rows;
       seen = subst (λ (x : Table). AreSeenTo x next rows'') tree f.before;
       within = subst (λ (x : Table). next ≤ x.data_blocks) tree f.within;
-      told = λ both.
-          let down = subst (λ (x : Table). H.tells h ≡ true → (held : Held)
-          → ((l i : ℕ) → held (suc l) i ≡ get_or (H.content h) (hash_place x l i) [])
-          → (base other : ℕ) → IsSoFar x held rows u base (other + H.failures h)
-          → IsSoFar x held rows' u' base (other + H.failures h')) inv.same e.told in
-          let along = subst (λ (x : Table). D.tells d ≡ true → (held : Held)
-          → ((i : ℕ) → held 0 i ≡ get_or (D.content d) i [])
-          → (base other : ℕ) → IsSoFar x held rows' u' base (D.failures d + other)
-          → IsSoFar x held rows'' u'' base (D.failures d' + other)) tree f.told in
-          along (inv.data_keeps.later.tells ∙ both.0) held (λ i. ap (λ content. get_or content i []) (sym inv.data_keeps.content))
-          (D.failures c.args.data_store.now + H.failures c.args.hash_store.now) (H.failures h')
-          (down (inv.hash_keeps.later.tells ∙ both.1) held
-          (λ l i. ap (λ content. get_or content (hash_place t l i) []) (sym inv.hash_keeps.content))
-          (D.failures c.args.data_store.now + H.failures c.args.hash_store.now) (D.failures d) (inv.told both));
+      found =
+          let data_mark = length (D.given c.args.data_store.now) in
+          let hash_mark = length (H.given c.args.hash_store.now) in
+          let base = D.failures c.args.data_store.now + H.failures c.args.hash_store.now in
+          let down = subst (λ (x : Table). (mark : ℕ) → mark ≤ length (H.given h) → (gave : List (ℕ × List ℕ)) (base other : ℕ)
+          → IsSoFar x (listed_in x gave (drop mark (H.given h))) rows u base (other + H.failures h)
+          → IsSoFar x (listed_in x gave (drop mark (H.given h'))) rows' u' base (other + H.failures h')) inv.same e.found in
+          let along = subst (λ (x : Table). (mark : ℕ) → mark ≤ length (D.given d) → (gave : List (ℕ × List ℕ)) (base other : ℕ)
+          → IsSoFar x (listed_in x (drop mark (D.given d)) gave) rows' u' base (D.failures d + other)
+          → IsSoFar x (listed_in x (drop mark (D.given d')) gave) rows'' u'' base (D.failures d' + other)) tree f.found in
+          along data_mark (goes_on_len _ _ inv.data_keeps.later.gave) (drop hash_mark (H.given h')) base (H.failures h')
+          (down hash_mark (goes_on_len _ _ inv.hash_keeps.later.gave) (drop data_mark (D.given d)) base (D.failures d) inv.found);
+      data_own = own_then D _ _ _ inv.data_keeps f.keeps.later.gave inv.data_own f.own;
+      hash_own = own_then H _ _ _ inv.hash_keeps e.keeps.later.gave inv.hash_own e.own;
       counted = omega (arith, inv.counted, count, count');
       most = omega (arith, inv.most, e.most, f.most, f.more);
       data_keeps = only_read_then D _ _ _ inv.data_keeps f.keeps;
@@ -163,3 +166,21 @@ returns-in_err-next-clause-data_keeps g c =
 pub returns-in_err-next-clause-hash_keeps : goal.returns-in_err-next-clause-hash_keeps
 returns-in_err-next-clause-hash_keeps g c =
     only_read_then g.H.BlockStore _ _ _ c.loop-n.invariant.hash_keeps c.in_ok-go_down.ensures.keeps
+
+pub returns-in_err-go_down-clause-hash_own : goal.returns-in_err-go_down-clause-hash_own
+returns-in_err-go_down-clause-hash_own g c =
+    let inv = c.loop-n.invariant in
+    let e = c.in_err-go_down.ensures in
+    own_then g.H.BlockStore _ _ _ inv.hash_keeps e.keeps.later.gave inv.hash_own e.own
+
+pub returns-in_err-next-clause-data_own : goal.returns-in_err-next-clause-data_own
+returns-in_err-next-clause-data_own g c =
+    let inv = c.loop-n.invariant in
+    let e = c.in_err-next.ensures in
+    own_then g.D.BlockStore _ _ _ inv.data_keeps e.keeps.later.gave inv.data_own e.own
+
+pub returns-in_err-next-clause-hash_own : goal.returns-in_err-next-clause-hash_own
+returns-in_err-next-clause-hash_own g c =
+    let inv = c.loop-n.invariant in
+    let e = c.in_ok-go_down.ensures in
+    own_then g.H.BlockStore _ _ _ inv.hash_keeps e.keeps.later.gave inv.hash_own e.own

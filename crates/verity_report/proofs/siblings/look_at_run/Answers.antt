@@ -1,6 +1,7 @@
-use Rattle.std.proofs.Common.{◌+◌, arith}
+use Rattle.std.proofs.Common.{◌+◌, drop, arith}
 use Rattle.verity_store.proofs.StoreLemmas.{only_read_same}
 use Rattle.verity_report.proofs.DescentLemmas.{down_under, run_seen, run_rows, run_places}
+use Rattle.verity_report.proofs.OwnLemmas.{own_same}
 use Rattle.verity_report.proofs.siblings.look_at_run.Goals as goal
 
 pub pass_over-requires-clause-under : goal.pass_over-requires-clause-under
@@ -23,9 +24,16 @@ returns-then-is_lost-clause-before g c =
     c.run_len-count.ensures.some (omega (arith, c.run_len-count.ensures.most, c.min.ensures, c.siblings-siblings.ensures.value))
     c.in_ok-pass_over.ensures.run
 
-pub returns-then-is_lost-clause-told : goal.returns-then-is_lost-clause-told
-returns-then-is_lost-clause-told g c = λ tells held at base other d.
-    c.in_ok-pass_over.ensures.told held base (g.D.BlockStore.failures c.args.data_store.now + other) d
+pub returns-then-is_lost-clause-found : goal.returns-then-is_lost-clause-found
+returns-then-is_lost-clause-found g c = λ mark marked gave base other d.
+    c.in_ok-pass_over.ensures.found (drop mark (g.D.BlockStore.given c.args.data_store.now)) gave base
+    (g.D.BlockStore.failures c.args.data_store.now + other) d
+
+pub returns-in_err-pass_over-clause-own : goal.returns-in_err-pass_over-clause-own
+returns-in_err-pass_over-clause-own g c = own_same g.D.BlockStore c.args.data_store.now
+
+pub returns-then-is_lost-clause-own : goal.returns-then-is_lost-clause-own
+returns-then-is_lost-clause-own g c = own_same g.D.BlockStore c.args.data_store.now
 
 pub returns-then-is_lost-clause-counted : goal.returns-then-is_lost-clause-counted
 returns-then-is_lost-clause-counted g c =
@@ -61,5 +69,5 @@ returns-in_err-pass_over-clause-keeps g c = only_read_same g.D.BlockStore c.args
 pub returns-then-is_lost-clause-keeps : goal.returns-then-is_lost-clause-keeps
 returns-then-is_lost-clause-keeps g c = only_read_same g.D.BlockStore c.args.data_store.now
 
-pub returns-clause-told : goal.returns-clause-told
-returns-clause-told g c = c.in_ok-looked.ensures.told
+pub returns-clause-found : goal.returns-clause-found
+returns-clause-found g c = c.in_ok-looked.ensures.found

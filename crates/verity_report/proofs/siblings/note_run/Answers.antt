@@ -2,13 +2,14 @@ use Rattle.std.proofs.Common.{◌≡◌, ◌<◌, ◌+◌, [], Some, false, true
 use Rattle.std.proofs.lemmas.List.{get_or_read}
 use Rattle.verity_chain.specs.Table.{height}
 use Rattle.verity_report.specs.Report.{place_of, unchecked_one}
+use Rattle.verity_report.specs.Stores.{listed_in}
 use Rattle.verity_report.specs.Descent.{Known, known, IsSoFar, compared}
 use Rattle.verity_report.proofs.DescentLemmas.{run_none, run_more, run_above, data_more, name_good, name_only}
 use Rattle.verity_report.proofs.DescentLemmas.{compared_judged, compared_checked}
 use Rattle.verity_report.proofs.siblings.note_run.Goals as goal
 
 pub each-init : goal.each-init
-each-init g c = record { run = run_none c.args.rows.now; told = λ held at base now d. d; counted = omega arith }
+each-init g c = record { run = run_none c.args.rows.now; found = λ data_gave hash_gave blocks at base now d. d; counted = omega arith }
 
 pub each-preserved : goal.each-preserved
 each-preserved g c =
@@ -34,10 +35,13 @@ each-preserved g c =
     ∙ compared_checked name.0 made in
     record {
       run = run_more j f (place_of 0 (n + j)) block first rows rows' inv.run step;
-      told = λ held at base now d. subst (λ u. IsSoFar t held rows' u base now) (sym c.in_ok-note.ensures.counted)
-          (data_more t held n (length c.args.digests.now) j f block first rows rows' c.each.unchecked base now now named false
+      found = λ data_gave hash_gave blocks at base now d.
+          let given = listed_in t data_gave hash_gave in
+          let here = at j c.each-test.true in
+          subst (λ u. IsSoFar t given rows' u base now) (sym c.in_ok-note.ensures.counted)
+          (data_more t given n (length c.args.digests.now) j f block (blocks j) first rows rows' c.each.unchecked base now now named false
           c.requires.under inv.run c.each-test.true step c.name_of.ensures
-          (c.compare-finding.ensures ∙ ap (λ d. compared named d) (is ∙ at j c.each-test.true) ∙ compared_judged t named (held 0 (n + j)))
-          (omega arith) (λ e. absurd (cc)) (inv.told held at base now d));
+          (c.compare-finding.ensures ∙ ap (λ d. compared named d) (is ∙ here.0) ∙ compared_judged t named (blocks j)) (λ checked. here.1)
+          (omega arith) (λ e. absurd (cc)) (inv.found data_gave hash_gave blocks at base now d));
       counted = omega (arith, c.in_ok-note.ensures.counted, inv.counted, none);
     }

@@ -10,4 +10,4 @@ returns-clause-reported g c =
     let IsOver : Verifying g.row.D.Denot g.row.H.Denot → Type 0
     = λ v. IsReportOver g.D.BlockStore g.H.BlockStore v.table v.data_store v.hash_store report.faults report.unchecked in
     subst IsOver c.in_ok-verifier.ensures.value
-    (over _ _ _ _ _ _ c.in_ok-report.ensures.told c.in_ok-report.ensures.counted c.in_ok-report.ensures.keeps)
+    (over _ _ _ _ _ _ c.in_ok-report.ensures.given c.in_ok-report.ensures.told c.in_ok-report.ensures.counted c.in_ok-report.ensures.keeps)

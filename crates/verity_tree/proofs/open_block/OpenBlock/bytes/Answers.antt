@@ -1,4 +1,4 @@
-use Rattle.std.proofs.Common.{◌≡◌, ℕ, ◌-◌, ◌++◌, length, replicate, ap, ◌∙◌, sym}
+use Rattle.std.proofs.Common.{◌≡◌, ◌-◌, ◌++◌, length, replicate, ap, ◌∙◌, sym}
 use Rattle.std.specs.List.{concat}
 use Rattle.verity_tree.proofs.SlotLemmas.{bytes_are}
 use Rattle.verity_tree.proofs.open_block.OpenBlock.bytes.Goals as goal

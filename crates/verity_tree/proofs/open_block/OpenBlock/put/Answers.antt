@@ -1,8 +1,7 @@
-use Rattle.std.proofs.Common.{◌≡◌, ℕ, ◌+◌, ◌-◌, ◌*◌, ◌/◌, ◌<◌, ◌≤◌, ◌++◌, ◌∷◌, [], List, length, take, drop, replicate, ap, ◌∙◌}
+use Rattle.std.proofs.Common.{◌≡◌, ℕ, ◌+◌, ◌-◌, ◌*◌, ◌≤◌, ◌++◌, List, length, take, drop, replicate, ap, ◌∙◌}
 use Rattle.std.proofs.Common.{sym, subst, arith}
 use Rattle.std.proofs.Math.Nat.{add-mul}
-use Rattle.verity_tree.specs.Open.{Open}
-use Rattle.verity_tree.proofs.SlotLemmas.{Put, put_slot, room_for_one, length-slots, same_open}
+use Rattle.verity_tree.proofs.SlotLemmas.{put_slot, room_for_one, length-slots, same_open}
 use Rattle.verity_tree.proofs.open_block.OpenBlock.put.Goals as goal
 
 pub write_over-requires : goal.write_over-requires

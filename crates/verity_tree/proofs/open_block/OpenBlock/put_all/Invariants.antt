@@ -1,5 +1,4 @@
 use Rattle.std.proofs.Common.{◌≡◌, ◌++◌, take}
-use Rattle.verity_tree.specs.Open.{Open}
 use Rattle.verity_tree.proofs.open_block.OpenBlock.put_all.Given as goal
 
 abbrev pub invariant-each : goal.invariant-each

@@ -1,9 +1,9 @@
-use Rattle.std.proofs.Common.{◌≡◌, sym, ap, ◌∙◌}
+use Rattle.std.proofs.Common.{sym, ap, ◌∙◌}
 use Rattle.std.proofs.lemmas.List.{get_or_read}
 use Rattle.verity_digest.specs.Tree.{Hashing, hash_block}
 use Rattle.verity_tree.specs.Open.{Open}
-use Rattle.verity_tree.specs.Climb.{open_at, nothing_open}
-use Rattle.verity_tree.specs.Opens.{hashing_of, opens}
+use Rattle.verity_tree.specs.Climb.{nothing_open}
+use Rattle.verity_tree.specs.Opens.{hashing_of}
 use Rattle.verity_tree.proofs.Comings.{opens_settled}
 use Rattle.verity_tree.proofs.open_tree.OpenTree.block.Goals as goal
 

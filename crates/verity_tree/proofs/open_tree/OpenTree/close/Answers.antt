@@ -1,6 +1,5 @@
-use Rattle.std.proofs.Common.{◌≡◌, ◌≢◌, ℕ, suc, ◌<◌, List, length, sym, ap, ◌∙◌, subst, arith}
+use Rattle.std.proofs.Common.{◌≡◌, ℕ, ap, ◌∙◌, arith}
 use Rattle.verity_digest.specs.Hash.{hashing}
-use Rattle.verity_tree.specs.Open.{Open}
 use Rattle.verity_tree.specs.Climb.{open_at}
 use Rattle.verity_tree.specs.Opens.{hashing_of, opens}
 use Rattle.verity_tree.proofs.Trees.{closes_as}

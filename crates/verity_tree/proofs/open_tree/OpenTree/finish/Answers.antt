@@ -1,11 +1,11 @@
-use Rattle.std.proofs.Common.{◌≡◌, ℕ, suc, ◌+◌, ◌<◌, List, [], length, set, sym, ap, ◌∙◌, subst, arith}
+use Rattle.std.proofs.Common.{ℕ, ◌+◌, ◌<◌, List, [], length, set, sym, ap, ◌∙◌, subst, arith}
 use Rattle.std.specs.Prelude.{Some}
 use Rattle.std.proofs.lemmas.List.{get_or_read}
 use Rattle.verity_digest.specs.Hash.{Salted, hashing, salted_digest}
 use Rattle.verity_digest.specs.Tree.{Hashing, hash_block}
 use Rattle.verity_tree.specs.Open.{Open}
 use Rattle.verity_tree.specs.Waits.{Waits}
-use Rattle.verity_tree.specs.Climb.{open_at, nothing_open, Closes}
+use Rattle.verity_tree.specs.Climb.{nothing_open, Closes}
 use Rattle.verity_tree.specs.Coming.{opens_from}
 use Rattle.verity_tree.specs.Opens.{hashing_of, opens}
 use Rattle.verity_tree.proofs.Comings.{opens_at, closes_top}

@@ -1,11 +1,10 @@
-use Rattle.std.proofs.Common.{◌≡◌, ℕ, suc, ◌+◌, ◌<◌, ◌≤◌, List, [], length, map, sym, ap, ◌∙◌, subst, arith}
+use Rattle.std.proofs.Common.{◌≡◌, ℕ, ◌<◌, ◌≤◌, [], length, sym, ap, ◌∙◌, subst, arith}
 use Rattle.std.proofs.Math.Numerals.{add-one}
-use Rattle.std.proofs.lemmas.List.{get_or_read, length-map}
-use Rattle.verity_tree.specs.Waits.{Waits}
+use Rattle.std.proofs.lemmas.List.{length-map}
 use Rattle.verity_digest.specs.Tree.{Hashing}
 use Rattle.verity_geometry.specs.Geometry.{digests_per_block, levels_of}
 use Rattle.verity_tree.specs.Climb.{open_at}
-use Rattle.verity_tree.specs.Coming.{none_wait, waits_at, coming}
+use Rattle.verity_tree.specs.Coming.{waits_at, coming}
 use Rattle.verity_tree.specs.Opens.{hashing_of, opens}
 use Rattle.verity_tree.proofs.open_tree.OpenTree.make_room.Goals as goal
 

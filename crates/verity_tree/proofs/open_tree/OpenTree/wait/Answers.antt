@@ -1,9 +1,9 @@
-use Rattle.std.proofs.Common.{◌≡◌, ℕ, suc, ◌+◌, ◌<◌, ◌++◌, ◌∷◌, List, [], length, set, sym, ap, ◌∙◌, arith}
+use Rattle.std.proofs.Common.{ℕ, ◌+◌, ◌<◌, ◌++◌, ◌∷◌, List, [], length, sym, ap, ◌∙◌, arith}
 use Rattle.std.proofs.lemmas.List.{get_or_read, length-set}
 use Rattle.verity_digest.specs.Tree.{Hashing, hash_block}
 use Rattle.verity_tree.specs.Open.{Open}
 use Rattle.verity_tree.specs.Waits.{Waits}
-use Rattle.verity_tree.specs.Climb.{open_at, nothing_open}
+use Rattle.verity_tree.specs.Climb.{nothing_open}
 use Rattle.verity_tree.specs.Coming.{none_wait}
 use Rattle.verity_tree.specs.Opens.{hashing_of}
 use Rattle.verity_tree.proofs.Comings.{opens_at, closes_waiting, alike_set, waiting_set}

@@ -1,4 +1,4 @@
-use Rattle.std.proofs.Common.{◌≡◌, ℕ, ◌<◌, length, arith}
+use Rattle.std.proofs.Common.{arith}
 use Rattle.std.proofs.lemmas.Bool.{ltb-true, lt-ltb}
 use Rattle.verity_tree.proofs.SlotLemmas.{length-slots}
 use Rattle.verity_tree.proofs.waiting.Waiting.has_room.Goals as goal

@@ -1,4 +1,4 @@
-use Rattle.std.proofs.Common.{◌≡◌, ◌∙◌, length, ap, sym}
+use Rattle.std.proofs.Common.{◌∙◌, length, ap, sym}
 use Rattle.verity_tree.specs.Waits.{Waits}
 use Rattle.verity_tree.proofs.SlotLemmas.{length-slots}
 use Rattle.verity_tree.proofs.waiting.Waiting.len.Goals as goal
