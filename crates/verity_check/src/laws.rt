@@ -53,9 +53,9 @@ pub fn chained_is_good<D: BlockStore, H: BlockStore>()
 {}
 
 /// What a report says, whatever the stores are, by what they gave while it was made. It calls a place bad only where one gave, below a
-/// chain of given blocks, a block without the digest that is named there, so never one of an image that fits the table line, and unread
-/// only where one failed. Where it names no place, of each data block one was given that ends a chain: the image's own, or there is a
-/// clash.
+/// chain of given blocks, a block without the digest that is named there: so for each image that fits the table line one gave a block
+/// that isn't the image's own. It calls a place unread only where one failed. Where it names no place, of each data block one was given
+/// that ends a chain: the image's own, or there is a clash.
 pub fn report_is_right<D: BlockStore, H: BlockStore>()
     ensures bad { (t : Table) (marks : Marks) (d : _) (h : _) (faults : List (Place × Verdict)) (unchecked old new : ℕ) → IsTable t
         → IsReportGiven t (given_in D.BlockStore H.BlockStore t marks d h) faults unchecked old new

@@ -133,8 +133,8 @@ pub record Stands (t : Table) (given : Given) (held : Held) (failed : List Spot)
 abbrev pub AreHeld : Given → List Known → Held → Held → Type 0
 AreHeld given rows blocks held = (r i : ℕ) → i < seen_in rows r → given r i (blocks r i) → held r i ≡ blocks r i
 
--- reads of places that were looked at failed, no more than the stores have failed, and of the others these blocks were given; whatever
--- fails later, and whatever else is held, what is known is right
+-- reads of places that were looked at failed, no more than the stores have failed; whatever fails later, and whatever is held where none of
+-- these blocks was given, what is known is right
 pub record IsSoFar (t : Table) (given : Given) (rows : List Known) (unchecked failures_old failures_new : ℕ) : Type 0 where
   pub failed : List Spot
   pub blocks : Held
