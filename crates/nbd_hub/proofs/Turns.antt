@@ -1,6 +1,6 @@
 -- A stream, turn after turn.
 use Rattle.std.proofs.Common.{◌≡◌, ◌↔◌, ◌≤◌, ◌<◌, ◌*◌, length, length-append, ℕ, Bool, true, false, List, [], ◌∷◌, ◌++◌, Option}
-use Rattle.std.proofs.Common.{Some, Result, Ok, Err, is_err, OnErr, OnOk, inl, inr, refl, sym, ap, ◌∙◌, subst, arith, append_assoc}
+use Rattle.std.proofs.Common.{Some, Result, Ok, Err, is_err, IfErr, OnErr, OnOk, inl, inr, refl, sym, ap, ◌∙◌, subst, arith, append_assoc}
 use Rattle.std.proofs.Common.{append-nil}
 use Rattle.std.proofs.lemmas.Bool.{cases_eq, eq-eqb, ne_eqb}
 use Rattle.std.specs.Io.KnownBytes.{Consumes, Appends}
@@ -20,6 +20,7 @@ use Rattle.nbd_hub.specs.declared.fault.ServeFault.TheVariants as fault
 use Rattle.nbd_hub.specs.Sessions.{Entry, HubState, lookup, SetsOnly}
 use Rattle.nbd_hub.specs.History.{Step, Opening, Feeding, Ending, Refusal}
 use Rattle.nbd_hub.specs.After.{IsAfter, FedAfter}
+use Rattle.nbd_hub.specs.Failures.{FailsToWrite}
 use Rattle.nbd_hub.specs.Stream.{HasEnded, IsTaken, turn_bytes, Ends, Moved, Served, Answers, Exchanged, AllFeed, TurnedAfter}
 use Rattle.nbd_hub.proofs.Outcomes.{phase_is}
 
@@ -83,6 +84,20 @@ on_err (Err x) P e h = h
 pub on_ok : {X E : Type 0} (r : Result X E) (P : Type 0) → false ≡ is_err r → OnOk r P → P
 on_ok (Ok x) P e h = h
 on_ok (Err x) P e h = absurd (let q : ⊥ = cc in q)
+
+-- where bytes were written, no write failed
+pub unfailed : {X : Type 0} (r : Result X ServeFault) (old new : ℕ) → false ≡ is_err r → FailsToWrite old new r → new ≡ old
+unfailed (Ok x) old new e h = h
+unfailed (Err x) old new e h = absurd (let q : ⊥ = cc in q)
+
+-- where the writer's fault is told, a write failed
+pub failed : (X : Type 0) (f : ServeFault) (old new : ℕ) → f ≡ fault.Write → FailsToWrite {T = X} old new (Err f) → old < new
+failed X f old new e h = let P : ServeFault → Type 0 = λ z. FailsToWrite {T = X} old new (Err z) in subst P e h
+
+pub failed_at : {X : Type 0} (r : Result X ServeFault) (old new : ℕ) → true ≡ is_err r → IfErr r (λ f. f ≡ fault.Write) →
+    FailsToWrite old new r → old < new
+failed_at (Ok x) old new e i h = absurd (let q : ⊥ = cc in q)
+failed_at {X = X} (Err f) old new e i h = failed X f old new i h
 
 -- what was read in turns that went well
 pub taken_at : (offer : Offer) (limit turn : ℕ) (input : List ℕ) → (HasEnded offer input → ⊥) → length input ≤ turn_bytes * turn →

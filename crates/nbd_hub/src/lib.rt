@@ -15,7 +15,9 @@
 //! moment before it and its own, no other event asked the export for anything (`AskedBetween`), and nothing did after the last.
 //!
 //! `specs/Stream.antt` says what [`serve`] has read and written at each of its exits (`Served`), where the reader and the
-//! writer tell their bytes.
+//! writer tell their bytes; `specs/Failures.antt`, that it answers N1 where a read failed in this call, N2 where a write did, and
+//! neither elsewhere. So it reads from an [`Input`] and writes to an [`Output`], which count their failures: [`CountedReader`]
+//! and [`CountedWriter`] are such, over any reader and writer.
 //!
 //! What an export says of its own value (its `later`) holds between any two moments of its sessions, so the layer above
 //! knows its export again.
@@ -25,6 +27,7 @@
 //! [`HubFault`], H1 to H4: a refused call changes nothing. [`ServeFault`], N1 to N5. `AllocError` of [`Sessions::run`].
 #![tactic(auto)]
 
+mod ends;
 mod events;
 mod fault;
 mod numbered;
@@ -32,6 +35,7 @@ mod run;
 mod sessions;
 mod stream;
 
+pub use ends::{CountedReader, CountedWriter, Input, Output};
 pub use events::{Event, HubReply};
 pub use fault::{HubFault, ServeFault};
 pub use held_bytes::HeldBytes as Piece;

@@ -9,23 +9,25 @@ ghost use Rattle.nbd_session.specs.Handshake.{greeting};
 ghost use Rattle.nbd_hub.specs.History.{Step};
 ghost use Rattle.nbd_hub.specs.Sessions.{SetsOnly, lookup, max_open, max_opened};
 ghost use Rattle.nbd_hub.specs.After.{IsAfter};
+ghost use Rattle.nbd_hub.specs.Failures.{FailsToRead, FailsToWrite};
 ghost use Rattle.nbd_hub.specs.Stream.{Exchanged, Served, ServedAfter, TurnedAfter};
 
+use crate::ends::{Input, Output};
 use crate::fault::{HubFault, ServeFault};
 use crate::sessions::Sessions;
 use nbd_session::{Export, Status};
 use std::alloc::Allocator;
-use std::io::{Read, Write};
 
 /// The most bytes that one turn reads: those of a request's header, so that at most one READ's bytes are held.
 const TURN_BYTES: usize = 28;
 
 /// Writes all of the bytes, or a beginning.
-fn write_out<W: Write>(writer: &mut W, bytes: &[u8]) -> Result<(), ServeFault>
+fn write_out<W: Output>(writer: &mut W, bytes: &[u8]) -> Result<(), ServeFault>
     ensures ok { OnOk result (Appends (W.contents writer.old) (W.contents writer.new) bytes.now) }
     ensures err { OnErr result ((part : List ℕ) × (rest : List ℕ) × (bytes.now ≡ part ++ rest)
         × Appends (W.contents writer.old) (W.contents writer.new) part) }
     ensures fault { IfErr result (λ fault. fault ≡ ServeFault.Write) }
+    ensures failed { FailsToWrite (W.failures writer.old) (W.failures writer.new) result }
 {
     let mut done = 0;
     while done < bytes.len() {
@@ -52,7 +54,7 @@ fn is_over(status: Status) -> bool
 }
 
 /// Feeds a piece and writes the replies, and tells whether the session has ended.
-fn exchange<E: Export, A: Allocator + Copy, W: Write>(
+fn exchange<E: Export, A: Allocator + Copy, W: Output>(
     hub: &mut Sessions<E, A>,
     id: u64,
     piece: &[u8],
@@ -69,6 +71,7 @@ fn exchange<E: Export, A: Allocator + Copy, W: Write>(
         × (after.offer ≡ hub.old.0.offer)
         × SetsOnly hub.old.0.sessions hub.new.0.sessions id (Some after)
         × Exchanged (E.facts hub.old.1) (E.facts hub.new.1) before after piece.now (W.contents writer.old) (W.contents writer.new) result }
+    ensures write_failed { FailsToWrite (W.failures writer.old) (W.failures writer.new) result }
     ensures after { (history : List Step) → IsAfter (E.facts hub.old.1) hub.old.0 history
         → TurnedAfter (E.facts hub.new.1) hub.new.0 history id }
 {
@@ -88,7 +91,7 @@ fn exchange<E: Export, A: Allocator + Copy, W: Write>(
 }
 
 /// Writes the greeting, then takes turns with the client.
-fn converse<E: Export, A: Allocator + Copy, R: Read, W: Write>(
+fn converse<E: Export, A: Allocator + Copy, R: Input, W: Output>(
     hub: &mut Sessions<E, A>,
     id: u64,
     out: &mut Vec<u8, A>,
@@ -112,6 +115,8 @@ fn converse<E: Export, A: Allocator + Copy, R: Read, W: Write>(
           writer = W.contents writer.old;
           writer' = W.contents writer.new;
         }) limit result }
+    ensures read_failed { FailsToRead (R.failures reader.old) (R.failures reader.new) result }
+    ensures write_failed { FailsToWrite (W.failures writer.old) (W.failures writer.new) result }
     ensures hub { (fault : HubFault) → IsErrOf result (ServeFault.Hub fault) → ⊥ }
     ensures after { (history : List Step) → IsAfter (E.facts hub.old.1) hub.old.0 history
         → TurnedAfter (E.facts hub.new.1) hub.new.0 history id }
@@ -149,10 +154,10 @@ fn converse<E: Export, A: Allocator + Copy, R: Read, W: Write>(
 ///
 /// # Errors
 ///
-/// N1 where the reader failed; N2 where the writer failed or took no byte, and what went out is a beginning of the output;
-/// N3 where `limit` turns gave bytes and the session hasn't ended; N4 where the session starved; N5 where no session could
-/// be opened, with the sessions' own fault, and nothing was read or written.
-pub fn serve<E: Export, A: Allocator + Copy, R: Read, W: Write>(
+/// N1 where the reader failed, and nowhere else; N2 where the writer failed or took no byte, and nowhere else, and what went
+/// out is a beginning of the output; N3 where `limit` turns gave bytes and the session hasn't ended; N4 where the session
+/// starved; N5 where no session could be opened, with the sessions' own fault, and nothing was read or written.
+pub fn serve<E: Export, A: Allocator + Copy, R: Input, W: Output>(
     hub: &mut Sessions<E, A>,
     reader: &mut R,
     writer: &mut W,
@@ -168,6 +173,9 @@ pub fn serve<E: Export, A: Allocator + Copy, R: Read, W: Write>(
           writer = W.contents writer.old;
           writer' = W.contents writer.new;
         }) limit result }
+    // It was left for a failure of an end where that failed, and nowhere else.
+    ensures read_failed { FailsToRead (R.failures reader.old) (R.failures reader.new) result }
+    ensures write_failed { FailsToWrite (W.failures writer.old) (W.failures writer.new) result }
     // No session came about.
     ensures full { (result ≡ Err (ServeFault.Hub HubFault.Full)) ↔ (max_open ≤ length hub.old.0.sessions) }
     ensures spent { (result ≡ Err (ServeFault.Hub HubFault.Spent))

@@ -2,7 +2,7 @@
 use Rattle.std.proofs.Common.{◌≡◌, ◌≢◌, ◌↔◌, ◌≤◌, ◌+◌, ◌++◌, ◌⊎◌, ◌||◌, Bool, true, false, ℕ, List, [], ◌∷◌, length, Option, Some}
 use Rattle.std.proofs.Common.{inl, inr, refl, sym, ap, ◌∙◌, subst, arith, append_assoc, append-nil, eq-eqb, length-append}
 use Rattle.std.proofs.lemmas.Bool.{ne_eqb, cases_Bool}
-use Rattle.std.specs.Io.KnownBytes.{Keeps}
+use Rattle.std.specs.Io.KnownBytes.{Appends, Keeps}
 use Rattle.std.proofs.KnownBytes.{Appends-nil, Consumes-nil, Appends-kept, Consumes-kept}
 use Rattle.nbd_session.specs.declared.offer.Offer.{Offer}
 use Rattle.nbd_session.specs.declared.status.Status.{Status}
@@ -45,42 +45,45 @@ served_on offer h old new read wrote took gave e o w u v =
 unfed : (facts : Facts) (hub : HubState) (h : List Step) → IsAfter facts hub h → IsAfter facts hub (h ++ [])
 unfed facts hub h a = let P : List Step → Type 0 = λ z. IsAfter facts hub z in subst P (sym (append-nil h)) a
 
-pub turns_still : (facts : Facts) (hub : HubState) (h : List Step) (client : ClientState) (r w : Option (List ℕ)) (read wrote : List ℕ)
-    → IsAfter facts hub h → IsServed hub.offer h client read wrote → TurnsOn facts hub h client (ends r r w w) read wrote
-turns_still facts hub h client r w read wrote a v = record {
+pub turns_still : (facts : Facts) (hub : HubState) (h : List Step) (client : ClientState) (r g w : Option (List ℕ)) (read wrote : List ℕ)
+    → IsAfter facts hub h → IsServed hub.offer h client read wrote → TurnsOn facts hub h client g g (ends r r w w) read wrote
+turns_still facts hub h client r g w read wrote a v = record {
   fed = [];
   once = tt;
   after = unfed facts hub h a;
   took = [];
   gave = [];
+  adds = Appends-nil g;
   moved = record { reads = Consumes-nil r; writes = Appends-nil w };
   served = served_on hub.offer h client client read wrote [] [] refl refl (sym (append-nil client.waiting)) refl v;
 }
 
-pub turns_sent : (facts : Facts) (hub : HubState) (h : List Step) (old new : ClientState) (r r' w w' : Option (List ℕ))
+pub turns_sent : (facts : Facts) (hub : HubState) (h : List Step) (old new : ClientState) (r r' g g' w w' : Option (List ℕ))
     (result : Turn) (read wrote : List ℕ)
-    → Sends old new w w' result → Keeps r r' → IsAfter facts hub h → IsServed hub.offer h old read wrote →
-    TurnsOn facts hub h new (ends r r' w w') read wrote
-turns_sent facts hub h old new r r' w w' result read wrote s k a v = record {
+    → Sends old new w w' result → Keeps r r' → Keeps g g' → IsAfter facts hub h → IsServed hub.offer h old read wrote →
+    TurnsOn facts hub h new g g' (ends r r' w w') read wrote
+turns_sent facts hub h old new r r' g g' w w' result read wrote s k j a v = record {
   fed = [];
   once = tt;
   after = unfed facts hub h a;
   took = [];
   gave = s.gave;
+  adds = Appends-kept g g g' [] (Appends-nil g) j;
   moved = record { reads = Consumes-kept r r r' [] (Consumes-nil r) k; writes = s.appends };
   served = served_on hub.offer h old new read wrote [] s.gave s.id s.over (s.waiting ∙ sym (append-nil old.waiting)) s.parts v;
 }
 
-pub turns_read : (facts : Facts) (hub : HubState) (h : List Step) (old new : ClientState) (r r' w w' : Option (List ℕ))
+pub turns_read : (facts : Facts) (hub : HubState) (h : List Step) (old new : ClientState) (r r' g g' w w' : Option (List ℕ))
     (result : Turn) (read wrote : List ℕ)
-    → old.waiting ≡ [] → Reads old new r r' result → Keeps w w' → IsAfter facts hub h → IsServed hub.offer h old read wrote →
-    TurnsOn facts hub h new (ends r r' w w') read wrote
-turns_read facts hub h old new r r' w w' result read wrote n s k a v = record {
+    → old.waiting ≡ [] → Reads old new r r' result → Appends g g' new.waiting → Keeps w w' → IsAfter facts hub h
+    → IsServed hub.offer h old read wrote → TurnsOn facts hub h new g g' (ends r r' w w') read wrote
+turns_read facts hub h old new r r' g g' w w' result read wrote n s j k a v = record {
   fed = [];
   once = tt;
   after = unfed facts hub h a;
   took = new.waiting;
   gave = [];
+  adds = j;
   moved = record { reads = s.consumes; writes = Appends-kept w w w' [] (Appends-nil w) k };
   served = served_on hub.offer h old new read wrote new.waiting [] s.id s.over (sym (ap (λ x. x ++ new.waiting) n)) (sym s.unsent) v;
 }
@@ -171,11 +174,11 @@ served_fed b hub' offer h old new piece s read wrote o drained takes starves f i
     let q = subst S (sym i) r in
     record { is_open = q.0; reads = q.1.0; writes = q.1.1.0; ended = q.1.1.1 }
 
-pub turns_fed : (a b : Facts) (hub hub' : HubState) (h : List Step) (old new : ClientState) (r w : Option (List ℕ)) (result : Turn)
+pub turns_fed : (a b : Facts) (hub hub' : HubState) (h : List Step) (old new : ClientState) (r g w : Option (List ℕ)) (result : Turn)
     (read wrote : List ℕ)
     → old.unsent ≡ [] → Feeds a b hub hub' old new result → IsAfter a hub h → IsServed hub.offer h old read wrote →
-    TurnsOn b hub' h new (ends r r w w) read wrote
-turns_fed a b hub hub' h old new r w result read wrote n s x v =
+    TurnsOn b hub' h new g g (ends r r w w) read wrote
+turns_fed a b hub hub' h old new r g w result read wrote n s x v =
     let f = s.after h x in
     let O : ℕ → Type 0 = λ k. old.id ≡ k in record {
       fed = Feeding old.id s.piece s.state f.said ∷ [];
@@ -183,6 +186,7 @@ turns_fed a b hub hub' h old new r w result read wrote n s x v =
       after = f.after;
       took = [];
       gave = [];
+      adds = Appends-nil g;
       moved = record { reads = Consumes-nil r; writes = Appends-nil w };
       served = served_fed b hub' hub.offer h old new s.piece s.state read wrote s.feeds.offer n
           (λ y. ((s.takes y).0, (s.takes y).1)) (λ y. ((s.starves y).0, (s.starves y).1)) f s.id v;

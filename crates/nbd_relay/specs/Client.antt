@@ -1,5 +1,6 @@
 -- A client as contracts see it, and what came of it after a history of its hub.
-use Rattle.std.specs.Prelude.{◌≡◌, ◌≢◌, ◌↔◌, Bool, true, false, ℕ, ◌<◌, ◌≤◌, ◌⊎◌, List, [], ◌∷◌, ◌++◌, length, take, Option}
+use Rattle.std.specs.Prelude.{◌≡◌, ◌≢◌, ◌↔◌, Bool, true, false, ℕ, ◌<◌, ◌≤◌, ◌⊎◌, List, [], ◌∷◌, ◌++◌, length, take}
+use Rattle.std.specs.Prelude.{Option, Some, None, Result, Ok, Err}
 use Rattle.std.specs.Io.KnownBytes.{Consumes, Appends, IsAtEnd}
 use Rattle.nbd_session.specs.declared.offer.Offer.{Offer}
 use Rattle.nbd_session.specs.declared.phase.Phase.TheVariants as phase
@@ -9,6 +10,7 @@ use Rattle.nbd_session.specs.Export.{Facts}
 use Rattle.nbd_session.specs.Talk.{Verdict, Judged, hear, talk, replies}
 use Rattle.nbd_session.specs.Session.{added}
 use Rattle.nbd_session.specs.Short.{asked}
+use Rattle.nbd_hub.specs.declared.fault.HubFault.{HubFault}
 use Rattle.nbd_hub.specs.declared.fault.ServeFault.TheVariants as fault
 use Rattle.nbd_hub.specs.History.{Step, Opening, Feeding, Ending, Refusal, own, output, starved, IsOpen}
 use Rattle.nbd_hub.specs.Sessions.{HubState, FeedsOne}
@@ -61,18 +63,24 @@ FedOnce id (s ∷ t ∷ more) = ⊥
 
 -- A turn after this history: the session was fed once or not at all, and with what was read and written in the turn the
 -- client is served so again.
-pub record TurnsOn (facts : Facts) (hub : HubState) (history : List Step) (client : ClientState) (e : Ends)
-    (read wrote : List ℕ) : Type 0 where
+pub record TurnsOn (facts : Facts) (hub : HubState) (history : List Step) (client : ClientState) (received received' : Option (List ℕ))
+    (e : Ends) (read wrote : List ℕ) : Type 0 where
   pub fed : List Step
   pub once : FedOnce client.id fed
   pub after : IsAfter facts hub (history ++ fed)
   pub took : List ℕ
   pub gave : List ℕ
+  pub adds : Appends received received' took
   pub moved : Moved e took gave
   pub served : IsServed hub.offer (history ++ fed) client (read ++ took) (wrote ++ gave)
 
 abbrev pub ends : (reader reader' writer writer' : Option (List ℕ)) → Ends
 ends reader reader' writer writer' = record { reader = reader; reader' = reader'; writer = writer; writer' = writer' }
+
+-- the fault for which no session was opened
+abbrev pub fault_in : {A S : Type 0} → Result A (HubFault × S) → Option HubFault
+fault_in (Ok client) = None
+fault_in (Err refusal) = Some refusal.0
 
 -- nothing was sent, fed or read: the stream wasn't ready, or failed
 abbrev pub IsUnready : Turn → Type 0

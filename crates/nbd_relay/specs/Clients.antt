@@ -1,5 +1,6 @@
 -- Many clients of one hub.
 use Rattle.std.specs.Prelude.{◌≡◌, ◌≢◌, ◌<◌, ℕ, List, [], ◌∷◌, ◌++◌, Option, Some, slice_get, slice_set}
+use Rattle.std.specs.Io.KnownBytes.{Appends}
 use Rattle.nbd_session.specs.declared.offer.Offer.{Offer}
 use Rattle.nbd_session.specs.Export.{Facts}
 use Rattle.nbd_hub.specs.History.{Step}
@@ -30,20 +31,21 @@ AllServed offer history (c ∷ clients) (l ∷ logs) = IsServed offer history c.
     AllServed offer history clients logs
 
 -- the log went on by what was read and written
-pub record IsLogged (reader reader' writer writer' : Option (List ℕ)) (log log' : Log) : Type 0 where
+pub record IsLogged (reader reader' received received' writer writer' : Option (List ℕ)) (log log' : Log) : Type 0 where
   pub took : List ℕ
   pub gave : List ℕ
+  pub adds : Appends received received' took
   pub moved : Moved (ends reader reader' writer writer') took gave
   pub read : log'.read ≡ log.read ++ took
   pub wrote : log'.wrote ≡ log.wrote ++ gave
 
 -- each client is the same, and its log went on by what was read and written
-abbrev pub AllLogged : {S : Type 0} → (remaining contents : S → Option (List ℕ)) → (old new : List (ClientState × S)) →
+abbrev pub AllLogged : {S : Type 0} → (remaining received contents : S → Option (List ℕ)) → (old new : List (ClientState × S)) →
     (logs logs' : List Log) → Type 0
-AllLogged r w [] [] [] [] = Unit {0}
-AllLogged r w (c ∷ cs) (d ∷ ds) (l ∷ ls) (m ∷ ms) = (d.0.id ≡ c.0.id) × IsLogged (r c.1) (r d.1) (w c.1) (w d.1) l m ×
-    AllLogged r w cs ds ls ms
-AllLogged r w cs ds ls ms = ⊥
+AllLogged r g w [] [] [] [] = Unit {0}
+AllLogged r g w (c ∷ cs) (d ∷ ds) (l ∷ ls) (m ∷ ms) = (d.0.id ≡ c.0.id)
+    × IsLogged (r c.1) (r d.1) (g c.1) (g d.1) (w c.1) (w d.1) l m × AllLogged r g w cs ds ls ms
+AllLogged r g w cs ds ls ms = ⊥
 
 -- One client took a turn, which came to this; the others stand as they stood.
 pub record TurnsAt {S : Type 0} (asked : S → Asked) (old new : List (ClientState × S)) (at : ℕ) (result : Turn) : Type 0 where
@@ -57,10 +59,10 @@ pub record TurnsAt {S : Type 0} (asked : S → Asked) (old new : List (ClientSta
   pub done : result ≡ turn.Done → (after.0 ≡ before.0) × (after.0.unsent ≡ [])
 
 -- After this history the hub took some steps, and all clients are served so again.
-pub record RunsOn {S : Type 0} (remaining contents : S → Option (List ℕ)) (facts : Facts) (hub : HubState) (history : List Step)
-    (old new : List (ClientState × S)) (logs : List Log) : Type 0 where
+pub record RunsOn {S : Type 0} (remaining received contents : S → Option (List ℕ)) (facts : Facts) (hub : HubState)
+    (history : List Step) (old new : List (ClientState × S)) (logs : List Log) : Type 0 where
   pub fed : List Step
   pub after : IsAfter facts hub (history ++ fed)
   pub later : List Log
-  pub logged : AllLogged remaining contents old new logs later
+  pub logged : AllLogged remaining received contents old new logs later
   pub served : AllServed hub.offer (history ++ fed) new later

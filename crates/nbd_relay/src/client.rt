@@ -1,7 +1,7 @@
 //! One client of many: its stream, its session and what waits in between.
 
-ghost use Rattle.std.specs.Prelude.{◌≡◌, ◌≢◌, ◌↔◌, Err, ◌+◌, ◌≤◌, ◌<◌, ◌-◌, ◌++◌, ◌⊎◌, ℕ, List, [], ◌∷◌, true, false, length, Some};
-ghost use Rattle.std.specs.Prelude.{None, IfOk, OnOk, OnErr};
+ghost use Rattle.std.specs.Prelude.{◌≡◌, ◌≢◌, ◌↔◌, ◌+◌, ◌≤◌, ◌<◌, ◌-◌, ◌++◌, ◌⊎◌, ℕ, List, [], ◌∷◌, true, false, length, Some};
+ghost use Rattle.std.specs.Prelude.{None, IfOk, IfErr, OnOk, OnErr};
 ghost use Rattle.std.specs.Io.KnownBytes.{Appends, Consumes, IsAtEnd, Keeps};
 ghost use Rattle.nbd_session.specs.Handshake.{greeting};
 ghost use Rattle.nbd_session.specs.Export.{Keeps as KeepsFacts};
@@ -15,6 +15,7 @@ ghost use Rattle.nbd_hub.specs.Sessions.{lookup, OpensOne, max_open, max_opened}
 ghost use Rattle.nbd_hub.specs.After.{IsAfter};
 ghost use Rattle.nbd_relay.specs.Asked.{IsHandedOn};
 ghost use Rattle.nbd_relay.specs.Client.{AsksFor, IsServed, TurnsOn, IsPart, Sends, Reads, Feeds, ends, input_bytes, IsUnready, Moves};
+ghost use Rattle.nbd_relay.specs.Client.{fault_in};
 
 use crate::stream::Stream;
 use nbd_hub::{HubFault, ServeFault, Sessions};
@@ -97,22 +98,24 @@ impl<S: Stream + Drop, A: Allocator> Client<S, A> {
     ///
     /// # Errors
     ///
-    /// Those of [`Sessions::open`]. A refused call changes nothing, and the stream is dropped.
+    /// Those of [`Sessions::open`]. A refused call changes nothing, and hands the stream back.
     pub fn open<E: Export, H: Allocator + Copy>(
         alloc: A,
         stream: S,
         hub: &mut Sessions<E, H>,
-    ) -> Result<Client<S, A>, HubFault>
+    ) -> Result<Client<S, A>, (HubFault, S)>
         ensures opens { IfOk result (λ client. OpensOne hub.old.0 hub.new.0 client.0.id) }
         ensures stream { IfOk result (λ client. client.1 ≡ stream) }
         ensures export { hub.new.1 ≡ hub.old.1 }
         ensures serves { IfOk result (λ client. (history : List Step) → IsAfter (E.facts hub.old.1) hub.old.0 history
             → IsAfter (E.facts hub.new.1) hub.new.0 (history ++ Opening client.0.id greeting ∷ [])
             × IsServed hub.new.0.offer (history ++ Opening client.0.id greeting ∷ []) client.0 [] []) }
-        ensures full { (result ≡ Err HubFault.Full) ↔ (max_open ≤ length hub.old.0.sessions) }
-        ensures spent { (result ≡ Err HubFault.Spent) ↔ ((length hub.old.0.sessions < max_open) × (max_opened ≤ hub.old.0.next)) }
-        ensures known { result ≢ Err HubFault.Unknown }
+        ensures full { (fault_in result ≡ Some HubFault.Full) ↔ (max_open ≤ length hub.old.0.sessions) }
+        ensures spent { (fault_in result ≡ Some HubFault.Spent)
+            ↔ ((length hub.old.0.sessions < max_open) × (max_opened ≤ hub.old.0.next)) }
+        ensures known { fault_in result ≢ Some HubFault.Unknown }
         ensures refused { OnErr result (hub.new ≡ hub.old) }
+        ensures handed_back { IfErr result (λ refusal. refusal.1 ≡ stream) }
     {
         let mut pending = Vec::new(alloc);
         match hub.open(&mut pending) {
@@ -126,8 +129,15 @@ impl<S: Stream + Drop, A: Allocator> Client<S, A> {
                 sent: 0,
                 over: false,
             }),
-            Err(fault) => Err(fault),
+            Err(fault) => Err((fault, stream)),
         }
+    }
+
+    /// Its stream, for which nothing else is kept.
+    pub fn into_stream(self) -> S
+        ensures { result ≡ self.1 }
+    {
+        self.stream
     }
 
     /// Its stream.
@@ -195,6 +205,7 @@ impl<S: Stream + Drop, A: Allocator> Client<S, A> {
     pub fn flush(&mut self) -> io::Result<()>
         ensures same { self.new.0 ≡ self.old.0 }
         ensures unread { Keeps (S.remaining self.old.1) (S.remaining self.new.1) }
+        ensures received { Keeps (S.received self.old.1) (S.received self.new.1) }
         ensures written { Keeps (S.contents self.old.1) (S.contents self.new.1) }
         ensures asked { IsHandedOn (S.asked self.old.1) (S.asked self.new.1) result }
         ensures flushed { OnOk result (S.flushed self.new.1 ≡ true) }
@@ -207,6 +218,7 @@ impl<S: Stream + Drop, A: Allocator> Client<S, A> {
         requires { 0 < length self.old.0.unsent }
         ensures sends { Sends self.old.0 self.new.0 (S.contents self.old.1) (S.contents self.new.1) result }
         ensures unread { Keeps (S.remaining self.old.1) (S.remaining self.new.1) }
+        ensures received { Keeps (S.received self.old.1) (S.received self.new.1) }
         ensures calls { (S.asked self.new.1).calls ≡ (S.asked self.old.1).calls + 1 }
         ensures waits { result ≡ Turn.Blocked → (S.asked self.old.1).waits < (S.asked self.new.1).waits }
         ensures failures { (result ≡ Turn.Interrupted) ⊎ (result ≡ Turn.Failed ServeFault.Write)
@@ -242,6 +254,7 @@ impl<S: Stream + Drop, A: Allocator> Client<S, A> {
     fn receive(&mut self) -> Turn
         requires { self.old.0.waiting ≡ [] }
         ensures reads { Reads self.old.0 self.new.0 (S.remaining self.old.1) (S.remaining self.new.1) result }
+        ensures received { Appends (S.received self.old.1) (S.received self.new.1) self.new.0.waiting }
         ensures waiting { length self.new.0.waiting ≤ input_bytes }
         ensures written { Keeps (S.contents self.old.1) (S.contents self.new.1) }
         ensures calls { (S.asked self.new.1).calls ≡ (S.asked self.old.1).calls + 1 }
@@ -311,7 +324,7 @@ impl<S: Stream + Drop, A: Allocator> Client<S, A> {
     pub fn turn<E: Export, H: Allocator + Copy>(&mut self, hub: &mut Sessions<E, H>) -> Turn
         ensures serves { (history : List Step) (read wrote : List ℕ) → IsAfter (E.facts hub.old.1) hub.old.0 history
             → IsServed hub.old.0.offer history self.old.0 read wrote
-            → TurnsOn (E.facts hub.new.1) hub.new.0 history self.new.0
+            → TurnsOn (E.facts hub.new.1) hub.new.0 history self.new.0 (S.received self.old.1) (S.received self.new.1)
             (ends (S.remaining self.old.1) (S.remaining self.new.1) (S.contents self.old.1) (S.contents self.new.1)) read wrote }
         ensures same { self.new.0.id ≡ self.old.0.id }
         // The other sessions, and the hub.

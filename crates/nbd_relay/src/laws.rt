@@ -33,8 +33,8 @@ pub fn what_was_said<E: Export>()
 /// Runs of turns add up: what is served after some turns, and then after others, is served after both.
 pub fn runs_go_on<S: Stream, E: Export>()
     ensures { (a b : E) (hub hub' : HubState) (history : List Step) (first mid last : List (ClientState × S)) (logs : List Log)
-        → RunsOn S.remaining S.contents (E.facts a) hub history first mid logs
+        → RunsOn S.remaining S.received S.contents (E.facts a) hub history first mid logs
         → ((g : List Step) (later : List Log) → IsAfter (E.facts a) hub g → AllServed hub.offer g mid later
-        → RunsOn S.remaining S.contents (E.facts b) hub' g mid last later)
-        → RunsOn S.remaining S.contents (E.facts b) hub' history first last logs }
+        → RunsOn S.remaining S.received S.contents (E.facts b) hub' g mid last later)
+        → RunsOn S.remaining S.received S.contents (E.facts b) hub' history first last logs }
 {}

@@ -1,12 +1,12 @@
 //! Many clients of one hub, in any order.
 
-ghost use Rattle.std.specs.Prelude.{◌≡◌, ◌≢◌, ◌≤◌, ◌<◌, ◌++◌, List, [], ◌∷◌, length, Some, Err, OnOk, OnErr, slice_get};
+ghost use Rattle.std.specs.Prelude.{◌≡◌, ◌≢◌, ◌≤◌, ◌<◌, ◌++◌, List, [], ◌∷◌, length, Some, IfErr, OnOk, OnErr, slice_get};
 ghost use Rattle.std.specs.List.{remove};
 ghost use Rattle.nbd_session.specs.Handshake.{greeting};
 ghost use Rattle.nbd_hub.specs.History.{Step, Opening, Ending};
 ghost use Rattle.nbd_hub.specs.After.{IsAfter};
 ghost use Rattle.nbd_relay.specs.Clients.{Log, AllServed, RunsOn, TurnsAt};
-ghost use Rattle.nbd_relay.specs.Client.{ClientState};
+ghost use Rattle.nbd_relay.specs.Client.{ClientState, fault_in};
 ghost use Rattle.nbd_hub.specs.Sessions.{max_open, max_opened};
 
 use crate::client::{Client, Turn};
@@ -27,7 +27,7 @@ pub fn turn_at<S: Stream + Drop, A: Allocator, E: Export, H: Allocator + Copy>(
     ensures later { E.later hub.old.1 hub.new.1 }
     ensures serves { (history : List Step) (logs : List Log) → IsAfter (E.facts hub.old.1) hub.old.0 history
         → AllServed hub.old.0.offer history clients.old logs
-        → RunsOn S.remaining S.contents (E.facts hub.new.1) hub.new.0 history clients.old clients.new logs }
+        → RunsOn S.remaining S.received S.contents (E.facts hub.new.1) hub.new.0 history clients.old clients.new logs }
 {
     let client = &mut clients[at];
     client.turn(hub)
@@ -37,14 +37,14 @@ pub fn turn_at<S: Stream + Drop, A: Allocator, E: Export, H: Allocator + Copy>(
 ///
 /// # Errors
 ///
-/// Those of [`Sessions::open`], H2 also where memory was refused for the list. A refused call changes nothing, and the stream
-/// is dropped.
+/// Those of [`Sessions::open`], H2 also where memory was refused for the list. A refused call changes nothing, and hands the
+/// stream back.
 pub fn accept<S: Stream + Drop, A: Allocator, B: Allocator, E: Export, H: Allocator + Copy>(
     clients: &mut Vec<Client<S, A>, B>,
     alloc: A,
     stream: S,
     hub: &mut Sessions<E, H>,
-) -> Result<(), HubFault>
+) -> Result<(), (HubFault, S)>
     ensures serves { OnOk result ((history : List Step) (logs : List Log) → IsAfter (E.facts hub.old.1) hub.old.0 history
         → AllServed hub.old.0.offer history clients.old.items logs
         → IsAfter (E.facts hub.new.1) hub.new.0 (history ++ Opening hub.old.0.next greeting ∷ [])
@@ -54,20 +54,21 @@ pub fn accept<S: Stream + Drop, A: Allocator, B: Allocator, E: Export, H: Alloca
     ensures export { hub.new.1 ≡ hub.old.1 }
     ensures added { OnOk result ((client : ClientState × S) × (clients.new.items ≡ clients.old.items ++ client ∷ [])
         × (client.0.id ≡ hub.old.0.next) × (client.1 ≡ stream)) }
-    ensures full { result ≡ Err HubFault.Full → max_open ≤ length hub.old.0.sessions }
-    ensures spent { result ≡ Err HubFault.Spent → max_opened ≤ hub.old.0.next }
-    ensures known { result ≢ Err HubFault.Unknown }
+    ensures full { fault_in result ≡ Some HubFault.Full → max_open ≤ length hub.old.0.sessions }
+    ensures spent { fault_in result ≡ Some HubFault.Spent → max_opened ≤ hub.old.0.next }
+    ensures known { fault_in result ≢ Some HubFault.Unknown }
     ensures refused { OnErr result ((hub.new ≡ hub.old) × (clients.new.items ≡ clients.old.items)) }
+    ensures handed_back { IfErr result (λ refusal. refusal.1 ≡ stream) }
 {
     if clients.reserve(1).is_err() {
-        return Err(HubFault::NoMemory);
+        return Err((HubFault::NoMemory, stream));
     }
     match Client::open(alloc, stream, hub) {
         Ok(client) => match clients.push(client) {
             Ok(()) => Ok(()),
             Err(_) => unreachable!(),
         },
-        Err(fault) => Err(fault),
+        Err(refusal) => Err(refusal),
     }
 }
 

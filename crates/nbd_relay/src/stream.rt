@@ -13,11 +13,14 @@ use verity_count::Count;
 ///
 /// What it took may wait in it until it is flushed, which [`Client::flush`](crate::Client::flush) does; no turn does so.
 ///
-/// Contracts see the bytes that it will give and those that it was given, where they are known. What is read changes nothing
-/// of what was written, and the other way: a bound `Read + Write` says neither.
+/// Contracts see the bytes that it will give, those that it gave, and those that it was given, where they are known. What is
+/// read changes nothing of what was written, and the other way: a bound `Read + Write` says neither.
 pub trait Stream {
     /// The bytes that it will give.
     ghost remaining: { Self → Option (List ℕ) } = { λ _. None };
+
+    /// The bytes that it gave.
+    ghost received: { Self → Option (List ℕ) } = { λ _. None };
 
     /// The bytes that it was given.
     ghost contents: { Self → Option (List ℕ) } = { λ _. None };
@@ -32,6 +35,7 @@ pub trait Stream {
     fn receive(&mut self, buf: &mut [u8]) -> io::Result<usize>
         ensures bound { ReadsAtMost result buf.new }
         ensures bytes { ReadConsumes (remaining self.old) (remaining self.new) result buf.new }
+        ensures received { WriteAppends (received self.old) (received self.new) result buf.new }
         ensures written { Keeps (contents self.old) (contents self.new) }
         ensures asked { IsAsked (asked self.old) (asked self.new) result };
 
@@ -40,12 +44,14 @@ pub trait Stream {
         ensures bound { WritesAtMost result buf.now }
         ensures bytes { WriteAppends (contents self.old) (contents self.new) result buf.now }
         ensures unread { Keeps (remaining self.old) (remaining self.new) }
+        ensures received { Keeps (received self.old) (received self.new) }
         ensures asked { IsAsked (asked self.old) (asked self.new) result }
         ensures stuck { IfOk result (λ n. n ≡ 0 → 0 < length buf.now → (asked self.old).failures < (asked self.new).failures) };
 
     /// Hands on what it took and holds.
     fn flush(&mut self) -> io::Result<()>
         ensures unread { Keeps (remaining self.old) (remaining self.new) }
+        ensures received { Keeps (received self.old) (received self.new) }
         ensures written { Keeps (contents self.old) (contents self.new) }
         ensures asked { IsHandedOn (asked self.old) (asked self.new) result }
         ensures flushed { OnOk result (flushed self.new ≡ true) };

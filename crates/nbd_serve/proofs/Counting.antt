@@ -50,15 +50,15 @@ module _ {S : Type 0} where
       let all = all_shares share in
       omega (arith, within_shares share cs 64 l, w, all)
 
-  pub runs_none : (r w : S → Option (List ℕ)) (facts : Facts) (hub : HubState) (h : List Step) (cs : List (ClientState × S)) (ls : List Log)
-      → IsAfter facts hub h → AllServed hub.offer h cs ls → RunsOn r w facts hub h cs cs ls
-  runs_none r w facts hub h cs ls x v =
+  pub runs_none : (r g w : S → Option (List ℕ)) (facts : Facts) (hub : HubState) (h : List Step) (cs : List (ClientState × S))
+      (ls : List Log) → IsAfter facts hub h → AllServed hub.offer h cs ls → RunsOn r g w facts hub h cs cs ls
+  runs_none r g w facts hub h cs ls x v =
       let P : List Step → Type 0 = λ z. IsAfter facts hub z in
       let Q : List Step → Type 0 = λ z. AllServed hub.offer z cs ls in
       record {
         fed = [];
         after = subst P (sym (append-nil h)) x;
         later = ls;
-        logged = all_still r w hub.offer h cs ls v;
+        logged = all_still r g w hub.offer h cs ls v;
         served = subst Q (sym (append-nil h)) v;
       }

@@ -1,11 +1,14 @@
 //! The clients that are connected, each with its seat.
 
-ghost use Rattle.std.specs.Prelude.{◌≡◌, ◌+◌, ◌<◌, [], ◌∷◌, ◌++◌, length, slice_get, Some, IfOk, OnOk, OnErr};
+ghost use Rattle.std.specs.Prelude.{◌≡◌, ◌+◌, ◌<◌, [], ◌∷◌, ◌++◌, List, length, slice_get, Some, IfOk, IfErr, OnOk, OnErr};
 ghost use Rattle.std.specs.List.{remove};
+ghost use Rattle.nbd_hub.specs.Sessions.{HubState};
 ghost use Rattle.nbd_serve.specs.Serving.{GoesOn};
+ghost use Rattle.nbd_serve.specs.Sockets.{AreKept, AreServed, IsTold, Visits, nothing};
 
 use crate::budget::Budget;
 use crate::connection::Connection;
+use crate::door::Door;
 use crate::socket::Socket;
 use crate::turns::{Came, go_on};
 use mio::unix::SourceFd;
@@ -14,7 +17,7 @@ use nbd_hub::{HubFault, ServeFault, Sessions};
 use nbd_relay::{Client, accept, leave};
 use nbd_session::Export;
 use std::alloc::{AllocError, Global};
-use std::io::ErrorKind;
+use std::io::{self, ErrorKind};
 use std::time::Duration;
 
 /// What is kept of a client beside its relay.
@@ -67,7 +70,7 @@ impl<C: Connection + Drop> Connected<C> {
     /// # Errors
     ///
     /// N1 where the system refuses to have it wait for nothing or to watch it, N5 where no session could be opened, of H2 also where
-    /// memory was refused. Nobody is added then.
+    /// memory was refused. Nobody is added then, and the connection is handed back.
     pub fn seat<E: Export>(
         &mut self,
         hub: &mut Sessions<E>,
@@ -75,31 +78,37 @@ impl<C: Connection + Drop> Connected<C> {
         number: u64,
         now: Option<Duration>,
         registry: &Registry,
-    ) -> Result<(), ServeFault>
+    ) -> Result<(), (ServeFault, C)>
         ensures goes_on { GoesOn E.later hub.old hub.new }
         ensures added { OnOk result (length self.new.clients.items ≡ length self.old.clients.items + 1) }
         ensures refused { OnErr result (length self.new.clients.items ≡ length self.old.clients.items) }
         ensures number { OnOk result (self.new.numbers.items ≡ self.old.numbers.items ++ number ∷ []) }
         ensures numbers { OnErr result (self.new.numbers.items ≡ self.old.numbers.items) }
+        ensures serves { C.log connection ≡ nothing → AreServed E.facts C.log hub.old self.old.clients.items
+            → AreServed E.facts C.log hub.new self.new.clients.items }
+        ensures handed_back { IfErr result (λ refusal. refusal.1 ≡ connection) }
     {
         let none = ServeFault::Hub(HubFault::NoMemory);
         if self.seats.reserve(1).is_err() || self.numbers.reserve(1).is_err() {
-            return Err(none);
+            return Err((none, connection));
         }
         if connection.prepare().is_err() {
-            return Err(ServeFault::Read);
+            return Err((ServeFault::Read, connection));
         }
         let fd = connection.as_raw_fd();
-        let socket = Socket::new(self.alloc, connection).map_err(|_| none)?;
-        if let Err(fault) = accept(&mut self.clients, self.alloc, socket, hub) {
-            return Err(ServeFault::Hub(fault));
+        let socket = match Socket::new(self.alloc, connection) {
+            Ok(socket) => socket,
+            Err(handed_back) => return Err((none, handed_back)),
+        };
+        if let Err((fault, socket)) = accept(&mut self.clients, self.alloc, socket, hub) {
+            return Err((ServeFault::Hub(fault), socket.into_connection()));
         }
         let at = self.clients.len() - 1;
         let token = Token(self.clients[at].id() as usize);
         let both = Interest::READABLE | Interest::WRITABLE;
         if registry.register(&mut SourceFd(&fd), token, both).is_err() {
-            let _client = leave(&mut self.clients, at, hub);
-            return Err(ServeFault::Read);
+            let client = leave(&mut self.clients, at, hub);
+            return Err((ServeFault::Read, client.into_stream().into_connection()));
         }
         let seat = Seat {
             ready: true,
@@ -119,11 +128,33 @@ impl<C: Connection + Drop> Connected<C> {
         ensures clients { self.new.clients.items ≡ remove self.old.clients.items at }
         ensures numbers { self.new.numbers.items ≡ remove self.old.numbers.items at }
         ensures number { slice_get self.old.numbers.items at ≡ Some result.0 }
+        ensures serves { AreServed E.facts C.log hub.old self.old.clients.items
+            → AreServed E.facts C.log hub.new self.new.clients.items }
+        ensures told { AreServed E.facts C.log hub.old self.old.clients.items
+            → IsTold E.facts E.later hub.new (C.log result.1.1.connection) }
     {
         let _seat = self.seats.remove(at);
         let number = self.numbers.remove(at);
         let client = leave(&mut self.clients, at, hub);
         (number, client)
+    }
+
+    /// Ends all sessions, and gives all connections back.
+    pub fn give_back<E: Export, L: Door<Connection = C>>(
+        &mut self,
+        hub: &mut Sessions<E>,
+        door: &mut L,
+    )
+        ensures none { self.new.clients.items ≡ [] }
+        ensures goes_on { GoesOn E.later hub.old hub.new }
+        ensures kept { (begun : Visits) (leaving : List C)
+            → AreKept E.facts E.later C.log begun hub.old self.old.clients.items leaving (L.visits door.old)
+            → AreKept E.facts E.later C.log begun hub.new self.new.clients.items leaving (L.visits door.new) }
+    {
+        'each: for _done in 0..self.clients.len() {
+            let (_, client) = self.leave(hub, 0);
+            door.close(client.into_stream().into_connection());
+        }
     }
 
     /// The turns of one client, and what it then holds is handed on where nothing follows at once.
@@ -138,25 +169,16 @@ impl<C: Connection + Drop> Connected<C> {
         ensures goes_on { GoesOn E.later hub.old hub.new }
         ensures count { length self.new.clients.items ≡ length self.old.clients.items }
         ensures numbers { self.new.numbers.items ≡ self.old.numbers.items }
+        ensures serves { AreServed E.facts C.log hub.old self.old.clients.items
+            → AreServed E.facts C.log hub.new self.new.clients.items }
     {
         let seat = &mut self.seats[at];
         if !seat.ready {
             return Came::Waits;
         }
         seat.heard = now;
-        let came = if seat.done {
-            Came::Done
-        } else {
-            go_on(&mut self.clients, at, hub, budget)
-        };
-        let flushed = match came {
-            Came::Done | Came::Hungry => {
-                let client = &mut self.clients[at];
-                client.flush()
-            }
-            _ => Ok(()),
-        };
-        let blocked = match flushed {
+        let came = self.take_turns(hub, at, budget);
+        let blocked = match self.hand_on::<E>(at, came) {
             Ok(()) => false,
             Err(e) => {
                 if e.kind() == ErrorKind::WouldBlock {
@@ -175,6 +197,39 @@ impl<C: Connection + Drop> Connected<C> {
         came
     }
 
+    /// The turns of one client, unless all was said.
+    fn take_turns<E: Export>(&mut self, hub: &mut Sessions<E>, at: usize, budget: Budget) -> Came
+        requires { at < length self.old.clients.items }
+        ensures goes_on { GoesOn E.later hub.old hub.new }
+        ensures count { length self.new.clients.items ≡ length self.old.clients.items }
+        ensures numbers { self.new.numbers.items ≡ self.old.numbers.items }
+        ensures serves { AreServed E.facts C.log hub.old self.old.clients.items
+            → AreServed E.facts C.log hub.new self.new.clients.items }
+    {
+        let seat = &self.seats[at];
+        if seat.done {
+            return Came::Done;
+        }
+        go_on(&mut self.clients, at, hub, budget)
+    }
+
+    /// What a client holds is handed on where nothing follows at once.
+    fn hand_on<E: Export>(&mut self, at: usize, came: Came) -> io::Result<()>
+        requires { at < length self.old.clients.items }
+        ensures count { length self.new.clients.items ≡ length self.old.clients.items }
+        ensures numbers { self.new.numbers.items ≡ self.old.numbers.items }
+        ensures serves { (hub : HubState × E) → AreServed E.facts C.log hub self.old.clients.items
+            → AreServed E.facts C.log hub self.new.clients.items }
+    {
+        match came {
+            Came::Done | Came::Hungry => {
+                let client = &mut self.clients[at];
+                client.flush()
+            }
+            _ => Ok(()),
+        }
+    }
+
     /// Whether the client at this place was silent for so long.
     pub fn is_silent(&self, at: usize, idle: Duration, now: Duration) -> bool
         requires { at < length self.now.clients.items }
@@ -187,7 +242,7 @@ impl<C: Connection + Drop> Connected<C> {
 
     /// The system says that the client of this token may go on, and whether it says no more.
     pub fn wake(&mut self, token: Token, closed: bool)
-        ensures count { length self.new.clients.items ≡ length self.old.clients.items }
+        ensures clients { self.new.clients.items ≡ self.old.clients.items }
         ensures numbers { self.new.numbers.items ≡ self.old.numbers.items }
     {
         'each: for at in 0..self.clients.len() {

@@ -1,6 +1,10 @@
 //! Where clients come from, and what they may take.
 
-use crate::connection::Connection;
+ghost use Rattle.std.specs.Prelude.{◌≡◌, ◌+◌, [], ◌∷◌, ◌++◌, IfOk, OnOk, OnErr};
+ghost use Rattle.nbd_serve.specs.Sockets.{Visits, nothing};
+
+use crate::carried::Visited;
+use crate::connection::{Connection, Logged, SystemSocket};
 use crate::limits::Limits;
 use std::io;
 use std::net::{TcpListener, TcpStream};
@@ -8,12 +12,27 @@ use std::os::fd::{AsRawFd, RawFd};
 use std::os::unix::net::{UnixListener, UnixStream};
 use std::time::{Clock, Duration};
 
-/// Where clients come from. A listener of `std` is one, with the usual limits and without a clock.
+/// Where clients come from.
+///
+/// Contracts see how many connections were accepted, and what those carried that were given back.
 pub trait Door: AsRawFd {
     type Connection: Connection + Drop;
 
-    /// The next connection.
-    fn accept(&self) -> io::Result<Self::Connection>;
+    ghost visits: { Self → Visits };
+
+    /// The next connection, which has carried nothing.
+    fn accept(&mut self) -> io::Result<Self::Connection>
+        ensures accepted { OnOk result (visits self.new
+            ≡ record { accepted = (visits self.old).accepted + 1; closed = (visits self.old).closed }) }
+        ensures empty { IfOk result (λ connection. Self.Connection.log connection ≡ nothing) }
+        ensures refused { OnErr result (visits self.new ≡ visits self.old) };
+
+    /// Closes a connection, which carries nothing more.
+    fn close(&mut self, connection: Self::Connection)
+        ensures { visits self.new ≡ record {
+          accepted = (visits self.old).accepted;
+          closed = (visits self.old).closed ++ Self.Connection.log connection ∷ [];
+        } };
 
     /// Whether `accept` answers `WouldBlock` where no connection waits.
     fn set_nonblocking(&self, nonblocking: bool) -> io::Result<()>;
@@ -29,8 +48,19 @@ pub trait Door: AsRawFd {
     }
 }
 
-impl Door for TcpListener {
-    type Connection = TcpStream;
+/// A listener of the system.
+pub trait Listener: AsRawFd {
+    type Socket: SystemSocket + Drop;
+
+    /// The next connection.
+    fn accept(&self) -> io::Result<Self::Socket>;
+
+    /// Whether `accept` answers `WouldBlock` where no connection waits.
+    fn set_nonblocking(&self, nonblocking: bool) -> io::Result<()>;
+}
+
+impl Listener for TcpListener {
+    type Socket = TcpStream;
 
     fn accept(&self) -> io::Result<TcpStream> {
         let (stream, _) = TcpListener::accept(self)?;
@@ -42,8 +72,8 @@ impl Door for TcpListener {
     }
 }
 
-impl Door for UnixListener {
-    type Connection = UnixStream;
+impl Listener for UnixListener {
+    type Socket = UnixStream;
 
     fn accept(&self) -> io::Result<UnixStream> {
         let (stream, _) = UnixListener::accept(self)?;
@@ -55,29 +85,50 @@ impl Door for UnixListener {
     }
 }
 
-/// A door with limits of its own, and a clock.
+/// A listener of the system with limits of its own, a clock, and what its connections carried, which takes no bytes.
 #[derive(Drop)]
-pub struct Watched<'a, L: Door, R: Clock> {
-    pub door: L,
-    pub limits: Limits,
-    pub clock: &'a R,
+pub struct Watched<'a, L: Listener, R: Clock> {
+    listener: L,
+    limits: Limits,
+    clock: &'a R,
+    visited: Visited,
 }
 
-impl<L: Door, R: Clock> AsRawFd for Watched<'_, L, R> {
-    fn as_raw_fd(&self) -> RawFd {
-        self.door.as_raw_fd()
+impl<'a, L: Listener, R: Clock> Watched<'a, L, R> {
+    /// Nobody was accepted.
+    pub fn new(listener: L, limits: Limits, clock: &'a R) -> Watched<'a, L, R> {
+        Watched {
+            listener,
+            limits,
+            clock,
+            visited: Visited::new(),
+        }
     }
 }
 
-impl<L: Door, R: Clock> Door for Watched<'_, L, R> {
-    type Connection = L::Connection;
+impl<L: Listener, R: Clock> AsRawFd for Watched<'_, L, R> {
+    fn as_raw_fd(&self) -> RawFd {
+        self.listener.as_raw_fd()
+    }
+}
 
-    fn accept(&self) -> io::Result<L::Connection> {
-        self.door.accept()
+impl<L: Listener, R: Clock> Door for Watched<'_, L, R> {
+    type Connection = Logged<L::Socket>;
+
+    ghost visits = { λ d. d.visited.visits };
+
+    fn accept(&mut self) -> io::Result<Logged<L::Socket>> {
+        let socket = self.listener.accept()?;
+        self.visited.accept();
+        Ok(Logged::new(socket))
+    }
+
+    fn close(&mut self, connection: Logged<L::Socket>) {
+        self.visited.close(&connection);
     }
 
     fn set_nonblocking(&self, nonblocking: bool) -> io::Result<()> {
-        self.door.set_nonblocking(nonblocking)
+        self.listener.set_nonblocking(nonblocking)
     }
 
     fn limits(&self) -> Limits {

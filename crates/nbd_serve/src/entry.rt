@@ -3,6 +3,7 @@
 ghost use Rattle.std.specs.Prelude.{◌≡◌, ◌+◌, ◌<◌, length, OnOk};
 ghost use Rattle.nbd_serve.specs.Lines.{standing, Tells};
 ghost use Rattle.nbd_serve.specs.Serving.{GoesOn};
+ghost use Rattle.nbd_serve.specs.Sockets.{AreKept, Visits, nothing};
 
 use crate::connection::Connection;
 use crate::door::Door;
@@ -30,7 +31,7 @@ impl<C: Connection + Drop> Room<C> {
     pub fn accept_all<E: Export, L: Door<Connection = C>, W: Write>(
         &mut self,
         hub: &mut Sessions<E>,
-        door: &L,
+        door: &mut L,
         registry: &Registry,
         output: &mut W,
     ) -> Result<(), Stop>
@@ -39,6 +40,9 @@ impl<C: Connection + Drop> Room<C> {
         ensures told { OnOk result (Tells (W.contents output.old) (W.contents output.new)
             (standing self.old.ended self.old.accepted self.old.connected.numbers.items self.old.faulty)
             (standing self.new.ended self.new.accepted self.new.connected.numbers.items self.new.faulty)) }
+        ensures kept { (begun : Visits) → AreKept E.facts E.later C.log begun hub.old self.old.connected.clients.items
+            self.old.partings.leaving.items (L.visits door.old) → AreKept E.facts E.later C.log begun hub.new
+            self.new.connected.clients.items self.new.partings.leaving.items (L.visits door.new) }
     {
         self.retries = false;
         for _ in 0..MOST {
@@ -56,7 +60,7 @@ impl<C: Connection + Drop> Room<C> {
     fn accept_one<E: Export, L: Door<Connection = C>, W: Write>(
         &mut self,
         hub: &mut Sessions<E>,
-        door: &L,
+        door: &mut L,
         registry: &Registry,
         output: &mut W,
     ) -> Result<bool, Stop>
@@ -67,10 +71,13 @@ impl<C: Connection + Drop> Room<C> {
         ensures told { OnOk result (Tells (W.contents output.old) (W.contents output.new)
             (standing self.old.ended self.old.accepted self.old.connected.numbers.items self.old.faulty)
             (standing self.new.ended self.new.accepted self.new.connected.numbers.items self.new.faulty)) }
+        ensures kept { (begun : Visits) → AreKept E.facts E.later C.log begun hub.old self.old.connected.clients.items
+            self.old.partings.leaving.items (L.visits door.old) → AreKept E.facts E.later C.log begun hub.new
+            self.new.connected.clients.items self.new.partings.leaving.items (L.visits door.new) }
     {
         match door.accept() {
             Ok(connection) => {
-                self.let_in(hub, connection, door.now(), registry, output)?;
+                self.let_in(hub, door, connection, registry, output)?;
                 Ok(true)
             }
             Err(e) => {
@@ -92,11 +99,11 @@ impl<C: Connection + Drop> Room<C> {
     }
 
     /// Gives a connection a seat, or prints why it gets none.
-    fn let_in<E: Export, W: Write>(
+    fn let_in<E: Export, L: Door<Connection = C>, W: Write>(
         &mut self,
         hub: &mut Sessions<E>,
+        door: &mut L,
         connection: C,
-        now: Option<Duration>,
         registry: &Registry,
         output: &mut W,
     ) -> Result<(), Stop>
@@ -107,15 +114,22 @@ impl<C: Connection + Drop> Room<C> {
         ensures told { OnOk result (Tells (W.contents output.old) (W.contents output.new)
             (standing self.old.ended self.old.accepted self.old.connected.numbers.items self.old.faulty)
             (standing self.new.ended self.new.accepted self.new.connected.numbers.items self.new.faulty)) }
+        ensures kept { (begun before : Visits) → C.log connection ≡ nothing
+            → L.visits door.old ≡ record { accepted = before.accepted + 1; closed = before.closed }
+            → AreKept E.facts E.later C.log begun hub.old self.old.connected.clients.items self.old.partings.leaving.items before
+            → AreKept E.facts E.later C.log begun hub.new self.new.connected.clients.items self.new.partings.leaving.items
+            (L.visits door.new) }
     {
         let number = self.accepted + 1;
+        let now = door.now();
         let seated = self.connected.seat(hub, connection, number, now, registry);
         self.accepted = number;
         match seated {
             Ok(()) => Ok(()),
-            Err(fault) => {
+            Err((fault, connection)) => {
                 self.ended += 1;
                 self.faulty = true;
+                door.close(connection);
                 tell_end(output, number, Some(fault))
             }
         }

@@ -19,8 +19,13 @@
 //! answers whether no line named a fault. At most 64 are there at a time, those who take their leave among them, and no more are
 //! accepted than are to be.
 //!
-//! Sockets, the clock and the system's poll are outside what contracts can say. Nothing is proved of which client is ready,
-//! who is idle, who is next and when a connection is accepted, but that the loop's steps are safe.
+//! However it ends, each connection that was accepted was given back to the listener, and what it had been sent is a beginning of
+//! what one session said to a beginning of what had been received from it, by verdicts that the export gave (`IsTold`,
+//! `specs/Sockets.antt`). What a connection carries is a log that only its own `receive` and `send` add to ([`Connection`]), which
+//! takes no bytes ([`Carried`]); what connections that were given back had carried stands with the listener ([`Door`], [`Visited`]).
+//!
+//! What the system's sockets do with the bytes, the clock and the system's poll are outside what contracts can say. Nothing is proved
+//! of which client is ready, who is idle, who is next and when a connection is accepted, but that the loop's steps are safe.
 //!
 //! # Errors
 //!
@@ -28,6 +33,7 @@
 #![tactic(auto)]
 
 mod budget;
+mod carried;
 mod connected;
 mod connection;
 mod door;
@@ -43,8 +49,9 @@ mod stop;
 mod turns;
 
 pub use budget::{Budget, has_room, keeps_the_limit, left};
-pub use connection::Connection;
-pub use door::{Door, Watched};
+pub use carried::{Carried, Visited};
+pub use connection::{Connection, Logged, SystemSocket};
+pub use door::{Door, Listener, Watched};
 pub use limits::Limits;
 pub use server::serve_clients;
 pub use stop::Stop;

@@ -1,9 +1,13 @@
 //! Connections that are taking their leave.
 
+ghost use Rattle.std.specs.Prelude.{◌≡◌};
+ghost use Rattle.nbd_serve.specs.Sockets.{Drains};
+
 use crate::connection::Connection;
 use crate::socket::Socket;
 use nbd_relay::Client;
 use std::io::ErrorKind;
+use std::marker::Model;
 use std::time::Duration;
 
 /// How many bytes of late input are read at once, how many times in a row, and how many in all.
@@ -23,24 +27,39 @@ const LATE_WAITS: u64 = 2;
 #[derive(Drop)]
 pub struct Parting<C: Connection> {
     id: u64,
-    client: Client<Socket<C>>,
+    connection: C,
     ready: bool,
     waits: u64,
     heard: Option<Duration>,
     late: u64,
 }
 
+impl<C: Connection> Model for Parting<C> {
+    ghost Value = { C };
+
+    ghost view = { λ p. p.connection };
+}
+
 impl<C: Connection + Drop> Parting<C> {
-    /// Its session has ended, and it may have said more.
-    pub fn new(client: Client<Socket<C>>) -> Parting<C> {
+    /// Its session has ended, and it may have said more. What was said to it and not sent is dropped.
+    pub fn new(client: Client<Socket<C>>) -> Parting<C>
+        ensures { result ≡ client.1.connection }
+    {
         Parting {
             id: client.id(),
-            client,
+            connection: client.into_stream().into_connection(),
             ready: true,
             waits: 0,
             heard: None,
             late: 0,
         }
+    }
+
+    /// Its connection.
+    pub fn into_connection(self) -> C
+        ensures { result ≡ self }
+    {
+        self.connection
     }
 
     /// The number that its session had.
@@ -54,25 +73,31 @@ impl<C: Connection + Drop> Parting<C> {
     }
 
     /// The system says that it may have said more.
-    pub fn wake(&mut self) {
+    pub fn wake(&mut self)
+        ensures { self.new ≡ self.old }
+    {
         self.ready = true;
         self.waits = 0;
     }
 
     /// Nobody was heard in a wait.
-    pub fn wait(&mut self) {
+    pub fn wait(&mut self)
+        ensures { self.new ≡ self.old }
+    {
         self.waits = self.waits.saturating_add(1);
     }
 
     /// Reads what its client still says, and tells whether it stays.
-    pub fn hear(&mut self, now: Option<Duration>) -> bool {
+    pub fn hear(&mut self, now: Option<Duration>) -> bool
+        ensures { Drains (C.log self.old) (C.log self.new) }
+    {
         if !self.ready {
             return self.waits < LATE_WAITS && !self.is_silent(now);
         }
         self.heard = now;
         let mut piece = [0u8; LATE_BYTES];
         for _ in 0..LATE_PIECES {
-            match self.client.stream().connection().receive(&mut piece) {
+            match self.connection.receive(&mut piece) {
                 Ok(0) => return false,
                 Ok(taken) => {
                     self.late = self.late.saturating_add(taken as u64);

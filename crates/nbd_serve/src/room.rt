@@ -1,8 +1,10 @@
 //! Who is there: the clients that are connected, those that are taking their leave, and whether somebody may be at the door.
 
-ghost use Rattle.std.specs.Prelude.{◌≡◌, ◌+◌, ◌<◌, ◌≤◌, [], length, true, false, None, IfOk, OnOk, IsTrue};
+ghost use Rattle.std.specs.Prelude.{◌≡◌, ◌+◌, ◌<◌, ◌≤◌, ℕ, [], length, true, false, None, IfOk, OnOk, IsTrue};
+ghost use Rattle.nbd_hub.specs.Sessions.{HubState};
 ghost use Rattle.nbd_serve.specs.Lines.{standing, Tells};
 ghost use Rattle.nbd_serve.specs.Serving.{GoesOn};
+ghost use Rattle.nbd_serve.specs.Sockets.{AreKept, AreGivenBack, AreTold, IsTold, Visits};
 
 use crate::budget::Budget;
 use crate::connected::Connected;
@@ -59,6 +61,8 @@ impl<C: Connection + Drop> Room<C> {
         ensures sessions { IfOk result (λ room. room.sessions ≡ sessions) }
         ensures stands { IfOk result (λ room. standing room.ended room.accepted room.connected.numbers.items room.faulty
             ≡ standing 0 0 [] false) }
+        ensures clients { IfOk result (λ room. room.connected.clients.items ≡ []) }
+        ensures leaving { IfOk result (λ room. room.partings.leaving.items ≡ []) }
     {
         Ok(Room {
             connected: Connected::new(alloc, MOST)?,
@@ -126,7 +130,7 @@ impl<C: Connection + Drop> Room<C> {
     pub fn serve_once<E: Export, L: Door<Connection = C>, W: Write>(
         &mut self,
         hub: &mut Sessions<E>,
-        door: &L,
+        door: &mut L,
         registry: &Registry,
         budget: Budget,
         idle: Option<Duration>,
@@ -137,11 +141,14 @@ impl<C: Connection + Drop> Room<C> {
         ensures told { OnOk result (Tells (W.contents output.old) (W.contents output.new)
             (standing self.old.ended self.old.accepted self.old.connected.numbers.items self.old.faulty)
             (standing self.new.ended self.new.accepted self.new.connected.numbers.items self.new.faulty)) }
+        ensures kept { (begun : Visits) → AreKept E.facts E.later C.log begun hub.old self.old.connected.clients.items
+            self.old.partings.leaving.items (L.visits door.old) → AreKept E.facts E.later C.log begun hub.new
+            self.new.connected.clients.items self.new.partings.leaving.items (L.visits door.new) }
     {
         self.accept_all(hub, door, registry, output)?;
-        let goes_on = self.round(hub, budget, door.now(), output)?;
-        let parts_on = self.part_all(door.now());
-        self.leave_idle(hub, idle, door.now(), output)?;
+        let goes_on = self.round(hub, door, budget, output)?;
+        let parts_on = self.part_all::<E, L>(door);
+        self.leave_idle(hub, door, idle, output)?;
         Ok(goes_on || parts_on || self.may_accept())
     }
 
@@ -150,11 +157,11 @@ impl<C: Connection + Drop> Room<C> {
     /// # Errors
     ///
     /// Where a line can't be printed, as [`tell_end`].
-    fn round<E: Export, W: Write>(
+    fn round<E: Export, L: Door<Connection = C>, W: Write>(
         &mut self,
         hub: &mut Sessions<E>,
+        door: &mut L,
         budget: Budget,
-        now: Option<Duration>,
         output: &mut W,
     ) -> Result<bool, Stop>
         ensures goes_on { GoesOn E.later hub.old hub.new }
@@ -162,14 +169,18 @@ impl<C: Connection + Drop> Room<C> {
         ensures told { OnOk result (Tells (W.contents output.old) (W.contents output.new)
             (standing self.old.ended self.old.accepted self.old.connected.numbers.items self.old.faulty)
             (standing self.new.ended self.new.accepted self.new.connected.numbers.items self.new.faulty)) }
+        ensures kept { (begun : Visits) → AreKept E.facts E.later C.log begun hub.old self.old.connected.clients.items
+            self.old.partings.leaving.items (L.visits door.old) → AreKept E.facts E.later C.log begun hub.new
+            self.new.connected.clients.items self.new.partings.leaving.items (L.visits door.new) }
     {
+        let now = door.now();
         let mut goes_on = false;
         let mut at = 0;
         for _ in 0..MOST {
             if at >= self.connected.len() {
                 break;
             }
-            let (next, at_once) = self.turns_at(hub, at, budget, now, output)?;
+            let (next, at_once) = self.turns_at(hub, door, at, budget, now, output)?;
             at = next;
             goes_on = goes_on || at_once;
         }
@@ -178,9 +189,10 @@ impl<C: Connection + Drop> Room<C> {
 
     /// The client at this place has its turns, and leaves where it is done or failed. Tells the next one's place, and whether
     /// some client goes on at once.
-    fn turns_at<E: Export, W: Write>(
+    fn turns_at<E: Export, L: Door<Connection = C>, W: Write>(
         &mut self,
         hub: &mut Sessions<E>,
+        door: &mut L,
         at: usize,
         budget: Budget,
         now: Option<Duration>,
@@ -192,25 +204,29 @@ impl<C: Connection + Drop> Room<C> {
         ensures told { OnOk result (Tells (W.contents output.old) (W.contents output.new)
             (standing self.old.ended self.old.accepted self.old.connected.numbers.items self.old.faulty)
             (standing self.new.ended self.new.accepted self.new.connected.numbers.items self.new.faulty)) }
+        ensures kept { (begun : Visits) → AreKept E.facts E.later C.log begun hub.old self.old.connected.clients.items
+            self.old.partings.leaving.items (L.visits door.old) → AreKept E.facts E.later C.log begun hub.new
+            self.new.connected.clients.items self.new.partings.leaving.items (L.visits door.new) }
     {
         match self.connected.turns_of(hub, at, budget, now) {
             Came::On => Ok((at + 1, true)),
             Came::Waits | Came::Hungry => Ok((at + 1, false)),
             Came::Done => {
-                self.part(hub, at, output)?;
+                self.part(hub, door, at, output)?;
                 Ok((at, true))
             }
             Came::Failed(fault) => {
-                self.leave(hub, at, fault, output)?;
+                self.leave(hub, door, at, fault, output)?;
                 Ok((at, true))
             }
         }
     }
 
     /// A client's session ends without a fault, and its line is printed. Its late input is still read.
-    fn part<E: Export, W: Write>(
+    fn part<E: Export, L: Door<Connection = C>, W: Write>(
         &mut self,
         hub: &mut Sessions<E>,
+        door: &mut L,
         at: usize,
         output: &mut W,
     ) -> Result<(), Stop>
@@ -220,17 +236,21 @@ impl<C: Connection + Drop> Room<C> {
         ensures told { OnOk result (Tells (W.contents output.old) (W.contents output.new)
             (standing self.old.ended self.old.accepted self.old.connected.numbers.items self.old.faulty)
             (standing self.new.ended self.new.accepted self.new.connected.numbers.items self.new.faulty)) }
+        ensures kept { (begun : Visits) → AreKept E.facts E.later C.log begun hub.old self.old.connected.clients.items
+            self.old.partings.leaving.items (L.visits door.old) → AreKept E.facts E.later C.log begun hub.new
+            self.new.connected.clients.items self.new.partings.leaving.items (L.visits door.new) }
     {
         let (number, client) = self.connected.leave(hub, at);
         self.ended += 1;
-        self.partings.add(client);
+        self.partings.add::<E, L>(door, client);
         tell_end(output, number, None)
     }
 
     /// A client is left for a fault, and its line is printed.
-    fn leave<E: Export, W: Write>(
+    fn leave<E: Export, L: Door<Connection = C>, W: Write>(
         &mut self,
         hub: &mut Sessions<E>,
+        door: &mut L,
         at: usize,
         fault: ServeFault,
         output: &mut W,
@@ -241,22 +261,32 @@ impl<C: Connection + Drop> Room<C> {
         ensures told { OnOk result (Tells (W.contents output.old) (W.contents output.new)
             (standing self.old.ended self.old.accepted self.old.connected.numbers.items self.old.faulty)
             (standing self.new.ended self.new.accepted self.new.connected.numbers.items self.new.faulty)) }
+        ensures kept { (begun : Visits) → AreKept E.facts E.later C.log begun hub.old self.old.connected.clients.items
+            self.old.partings.leaving.items (L.visits door.old) → AreKept E.facts E.later C.log begun hub.new
+            self.new.connected.clients.items self.new.partings.leaving.items (L.visits door.new) }
     {
         let (number, client) = self.connected.leave(hub, at);
         self.ended += 1;
         self.faulty = true;
-        let _ = client.stream().connection().end_output();
+        let connection = client.into_stream().into_connection();
+        let _ = connection.end_output();
+        door.close(connection);
         tell_end(output, number, Some(fault))
     }
 
     /// Reads the late input of those that take their leave, and lets those go that have said all, failed, or been silent for
     /// too long. Tells whether some goes on at once.
-    fn part_all(&mut self, now: Option<Duration>) -> bool
+    fn part_all<E: Export, L: Door<Connection = C>>(&mut self, door: &mut L) -> bool
         ensures sessions { self.new.sessions ≡ self.old.sessions }
         ensures stands { standing self.new.ended self.new.accepted self.new.connected.numbers.items self.new.faulty
             ≡ standing self.old.ended self.old.accepted self.old.connected.numbers.items self.old.faulty }
+        ensures clients { self.new.connected.clients.items ≡ self.old.connected.clients.items }
+        ensures told { (begun : Visits) (hub : HubState × E) (connected : ℕ)
+            → AreTold E.facts E.later C.log begun hub connected self.old.partings.leaving.items (L.visits door.old)
+            → AreTold E.facts E.later C.log begun hub connected self.new.partings.leaving.items (L.visits door.new) }
     {
-        self.partings.hear(now)
+        let now = door.now();
+        self.partings.hear::<E, L>(door, now)
     }
 
     /// Notes which clients may go on by what the system says.
@@ -264,6 +294,8 @@ impl<C: Connection + Drop> Room<C> {
         ensures sessions { self.new.sessions ≡ self.old.sessions }
         ensures stands { standing self.new.ended self.new.accepted self.new.connected.numbers.items self.new.faulty
             ≡ standing self.old.ended self.old.accepted self.old.connected.numbers.items self.old.faulty }
+        ensures clients { self.new.connected.clients.items ≡ self.old.connected.clients.items }
+        ensures leaving { self.new.partings.leaving.items ≡ self.old.partings.leaving.items }
     {
         let mut heard = false;
         for event in events {
@@ -284,11 +316,11 @@ impl<C: Connection + Drop> Room<C> {
     /// # Errors
     ///
     /// Where a line can't be printed, as [`tell_end`].
-    fn leave_idle<E: Export, W: Write>(
+    fn leave_idle<E: Export, L: Door<Connection = C>, W: Write>(
         &mut self,
         hub: &mut Sessions<E>,
+        door: &mut L,
         idle: Option<Duration>,
-        now: Option<Duration>,
         output: &mut W,
     ) -> Result<(), Stop>
         ensures goes_on { GoesOn E.later hub.old hub.new }
@@ -296,8 +328,11 @@ impl<C: Connection + Drop> Room<C> {
         ensures told { OnOk result (Tells (W.contents output.old) (W.contents output.new)
             (standing self.old.ended self.old.accepted self.old.connected.numbers.items self.old.faulty)
             (standing self.new.ended self.new.accepted self.new.connected.numbers.items self.new.faulty)) }
+        ensures kept { (begun : Visits) → AreKept E.facts E.later C.log begun hub.old self.old.connected.clients.items
+            self.old.partings.leaving.items (L.visits door.old) → AreKept E.facts E.later C.log begun hub.new
+            self.new.connected.clients.items self.new.partings.leaving.items (L.visits door.new) }
     {
-        let (Some(idle), Some(now)) = (idle, now) else {
+        let (Some(idle), Some(now)) = (idle, door.now()) else {
             return Ok(());
         };
         let mut at = 0;
@@ -305,15 +340,16 @@ impl<C: Connection + Drop> Room<C> {
             if at >= self.connected.len() {
                 break;
             }
-            at = self.part_if_silent(hub, at, idle, now, output)?;
+            at = self.part_if_silent(hub, door, at, idle, now, output)?;
         }
         Ok(())
     }
 
     /// Ends the session of the client at this place if it was silent for so long. Tells the next one's place.
-    fn part_if_silent<E: Export, W: Write>(
+    fn part_if_silent<E: Export, L: Door<Connection = C>, W: Write>(
         &mut self,
         hub: &mut Sessions<E>,
+        door: &mut L,
         at: usize,
         idle: Duration,
         now: Duration,
@@ -325,11 +361,30 @@ impl<C: Connection + Drop> Room<C> {
         ensures told { OnOk result (Tells (W.contents output.old) (W.contents output.new)
             (standing self.old.ended self.old.accepted self.old.connected.numbers.items self.old.faulty)
             (standing self.new.ended self.new.accepted self.new.connected.numbers.items self.new.faulty)) }
+        ensures kept { (begun : Visits) → AreKept E.facts E.later C.log begun hub.old self.old.connected.clients.items
+            self.old.partings.leaving.items (L.visits door.old) → AreKept E.facts E.later C.log begun hub.new
+            self.new.connected.clients.items self.new.partings.leaving.items (L.visits door.new) }
     {
         if self.connected.is_silent(at, idle, now) {
-            self.part(hub, at, output)?;
+            self.part(hub, door, at, output)?;
             return Ok(at);
         }
         Ok(at + 1)
+    }
+
+    /// Ends all sessions, and gives all connections back.
+    pub fn give_back<E: Export, L: Door<Connection = C>>(
+        &mut self,
+        hub: &mut Sessions<E>,
+        door: &mut L,
+    )
+        ensures goes_on { GoesOn E.later hub.old hub.new }
+        ensures given_back { (begun : Visits) → AreKept E.facts E.later C.log begun hub.old self.old.connected.clients.items
+            self.old.partings.leaving.items (L.visits door.old)
+            → AreGivenBack (IsTold E.facts E.later hub.new) begun (L.visits door.new) }
+    {
+        self.partings.give_back::<E, L>(door);
+        self.connected.give_back(hub, door);
+        self.ended = self.accepted;
     }
 }

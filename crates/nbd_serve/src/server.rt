@@ -1,8 +1,11 @@
 //! The loop.
 
-ghost use Rattle.std.specs.Prelude.{◌≡◌, IfOk};
+ghost use Rattle.std.specs.Prelude.{◌≡◌, List, [], false, IfOk};
+ghost use Rattle.nbd_hub.specs.History.{Step};
+ghost use Rattle.nbd_hub.specs.After.{IsAfter};
 ghost use Rattle.nbd_serve.specs.Lines.{standing, IsServed, IsServing};
 ghost use Rattle.nbd_serve.specs.Serving.{GoesOn};
+ghost use Rattle.nbd_serve.specs.Sockets.{AreKept, AreGivenBack, IsTold, Visits};
 
 use crate::budget::Budget;
 use crate::connection::Connection;
@@ -50,12 +53,14 @@ impl Net for NoNet {
 /// [`Stop::Output`].
 pub fn serve_clients<E: Export, L: Door, W: Write>(
     hub: &mut Sessions<E>,
-    door: &L,
+    door: &mut L,
     sessions: u64,
     output: &mut W,
 ) -> Result<bool, Stop>
     ensures goes_on { GoesOn E.later hub.old hub.new }
     ensures served { IfOk result (IsServed (W.contents output.old) (W.contents output.new) sessions) }
+    ensures given_back { (history : List Step) → IsAfter (E.facts hub.old.1) hub.old.0 history
+        → AreGivenBack (IsTold E.facts E.later hub.new) (L.visits door.old) (L.visits door.new) }
 {
     tell_listening(output)?;
     if sessions == 0 {
@@ -63,14 +68,7 @@ pub fn serve_clients<E: Export, L: Door, W: Write>(
     }
     let mut poll = Poll::new(&NoNet).map_err(socket)?;
     door.set_nonblocking(true).map_err(socket)?;
-    let fd = door.as_raw_fd();
-    let registered = poll
-        .registry()
-        .register(&mut SourceFd(&fd), DOOR, Interest::READABLE);
-    let served = match registered {
-        Ok(()) => serve_each(hub, door, &mut poll, sessions, output),
-        Err(e) => Err(socket(e)),
-    };
+    let served = serve_each(hub, door, &mut poll, sessions, output);
     let _ = door.set_nonblocking(false);
     served
 }
@@ -83,29 +81,56 @@ fn socket(error: io::Error) -> Stop {
     }
 }
 
-/// Serves so many connections once clients are waited for.
+/// Waits for clients, and serves so many connections.
 fn serve_each<E: Export, L: Door, W: Write>(
     hub: &mut Sessions<E>,
-    door: &L,
+    door: &mut L,
     poll: &mut Poll,
     sessions: u64,
     output: &mut W,
 ) -> Result<bool, Stop>
     ensures goes_on { GoesOn E.later hub.old hub.new }
     ensures serves { IfOk result (IsServing (W.contents output.old) (W.contents output.new) sessions) }
+    ensures given_back { (history : List Step) → IsAfter (E.facts hub.old.1) hub.old.0 history
+        → AreGivenBack (IsTold E.facts E.later hub.new) (L.visits door.old) (L.visits door.new) }
 {
+    let fd = door.as_raw_fd();
+    poll.registry()
+        .register(&mut SourceFd(&fd), DOOR, Interest::READABLE)
+        .map_err(socket)?;
     let alloc = hub.allocator();
-    let limits = door.limits();
-    let budget = Budget::of(limits.pending);
     let mut events = Events::with_capacity(alloc, EVENTS)?;
     let mut room = Room::new(alloc, sessions)?;
+    let served = serve_in(&mut room, hub, door, poll, &mut events, output);
+    room.give_back(hub, door);
+    served
+}
+
+/// Serves the connections of a room in which nobody is.
+fn serve_in<E: Export, L: Door, W: Write>(
+    room: &mut Room<L::Connection>,
+    hub: &mut Sessions<E>,
+    door: &mut L,
+    poll: &mut Poll,
+    events: &mut Events<Global>,
+    output: &mut W,
+) -> Result<bool, Stop>
+    requires { standing room.old.ended room.old.accepted room.old.connected.numbers.items room.old.faulty ≡ standing 0 0 [] false }
+    ensures goes_on { GoesOn E.later hub.old hub.new }
+    ensures serves { IfOk result (IsServing (W.contents output.old) (W.contents output.new) room.old.sessions) }
+    ensures kept { (begun : Visits) → AreKept E.facts E.later L.Connection.log begun hub.old room.old.connected.clients.items
+        room.old.partings.leaving.items (L.visits door.old) → AreKept E.facts E.later L.Connection.log begun hub.new
+        room.new.connected.clients.items room.new.partings.leaving.items (L.visits door.new) }
+{
+    let limits = door.limits();
+    let budget = Budget::of(limits.pending);
     for _ in 0..u64::MAX {
         let at_once = room.serve_once(hub, door, poll.registry(), budget, limits.idle, output)?;
         if room.is_empty() {
             return Ok(!room.is_faulty());
         }
         let wait = room.wait(at_once, limits.idle.is_some());
-        look(&mut room, poll, &mut events, wait, !at_once)?;
+        look(room, poll, events, wait, !at_once)?;
     }
     Err(Stop::Socket)
 }
@@ -121,6 +146,8 @@ fn look<C: Connection + Drop>(
     ensures sessions { room.new.sessions ≡ room.old.sessions }
     ensures stands { standing room.new.ended room.new.accepted room.new.connected.numbers.items room.new.faulty
         ≡ standing room.old.ended room.old.accepted room.old.connected.numbers.items room.old.faulty }
+    ensures clients { room.new.connected.clients.items ≡ room.old.connected.clients.items }
+    ensures leaving { room.new.partings.leaving.items ≡ room.old.partings.leaving.items }
 {
     match poll.poll(events, wait) {
         Ok(()) => {

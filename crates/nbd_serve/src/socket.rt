@@ -1,13 +1,15 @@
 //! A client's socket as a stream of a relay, which sends the replies to several waiting requests in one call.
 
-ghost use Rattle.std.specs.Prelude.{◌≡◌, ◌==◌, [], length, OnOk, OnErr};
+ghost use Rattle.std.specs.Prelude.{◌≡◌, ◌≤◌, ◌==◌, [], length, Some, IfOk, IfErr, OnOk, IsTrue};
 ghost use Rattle.std.specs.Io.{ReadsAtMost, WritesAtMost};
+ghost use Rattle.nbd_serve.specs.Sockets.{Hears, Says, log_of};
 
 use crate::connection::Connection;
 use nbd_relay::{Asks, Stream};
-use std::alloc::{AllocError, Allocator, Global};
+use std::alloc::{Allocator, Global};
 use std::cell::Cell;
 use std::io::{self, ErrorKind};
+use std::marker::Model;
 
 /// The most bytes that wait to be sent in one call.
 const HELD_BYTES: usize = 131_072;
@@ -24,26 +26,53 @@ pub struct Socket<C: Connection, A: Allocator = Global> {
     asks: Asks,
 }
 
+impl<C: Connection, A: Allocator> Model for Socket<C, A> {
+    ghost use Rattle.std.specs.Prelude.{◌≤◌, drop, length};
+    ghost use Rattle.nbd_serve.specs.Sockets.{SocketState};
+
+    ghost Value = { SocketState C };
+
+    ghost view = { λ s. record { connection = s.connection; held = drop s.sent s.held.items; asked = s.asks } };
+
+    ghost invariant = { λ s. s.sent ≤ length s.held.items };
+}
+
 impl<C: Connection + Drop, A: Allocator> Socket<C, A> {
     /// Takes over a connection that was prepared.
     ///
     /// # Errors
     ///
-    /// `AllocError` where memory was refused for what it holds.
-    pub fn new(alloc: A, connection: C) -> Result<Socket<C, A>, AllocError> {
-        Ok(Socket {
-            connection,
-            held: Vec::with_capacity(alloc, HELD_BYTES)?,
-            sent: 0,
-            is_read: Cell::new(false),
-            has_ended: Cell::new(false),
-            asks: Asks::new(),
-        })
+    /// The connection, where memory was refused for what it holds.
+    pub fn new(alloc: A, connection: C) -> Result<Socket<C, A>, C>
+        ensures connection { IfOk result (λ socket. socket.connection ≡ connection) }
+        ensures held { IfOk result (λ socket. socket.held ≡ []) }
+        ensures refused { IfErr result (λ handed_back. handed_back ≡ connection) }
+    {
+        match Vec::with_capacity(alloc, HELD_BYTES) {
+            Ok(held) => Ok(Socket {
+                connection,
+                held,
+                sent: 0,
+                is_read: Cell::new(false),
+                has_ended: Cell::new(false),
+                asks: Asks::new(),
+            }),
+            Err(_) => Err(connection),
+        }
     }
 
     /// Its connection.
-    pub fn connection(&self) -> &C {
+    pub fn connection(&self) -> &C
+        ensures { result.now ≡ self.now.connection }
+    {
         &self.connection
+    }
+
+    /// Its connection; what it holds is dropped.
+    pub fn into_connection(self) -> C
+        ensures { result ≡ self.connection }
+    {
+        self.connection
     }
 
     /// The system says that it may be ready, and whether its client says no more.
@@ -56,39 +85,78 @@ impl<C: Connection + Drop, A: Allocator> Socket<C, A> {
 
     /// Sends all that it holds. After an error it still holds what wasn't sent.
     fn empty(&mut self) -> io::Result<()>
-        ensures asks { self.new.asks ≡ self.old.asks }
-        ensures empty { OnOk result (self.new.held.items ≡ []) }
-        ensures held { OnErr result (self.new.held.items ≡ self.old.held.items) }
+        ensures asks { self.new.asked ≡ self.old.asked }
+        ensures log { log_of C.log self.new ≡ log_of C.log self.old }
+        ensures empty { OnOk result (self.new.held ≡ []) }
     {
         for _ in 0..HELD_BYTES {
-            if self.sent >= self.held.len() {
+            if self.is_empty() {
                 break;
             }
-            match self.connection.send(&self.held[self.sent..]) {
-                Ok(0) => return Err(io::Error::from(ErrorKind::WriteZero)),
-                Ok(taken) => self.sent += taken,
-                Err(e) => {
-                    if e.kind() != ErrorKind::Interrupted {
-                        return Err(e);
-                    }
+            self.send_held()?;
+        }
+        if !self.is_empty() {
+            return Err(io::Error::from(ErrorKind::WouldBlock));
+        }
+        self.forget();
+        Ok(())
+    }
+
+    /// Whether it holds nothing.
+    fn is_empty(&self) -> bool
+        ensures { IsTrue result → self.now.held ≡ [] }
+    {
+        self.sent >= self.held.len()
+    }
+
+    /// Sends a beginning of what it holds, or nothing where it was interrupted.
+    fn send_held(&mut self) -> io::Result<()>
+        ensures asks { self.new.asked ≡ self.old.asked }
+        ensures log { log_of C.log self.new ≡ log_of C.log self.old }
+    {
+        match self.connection.send(&self.held[self.sent..]) {
+            Ok(0) => Err(io::Error::from(ErrorKind::WriteZero)),
+            Ok(taken) => {
+                self.sent += taken;
+                Ok(())
+            }
+            Err(e) => {
+                if e.kind() == ErrorKind::Interrupted {
+                    Ok(())
+                } else {
+                    Err(e)
                 }
             }
         }
-        if self.sent < self.held.len() {
-            return Err(io::Error::from(ErrorKind::WouldBlock));
-        }
+    }
+
+    /// Begins its buffer anew, where all of it was sent.
+    fn forget(&mut self)
+        requires { self.old.held ≡ [] }
+        ensures { self.new ≡ self.old }
+    {
         self.held.clear();
         self.sent = 0;
+    }
+
+    /// Has room for so many bytes, if they are fewer than it holds at most; else it holds nothing.
+    fn make_room(&mut self, count: usize) -> io::Result<()>
+        ensures asks { self.new.asked ≡ self.old.asked }
+        ensures log { log_of C.log self.new ≡ log_of C.log self.old }
+        ensures empty { OnOk result (131072 ≤ count → self.new.held ≡ []) }
+    {
+        if self.held.len().saturating_add(count) > HELD_BYTES {
+            return self.empty();
+        }
         Ok(())
     }
 
     fn give(&mut self, buf: &[u8]) -> io::Result<usize>
         ensures bound { WritesAtMost result buf.now }
-        ensures asks { self.new.asks ≡ self.old.asks }
+        ensures asks { self.new.asked ≡ self.old.asked }
+        ensures log { Says (log_of C.log self.old) (log_of C.log self.new) result buf.now }
     {
-        if self.held.len().saturating_add(buf.len()) > HELD_BYTES {
-            self.empty()?;
-        }
+        self.make_room(buf.len())?;
         if buf.len() >= HELD_BYTES {
             return self.connection.send(buf);
         }
@@ -100,7 +168,8 @@ impl<C: Connection + Drop, A: Allocator> Socket<C, A> {
 
     fn take(&mut self, buf: &mut [u8]) -> io::Result<usize>
         ensures bound { ReadsAtMost result buf.new }
-        ensures asks { self.new.asks ≡ self.old.asks }
+        ensures asks { self.new.asked ≡ self.old.asked }
+        ensures log { Hears (log_of C.log self.old) (log_of C.log self.new) result buf.new }
     {
         self.empty()?;
         if self.is_read.get() && !self.has_ended.get() {
@@ -117,9 +186,13 @@ impl<C: Connection + Drop, A: Allocator> Socket<C, A> {
 }
 
 impl<C: Connection + Drop, A: Allocator> Stream for Socket<C, A> {
-    ghost asked = { λ s. s.asks };
+    ghost received = { λ s. Some (log_of C.log s).read };
 
-    ghost flushed = { λ s. length s.held.items == 0 };
+    ghost contents = { λ s. Some (log_of C.log s).wrote };
+
+    ghost asked = { λ s. s.asked };
+
+    ghost flushed = { λ s. length s.held == 0 };
 
     fn receive(&mut self, buf: &mut [u8]) -> io::Result<usize> {
         let answer = self.take(buf);

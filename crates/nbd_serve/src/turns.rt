@@ -53,7 +53,7 @@ pub fn go_on<S: Stream + Drop, A: Allocator, E: Export, H: Allocator + Copy>(
     ensures hungry { result ≡ Came.Hungry → IsHungry budget.share (E.facts hub.new.1) hub.new.0 clients.new at }
     ensures serves { (history : List Step) (logs : List Log) → IsAfter (E.facts hub.old.1) hub.old.0 history
         → AllServed hub.old.0.offer history clients.old logs
-        → RunsOn S.remaining S.contents (E.facts hub.new.1) hub.new.0 history clients.old clients.new logs }
+        → RunsOn S.remaining S.received S.contents (E.facts hub.new.1) hub.new.0 history clients.old clients.new logs }
 {
     let mut came = Came::On;
     for _ in 0..TURNS {
@@ -80,7 +80,7 @@ fn take_turn<S: Stream + Drop, A: Allocator, E: Export, H: Allocator + Copy>(
     ensures hungry { result ≡ Came.Hungry → IsHungry budget.share (E.facts hub.new.1) hub.new.0 clients.new at }
     ensures serves { (history : List Step) (logs : List Log) → IsAfter (E.facts hub.old.1) hub.old.0 history
         → AllServed hub.old.0.offer history clients.old logs
-        → RunsOn S.remaining S.contents (E.facts hub.new.1) hub.new.0 history clients.old clients.new logs }
+        → RunsOn S.remaining S.received S.contents (E.facts hub.new.1) hub.new.0 history clients.old clients.new logs }
 {
     let client = &clients[at];
     if client.is_fed_next() {

@@ -37,7 +37,10 @@ fn open<'a>(
         writer: Vec::new(alloc),
         asks: Asks::new(),
     };
-    Ok(Client::open(heap, pipe, hub)?)
+    match Client::open(heap, pipe, hub) {
+        Ok(client) => Ok(client),
+        Err((fault, _)) => Err(fault.into()),
+    }
 }
 
 /// Takes turns of a client up to its end, and tells how many bytes it was sent.

@@ -1,10 +1,10 @@
 //! Hubs over exports in memory, and what is done with them.
 
 use crate::image::{Image, make_image};
-use nbd_hub::{HubFault, ServeFault, Sessions, serve};
+use nbd_hub::{CountedReader, CountedWriter, HubFault, ServeFault, Sessions, serve};
 use nbd_session::{ExportName, Status};
 use std::alloc::{AllocError, Global};
-use std::io::{self, Write};
+use std::io::{self, ErrorKind, Read, Write};
 use std::test::Fail;
 
 /// A hub over this export.
@@ -35,6 +35,33 @@ pub fn feed(
 /// Ends a session.
 pub fn end(hub: &mut Sessions<Image>, id: u64) -> Result<(), HubFault> {
     hub.end(id)
+}
+
+/// How the two ends of a stream are.
+#[derive(Clone, Copy, Debug, PartialEq, Eq)]
+pub enum Ends {
+    /// The reader ends, and the writer takes all.
+    Open,
+    /// The writer takes no byte.
+    FullWriter,
+    /// A read behind the last byte fails.
+    CutReader,
+}
+
+/// A reader of these bytes, behind which a read fails or there are no more.
+#[derive(Drop)]
+struct Source<'a> {
+    rest: &'a [u8],
+    is_cut: bool,
+}
+
+impl Read for Source<'_> {
+    fn read(&mut self, buf: &mut [u8]) -> io::Result<usize> {
+        if self.is_cut && self.rest.is_empty() {
+            return Err(io::Error::from(ErrorKind::ConnectionReset));
+        }
+        self.rest.read(buf)
+    }
 }
 
 /// A writer that keeps what it was given, or takes no byte where it is full.
@@ -73,34 +100,38 @@ pub struct Served {
     pub left: usize,
 }
 
-/// Serves one client whose input this is, for so many turns at most, into a writer that may be full.
+/// Serves one client whose input this is, for so many turns at most, over such ends.
 pub fn serve_one(
     alloc: Global,
     hub: &mut Sessions<Image>,
     input: &[u8],
     limit: u64,
-    is_full: bool,
+    ends: Ends,
     wanted: &[u8],
 ) -> Served {
-    let mut writer = Keeper {
+    let mut writer = CountedWriter::new(Keeper {
         kept: Vec::new(alloc),
-        is_full,
+        is_full: ends == Ends::FullWriter,
         flushed: 0,
-    };
-    let mut reader = input;
+    });
+    let mut reader = CountedReader::new(Source {
+        rest: input,
+        is_cut: ends == Ends::CutReader,
+    });
     let result = serve(hub, &mut reader, &mut writer, limit);
+    let kept = writer.writer.kept.as_slice();
     Served {
         result,
-        is_said: writer.kept.as_slice() == wanted,
-        is_flushed: writer.flushed == writer.kept.len(),
-        left: reader.len(),
+        is_said: kept == wanted,
+        is_flushed: writer.writer.flushed == kept.len(),
+        left: reader.reader.rest.len(),
     }
 }
 
 /// Serves one client of a new hub.
 pub fn serve_alone(alloc: Global, input: &[u8], limit: u64, wanted: &[u8]) -> Result<Served, Fail> {
     let mut hub = make_sessions(alloc)?;
-    Ok(serve_one(alloc, &mut hub, input, limit, false, wanted))
+    Ok(serve_one(alloc, &mut hub, input, limit, Ends::Open, wanted))
 }
 
 const GREETING: &[u8] = b"NBDMAGICIHAVEOPT\x00\x03";

@@ -1,6 +1,6 @@
 //! One client over a reader and a writer.
 
-use crate::hubs::{INPUT, Served, expected, make_sessions, serve_alone, serve_one};
+use crate::hubs::{Ends, INPUT, Served, expected, make_sessions, serve_alone, serve_one};
 use nbd_hub::ServeFault;
 use std::alloc::Global;
 use std::test::Fail;
@@ -25,22 +25,26 @@ fn an_input_cut_after_each_byte(rt: HostRuntime) -> Result<(), Fail> {
     Ok(())
 }
 
-/// How a stream is left after two turns, and then another of the same hub at a full writer.
-fn leave_two(alloc: Global) -> Result<[Served; 2], Fail> {
+/// How a stream is left after two turns, then another of the same hub at a full writer, and a third where a read fails.
+fn leave_three(alloc: Global) -> Result<[Served; 3], Fail> {
     let wanted = expected(alloc, 56)?;
+    let all = expected(alloc, INPUT.len())?;
     let mut hub = make_sessions(alloc)?;
-    let first = serve_one(alloc, &mut hub, INPUT, 2, false, &wanted);
-    let second = serve_one(alloc, &mut hub, INPUT, 100, true, b"");
-    Ok([first, second])
+    let first = serve_one(alloc, &mut hub, INPUT, 2, Ends::Open, &wanted);
+    let second = serve_one(alloc, &mut hub, INPUT, 100, Ends::FullWriter, b"");
+    let third = serve_one(alloc, &mut hub, INPUT, 100, Ends::CutReader, &all);
+    Ok([first, second, third])
 }
 
 #[test]
-fn a_stream_is_left_at_its_limit_and_at_a_full_writer(rt: HostRuntime) -> Result<(), Fail> {
-    let [first, second] = leave_two(rt.alloc())?;
+fn a_stream_is_left_at_its_limit_and_where_an_end_fails(rt: HostRuntime) -> Result<(), Fail> {
+    let [first, second, third] = leave_three(rt.alloc())?;
     let turns = (Err(ServeFault::Turns), true, INPUT.len() - 56);
     assert_eq!(rt; (first.result, first.is_said, first.left), turns);
     let write = (Err(ServeFault::Write), true, INPUT.len());
     assert_eq!(rt; (second.result, second.is_said, second.left), write);
+    let read = (Err(ServeFault::Read), true, 0);
+    assert_eq!(rt; (third.result, third.is_said, third.left), read);
     Ok(())
 }
 

@@ -154,7 +154,10 @@ fn has_said(hub: &mut Sessions<Image>, client: &Client<Slow>, said: &[u8]) -> bo
 }
 
 fn open(alloc: Global, hub: &mut Sessions<Image>, input: &[u8]) -> Result<Client<Slow>, Fail> {
-    Ok(Client::open(alloc, make_slow(alloc, input)?, hub)?)
+    match Client::open(alloc, make_slow(alloc, input)?, hub) {
+        Ok(client) => Ok(client),
+        Err((fault, _)) => Err(fault.into()),
+    }
 }
 
 /// How often the two clients were blocked, what the next turn of the first did, and whether each was sent what is to be said.

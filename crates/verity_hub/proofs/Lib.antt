@@ -1,3 +1,4 @@
 pub mod VerdictLaws
 pub mod Saying
 pub mod Answering
+pub mod Carrying

@@ -91,6 +91,7 @@ impl<D: BlockStore, H: BlockStore, A: Allocator + Copy + Drop> Export for Checke
           given = D.given;
           failures = D.failures;
           reads = D.reads;
+          changes = D.changes;
           room = D.room;
           synced = D.synced;
           fixed = D.fixed;
@@ -102,6 +103,7 @@ impl<D: BlockStore, H: BlockStore, A: Allocator + Copy + Drop> Export for Checke
           given = H.given;
           failures = H.failures;
           reads = H.reads;
+          changes = H.changes;
           room = H.room;
           synced = H.synced;
           fixed = H.fixed;
@@ -115,6 +117,7 @@ impl<D: BlockStore, H: BlockStore, A: Allocator + Copy + Drop> Export for Checke
           given = D.given;
           failures = D.failures;
           reads = D.reads;
+          changes = D.changes;
           room = D.room;
           synced = D.synced;
           fixed = D.fixed;
@@ -126,6 +129,7 @@ impl<D: BlockStore, H: BlockStore, A: Allocator + Copy + Drop> Export for Checke
           given = H.given;
           failures = H.failures;
           reads = H.reads;
+          changes = H.changes;
           room = H.room;
           synced = H.synced;
           fixed = H.fixed;

@@ -2,8 +2,8 @@
 //!
 //! A [`Hub`] has one verifier, with its one cache, and up to 64 open sessions. Every call is one step on the hub: a session
 //! is opened, fed one piece of bytes, or ended; [`Hub::run`] makes a list of such steps, [`serve_stream`] makes them for one
-//! client over a reader and a writer, and [`turn`] for one of many. There are no threads. The steps themselves are those of
-//! `nbd_hub` and `nbd_relay`, which know nothing of hashes; here their export is a verifier.
+//! client over a reader and a writer, and [`serve_clients`] for many over sockets. There are no threads. The steps themselves are
+//! those of `nbd_hub` and `nbd_relay`, which know nothing of hashes; here their export is a verifier.
 //!
 //! # The contract
 //!
@@ -16,12 +16,14 @@
 //! hub. The moments of the events follow one another: what a piece's answers had of the verifier, what failed then and what they
 //! cost lie between the moment before it and its own, and no other event asked the verifier for anything.
 //!
-//! [`serve_stream`] says what was read and written at each of its exits, where the reader and the writer tell their bytes.
+//! [`serve_stream`] says what was read and written at each of its exits, where the reader and the writer tell their bytes, and that
+//! it answers N1 where a read failed in this call, N2 where a write did, and neither elsewhere.
 //! Where the stores hold an image, each verdict is the image's exact bytes, or ENOMEM, or EIO for which a store's failures
 //! rose. [`laws::serves_what_was_built`] says that stores hold the image that a hash device was made of.
 //!
-//! [`accept`], [`turn`], [`turn_at`] and [`leave`] serve many clients, each over a stream that may not be ready, as `nbd_relay`
-//! does; [`laws::clients_are_told_right`] says of each of them that what it was sent is right.
+//! [`serve_clients`] says of each connection that a listener accepted, however the server ended: it was given back, and what it had
+//! been sent is a beginning of what its session said to what it had sent, right for every image that fits the table line.
+//! [`laws::clients_are_told_right`] says the same of the clients of `nbd_relay` over such a hub.
 //!
 //! # Errors
 //!
@@ -31,12 +33,12 @@
 mod checked_image;
 mod hub;
 pub mod laws;
-mod relay;
 mod server;
 mod stream;
 
 pub use hub::Hub;
-pub use nbd_hub::{Event, HubFault, HubReply, Piece, ServeFault};
-pub use relay::{accept, leave, turn, turn_at};
+pub use nbd_hub::{
+    CountedReader, CountedWriter, Event, HubFault, HubReply, Input, Output, Piece, ServeFault,
+};
 pub use server::serve_clients;
 pub use stream::serve_stream;

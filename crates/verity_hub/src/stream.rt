@@ -4,15 +4,15 @@ ghost use Rattle.std.specs.Prelude.{◌≡◌, ◌≢◌, ◌↔◌, ◌≤◌, 
 ghost use Rattle.nbd_hub.specs.History.{Step};
 ghost use Rattle.nbd_hub.specs.Sessions.{SetsOnly, max_open, max_opened};
 ghost use Rattle.nbd_hub.specs.After.{IsAfter};
+ghost use Rattle.nbd_hub.specs.Failures.{FailsToRead, FailsToWrite};
 ghost use Rattle.nbd_hub.specs.Stream.{Served, ServedBy, ServedAfter};
 ghost use Rattle.verity_chain.specs.Right.{Fits};
 ghost use Rattle.verity_check.specs.Verifier.{IsOnlyReading};
 ghost use Rattle.verity_hub.specs.Verdicts.{facts_of, HoldsFor, SaysRight, SaysExact};
 
 use crate::hub::Hub;
-use nbd_hub::{HubFault, ServeFault, serve};
+use nbd_hub::{HubFault, Input, Output, ServeFault, serve};
 use std::alloc::Allocator;
-use std::io::{Read, Write};
 use verity_store::BlockStore;
 
 /// Serves one client over a stream: opens a session, writes the greeting, then reads at most 28 bytes a turn, feeds them
@@ -24,10 +24,10 @@ use verity_store::BlockStore;
 ///
 /// # Errors
 ///
-/// N1 where the reader failed; N2 where the writer failed or took no byte, and what went out is a beginning of the output;
-/// N3 where `limit` turns gave bytes and the session hasn't ended; N4 where the session starved; N5 where no session could
-/// be opened, with the hub's own fault, and nothing was read or written.
-pub fn serve_stream<D: BlockStore, H: BlockStore, A: Allocator + Copy + Drop, R: Read, W: Write>(
+/// N1 where the reader failed, and nowhere else; N2 where the writer failed or took no byte, and nowhere else, and what went
+/// out is a beginning of the output; N3 where `limit` turns gave bytes and the session hasn't ended; N4 where the session
+/// starved; N5 where no session could be opened, with the hub's own fault, and nothing was read or written.
+pub fn serve_stream<D: BlockStore, H: BlockStore, A: Allocator + Copy + Drop, R: Input, W: Output>(
     hub: &mut Hub<D, H, A>,
     reader: &mut R,
     writer: &mut W,
@@ -60,6 +60,9 @@ pub fn serve_stream<D: BlockStore, H: BlockStore, A: Allocator + Copy + Drop, R:
           writer = W.contents writer.old;
           writer' = W.contents writer.new;
         }) limit result }
+    // It was left for a failure of an end where that failed, and nowhere else.
+    ensures read_failed { FailsToRead (R.failures reader.old) (R.failures reader.new) result }
+    ensures write_failed { FailsToWrite (W.failures writer.old) (W.failures writer.new) result }
     // No session came about.
     ensures full { (result ≡ Err (ServeFault.Hub HubFault.Full)) ↔ (max_open ≤ length hub.old.0.sessions) }
     ensures spent { (result ≡ Err (ServeFault.Hub HubFault.Spent))

@@ -14,8 +14,9 @@ starved (Ok x) words is = tt
 starved (Err e) words is = subst (TalkBlames words) (sym is) tt
 
 -- a status is that of the session's end
-pub told : (r : Result ℕ Failure) (Talked : Result (Unit {0}) ServeFault → Type 0) (ended : Result (Unit {0}) ServeFault)
-    → IfOk r (λ status. status ≡ status_of_session ended) → Talked ended
-    → IfOk r (λ status. (ended : Result (Unit {0}) ServeFault) × (status ≡ status_of_session ended) × Talked ended)
-told (Ok status) Talked ended is talked = (ended, is, talked)
-told (Err e) Talked ended is talked = tt
+pub told : (r : Result ℕ Failure) (Talked Reads Writes : Result (Unit {0}) ServeFault → Type 0) (ended : Result (Unit {0}) ServeFault)
+    → IfOk r (λ status. status ≡ status_of_session ended) → Talked ended → Reads ended → Writes ended
+    → IfOk r (λ status. (ended : Result (Unit {0}) ServeFault) × (status ≡ status_of_session ended) × Talked ended × Reads ended
+    × Writes ended)
+told (Ok status) Talked Reads Writes ended is talked reads writes = (ended, is, talked, reads, writes)
+told (Err e) Talked Reads Writes ended is talked reads writes = tt

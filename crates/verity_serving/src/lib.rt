@@ -3,8 +3,8 @@
 //!
 //! The work is done by the layers below, whose contracts say what it is worth; here a command reads its words, has a volume opened
 //! (`verity_opening`), makes one call or a few, and prints lines. What `verify` prints, and where they are done what `serve` prints and
-//! `talk` reads and says, clauses say, over an input and an output whose bytes are known; all else that is printed and refused is shown by
-//! tests.
+//! `talk` reads and says, clauses say, over an input and an output whose bytes are known, and that `talk` leaves its client for a failed
+//! read or write where one failed, and nowhere else; all else that is printed and refused is shown by tests.
 //!
 //! The definitions stand in `specs/`: `Printed` (what `verify` and `serve` print), `Serving` (what `talk` serves), `Blamed` (which words
 //! a command blames).
@@ -19,3 +19,4 @@ pub use failing::fail;
 pub use serving::{serve, serve_on};
 pub use talking::talk;
 pub use verifying::verify;
+pub use verity_hub::{CountedReader, CountedWriter};

@@ -1,7 +1,12 @@
 //! The command `serve`: serves a volume over NBD.
 
-ghost use Rattle.std.specs.Prelude.{◌≡◌, true, Ok, IfErr};
+ghost use Rattle.std.specs.Prelude.{◌≡◌, ℕ, List, true, Ok, IfErr};
+ghost use Rattle.nbd_hub.specs.History.{Step};
+ghost use Rattle.nbd_hub.specs.After.{IsAfter};
 ghost use Rattle.nbd_serve.specs.Lines.{IsServed};
+ghost use Rattle.nbd_serve.specs.Sockets.{AreGivenBack, IsOfOne};
+ghost use Rattle.verity_chain.specs.Right.{Fits};
+ghost use Rattle.verity_hub.specs.Verdicts.{facts_of, IsRightFor};
 ghost use Rattle.verity_files.specs.Errors.{IsS1For};
 ghost use Rattle.verity_gate.specs.Refusals.{BlamesNone};
 ghost use Rattle.verity_serving.specs.Blamed.{ServeBlames};
@@ -96,13 +101,15 @@ fn listen<
         Some("") => Err(Fault::Socket.into()),
         Some(path) => {
             let door = UnixListener::bind(rt, path).map_err(socket)?;
-            let status = serve_on(hub, &watched(rt, door, limits), count, output);
+            let mut listener = Watched::new(door, limits, rt);
+            let status = serve_on(hub, &mut listener, count, output);
             let _ = rt.remove_file(path);
             Ok(status)
         }
         None => {
             let door = TcpListener::bind(rt, address).map_err(socket)?;
-            Ok(serve_on(hub, &watched(rt, door, limits), count, output))
+            let mut listener = Watched::new(door, limits, rt);
+            Ok(serve_on(hub, &mut listener, count, output))
         }
     }
 }
@@ -123,14 +130,6 @@ fn limits(words: &ServeWords<'_>) -> Result<Limits, Failure>
     })
 }
 
-fn watched<'a, L: Door, R: Clock>(clock: &'a R, door: L, limits: Limits) -> Watched<'a, L, R> {
-    Watched {
-        door,
-        limits,
-        clock,
-    }
-}
-
 /// N6; or want of memory, where that is what it was.
 fn socket(error: std::io::Error) -> Failure
     ensures blames { BlamesNone result }
@@ -147,13 +146,20 @@ fn socket(error: std::io::Error) -> Failure
 /// `session K ended`, or `session K ` and the fault's text; K counts them from 1 on as they are accepted. It answers the
 /// status: 0 where no line named a fault, 1 where one did, where connections can't be accepted (N6), and where the
 /// output can't be written; 3 for want of memory.
+///
+/// However it ends, each connection that was accepted was given back, and what it had been sent is right for every image that fits the
+/// table line, as [`serve_clients`] says.
 pub fn serve_on<D: BlockStore, H: BlockStore, L: Door, W: Write>(
     hub: &mut Hub<D, H>,
-    listener: &L,
+    listener: &mut L,
     sessions: u64,
     output: &mut W,
 ) -> u8
     ensures done { result ≡ 0 → IsServed (W.contents output.old) (W.contents output.new) sessions true }
+    ensures right { (history : List Step) → IsAfter (facts_of D.BlockStore H.BlockStore hub.old.1) hub.old.0 history
+        → (image : List (List ℕ)) → Fits hub.old.1.table image
+        → AreGivenBack (IsOfOne (IsRightFor D.BlockStore H.BlockStore hub.new.1 image) hub.new.0.offer)
+        (L.visits listener.old) (L.visits listener.new) }
 {
     match serve_clients(hub, listener, sessions, output) {
         Ok(true) => DONE,

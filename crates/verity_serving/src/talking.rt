@@ -1,13 +1,13 @@
 //! The command `talk`: serves a volume to one NBD client, over standard input and output.
 
 ghost use Rattle.std.specs.Prelude.{◌≡◌, true, ◌↔◌, Err, IfOk, IfErr};
+ghost use Rattle.nbd_hub.specs.Failures.{FailsToRead, FailsToWrite};
 ghost use Rattle.verity_files.specs.Errors.{IsS1For};
 ghost use Rattle.verity_serving.specs.Blamed.{TalkBlames};
 ghost use Rattle.verity_serving.specs.Serving.{IsTalked, status_of_session};
 
-use std::io::{Read, Write};
 use verity_files::{Command, DONE, Failure, NO_MEMORY, Paths, REFUSED, VolumeStore, Word, number};
-use verity_hub::{HubFault, ServeFault, serve_stream};
+use verity_hub::{HubFault, Input, Output, ServeFault, serve_stream};
 use verity_opening::open_hub;
 use verity_store::BlockStore;
 use verity_words::TalkWords;
@@ -19,7 +19,7 @@ const TURNS: u64 = 1 << 40;
 /// are started for one connection. Nothing but the session's bytes is written once the greeting has begun.
 ///
 /// Faults are found in this order: the words, the line, the name, the two files (data first), the verifier.
-pub fn talk<R: Paths + AllocGlobal, I: Read, W: Write>(
+pub fn talk<R: Paths + AllocGlobal, I: Input, W: Output>(
     rt: &R,
     words: &TalkWords<'_>,
     input: &mut I,
@@ -31,7 +31,9 @@ pub fn talk<R: Paths + AllocGlobal, I: Read, W: Write>(
           reader' = I.remaining input.new;
           writer = W.contents output.old;
           writer' = W.contents output.new;
-        }) ended) }
+        }) ended
+        × FailsToRead (I.failures input.old) (I.failures input.new) ended
+        × FailsToWrite (W.failures output.old) (W.failures output.new) ended) }
     ensures blames { IfErr result (TalkBlames words.now) }
     ensures system { IfErr result (IsS1For (R.refuses rt.now ≡ true)) }
 {

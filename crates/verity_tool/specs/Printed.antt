@@ -25,11 +25,11 @@ pub record IsDumped (text : List ℕ) (old new : Option (List ℕ)) : Type 0 whe
   pub printed : Appends old new (superblock_lines volume (start_behind offset volume.params.hash_block_size))
 
 -- whether a commit stood behind the gate of the journal at a path, which was made again; else nothing is seen there, or its gate was shut
-abbrev pub IsMade : {P : Type 0} → Ghosts P → P → (path : List ℕ) → (data_len hash_len : ℕ) → (names : List ℕ) → Bool → Type 0
-IsMade facts p path data_len hash_len names true =
-    (contents : Contents) × Recovers facts p path data_len hash_len names true contents
-IsMade facts p path data_len hash_len names false =
-    facts.lacks p path ⊎ ((contents : Contents) × Recovers facts p path data_len hash_len names false contents)
+abbrev pub IsMade : {P : Type 0} → Ghosts P → P → (path : List ℕ) → (data_len : ℕ) → (hash : Opened) → (names : List ℕ) → Bool → Type 0
+IsMade facts p path data_len hash names true =
+    (contents : Contents) × Recovers facts p path data_len hash names true contents
+IsMade facts p path data_len hash names false =
+    facts.lacks p path ⊎ ((contents : Contents) × Recovers facts p path data_len hash names false contents)
 
 -- the line that says so
 abbrev pub recovered_line : Bool → List ℕ
@@ -49,5 +49,5 @@ pub record IsRecovered {P : Type 0} (facts : Ghosts P) (p : P) (words : RecoverW
   pub hash_locked : facts.locks p device (lock_of Recover)
   pub journal : IsJournalPath facts p words.journal words.hash_path.now path
   pub named : AreNames facts p image.identity words.data_path.now device.identity words.hash_path.now names
-  pub made : IsMade facts p path image.len device.len names is_recovered
+  pub made : IsMade facts p path image.len device names is_recovered
   pub printed : Appends old new (recovered_line is_recovered)

@@ -1,4 +1,5 @@
-//! The program, as a library: [`run`] takes the words, the input and the output, and answers the status.
+//! The program, as a library: [`run`] takes the words, the input and the output, and answers the status; [`serve_on`] serves a hub at a
+//! listener, as `serve` does.
 //!
 //! The work is done by the layers below, whose contracts say what it is worth; here a command reads its words, opens a volume
 //! (`verity_volume`), makes one call or a few, and prints lines. The commands that change a volume are those of `verity_changes`, those
@@ -12,3 +13,4 @@ mod recover;
 mod told;
 
 pub use program::run;
+pub use verity_serving::serve_on;

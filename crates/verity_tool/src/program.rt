@@ -13,7 +13,7 @@ use std::time::Clock;
 use verity_changes::{edit, scratch, update};
 use verity_files::{DONE, Failure, NOT_UNDERSTOOD, REFUSED};
 use verity_format::format;
-use verity_serving::{fail, serve, talk, verify};
+use verity_serving::{CountedReader, CountedWriter, fail, serve, talk, verify};
 use verity_words::{Request, explain, explain_corrupt, explain_usage, explain_words, read_words};
 
 /// Does what the words ask for, of which the first is the program's own name, and answers the status that the process
@@ -86,7 +86,12 @@ fn answer<
         Request::Edit(words) => edit(rt, &words, output, errors),
         Request::Verify(words) => verify(rt, &words, output, errors),
         Request::Serve(words) => serve(rt, &words, &mut Told::new(output, errors, words.listen)),
-        Request::Talk(words) => talk(rt, &words, input, output),
+        Request::Talk(words) => talk(
+            rt,
+            &words,
+            &mut CountedReader::new(input),
+            &mut CountedWriter::new(output),
+        ),
         Request::Recover(words) => recover(rt, &words, output).map(|()| DONE),
         Request::Update(words) => update(rt, &words, output, errors),
     }

@@ -47,7 +47,7 @@ fn make_whole<R: Paths + AllocGlobal>(
     hash: &Opened,
     names: &str,
 ) -> Result<bool, Failure>
-    ensures made { IfOk result (IsMade R.Paths rt.now path.now data.now.len hash.now.len names.now) }
+    ensures made { IfOk result (IsMade R.Paths rt.now path.now data.now.len hash.now names.now) }
     ensures word { IfErr result (λ e. e ≡ Failure.Word word.Journal
         → IsOneOf R.Paths rt.now path.now data.now.identity hash.now.identity) }
     ensures refused { IfErr result (BlamesAtMost word.Journal) }

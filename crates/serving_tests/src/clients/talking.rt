@@ -3,7 +3,9 @@
 use nbd_session::Status;
 use std::alloc::{AllocError, Allocator, Global};
 use std::io::Write;
-use verity_hub::{Event, Hub, HubFault, HubReply, Piece, ServeFault, serve_stream};
+use verity_hub::{
+    CountedReader, CountedWriter, Event, Hub, HubFault, HubReply, Piece, ServeFault, serve_stream,
+};
 use verity_store::BlockStore;
 
 /// Client flags, and EXPORT_NAME with the empty name.
@@ -93,7 +95,9 @@ pub fn serve_by<D: BlockStore + Drop, H: BlockStore + Drop, A: Allocator + Copy 
     writer: &mut W,
     limit: u64,
 ) -> Result<(), ServeFault> {
-    serve_stream(hub, reader, writer, limit)
+    let mut reader = CountedReader::new(reader);
+    let mut writer = CountedWriter::new(writer);
+    serve_stream(hub, &mut reader, &mut writer, limit)
 }
 
 /// Serves one client by a hub, whose end it is.

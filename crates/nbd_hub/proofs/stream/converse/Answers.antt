@@ -5,7 +5,7 @@ use Rattle.nbd_session.specs.Session.{State, IsAt, Talked}
 use Rattle.nbd_session.specs.Handshake.{greeting}
 use Rattle.nbd_session.proofs.Moving.{Keeps-refl, Keeps-trans}
 use Rattle.nbd_hub.proofs.Turns.{talked_first, taken_at, taken_on, sets_none, sets_on, sets_at, some_is, on_err, on_ok, turned}
-use Rattle.nbd_hub.proofs.Turns.{served_err, ended_if, open_if, turned_first, turned_on}
+use Rattle.nbd_hub.proofs.Turns.{served_err, ended_if, open_if, turned_first, turned_on, failed_at, unfailed}
 use Rattle.nbd_hub.proofs.stream.converse.Goals as goal
 
 pub returns-then-is_err-clause-served : goal.returns-then-is_err-clause-served
@@ -17,11 +17,15 @@ returns-then-is_err-clause-served g c =
       [],
       q.0,
       q.1,
-      record { reads = Consumes-nil (g.R.Read.remaining c.args.reader.now); writes = q.3 },
+      record { reads = Consumes-nil (g.R.Input.remaining c.args.reader.now); writes = q.3 },
       subst P e (talked_first (f c.args.hub.now.1) c.args.hub.now.0.offer),
       taken_at c.args.hub.now.0.offer c.args.limit 0 []
           (λ e. let z : ⊥ = cc in z) (omega arith) (omega arith),
     )
+
+pub returns-then-is_err-clause-write_failed : goal.returns-then-is_err-clause-write_failed
+returns-then-is_err-clause-write_failed g c =
+    failed_at c.write_out.result _ _ c.if-is_err.ensures.value c.write_out.ensures.fault c.write_out.ensures.failed
 
 pub returns-then-is_err-clause-after : goal.returns-then-is_err-clause-after
 returns-then-is_err-clause-after g c = λ history x. turned_first (g.E.Export.facts c.args.hub.now.1) c.args.hub.now.0 history c.args.id x
@@ -31,11 +35,13 @@ loop-turn-init g c =
     let f = g.E.Export.facts in
     let o = c.requires.one in
     let w = on_ok c.write_out.result _ c.if-is_err.ensures.value c.write_out.ensures.ok in
-    let P : List ℕ → Type 0 = λ x. Appends (g.W.Write.contents c.args.writer.now) (g.W.Write.contents c.write_out.new.writer) x in
+    let P : List ℕ → Type 0 = λ x. Appends (g.W.Output.contents c.args.writer.now) (g.W.Output.contents c.write_out.new.writer) x in
     record {
       offer = refl;
       keeps = Keeps-refl (f c.args.hub.now.1);
       later = g.met.E.Export.later_same c.args.hub.now.1;
+      read = refl;
+      wrote = unfailed c.write_out.result _ _ c.if-is_err.ensures.value c.write_out.ensures.failed;
       next = refl;
       count = refl;
       after = λ history x. turned_first (f c.args.hub.now.1) c.args.hub.now.0 history c.args.id x;
@@ -44,7 +50,7 @@ loop-turn-init g c =
         greeting,
         o.0,
         record {
-          reads = Consumes-nil (g.R.Read.remaining c.args.reader.now);
+          reads = Consumes-nil (g.R.Input.remaining c.args.reader.now);
           writes = subst P (c.deref.ensures.value ∙ c.requires.greets) w;
         },
         talked_first (f c.args.hub.now.1) c.args.hub.now.0.offer,
@@ -103,8 +109,8 @@ returns-in-Err-exchange-clause-after g c = λ history x.
 pub returns-in-Err-exchange-clause-served : goal.returns-in-Err-exchange-clause-served
 returns-in-Err-exchange-clause-served g c =
     let f = g.E.Export.facts in
-    let R = g.R.Read.remaining in
-    let W = g.W.Write.contents in
+    let R = g.R.Input.remaining in
+    let W = g.W.Output.contents in
     let i = c.loop-turn.invariant in
     let n = i.ran in
     let e = c.in-Err-exchange.ensures in
@@ -123,8 +129,8 @@ returns-in-Err-exchange-clause-served g c =
 pub returns-then-over-clause-served : goal.returns-then-over-clause-served
 returns-then-over-clause-served g c =
     let f = g.E.Export.facts in
-    let R = g.R.Read.remaining in
-    let W = g.W.Write.contents in
+    let R = g.R.Input.remaining in
+    let W = g.W.Output.contents in
     let i = c.loop-turn.invariant in
     let n = i.ran in
     let e = c.in-Ok-exchange.ensures in
@@ -150,8 +156,8 @@ returns-then-over-clause-served g c =
 pub loop-turn-preserved : goal.loop-turn-preserved
 loop-turn-preserved g c =
     let f = g.E.Export.facts in
-    let R = g.R.Read.remaining in
-    let W = g.W.Write.contents in
+    let R = g.R.Input.remaining in
+    let W = g.W.Output.contents in
     let i = c.loop-turn.invariant in
     let n = i.ran in
     let e = c.in-Ok-exchange.ensures in
@@ -169,6 +175,8 @@ loop-turn-preserved g c =
       offer = e.offer ∙ i.offer;
       keeps = Keeps-trans (f c.args.hub.now.1) (f c.loop-turn.hub.1) (f c.exchange.new.hub.1) i.keeps e.keeps;
       later = g.met.E.Export.later_on c.args.hub.now.1 c.loop-turn.hub.1 c.exchange.new.hub.1 i.later e.later;
+      read = c.in-Ok.ensures.failures ∙ i.read;
+      wrote = e.write_failed ∙ i.wrote;
       next = e.next ∙ i.next;
       count = e.count ∙ i.count;
       after = λ history x. turned_on (f c.loop-turn.hub.1) (f c.exchange.new.hub.1) c.loop-turn.hub.0 c.exchange.new.hub.0 history

@@ -1,6 +1,6 @@
 use Rattle.std.proofs.Common.{◌++◌, List, ℕ, sym, ◌∙◌, subst, refl}
 use Rattle.std.specs.Io.KnownBytes.{Appends}
-use Rattle.nbd_hub.proofs.Turns.{feeds_from, turned_fed}
+use Rattle.nbd_hub.proofs.Turns.{failed, feeds_from, turned_fed}
 use Rattle.nbd_hub.proofs.stream.exchange.Goals as goal
 
 pub returns-in-Ok-write_out : goal.returns-in-Ok-write_out
@@ -12,7 +12,7 @@ returns-in-Ok-write_out g c =
     let out = c.feed.new.out.items in
     let d = feeds_from a b o.before o.after c.args.piece.now c.clear.new.self.items out out c.in-Ok.status c.clear.ensures.items
     refl o.feeds in
-    let P : List ℕ → Type 0 = λ x. Appends (g.W.Write.contents c.args.writer.now) (g.W.Write.contents c.write_out.new.writer) x in
+    let P : List ℕ → Type 0 = λ x. Appends (g.W.Output.contents c.args.writer.now) (g.W.Output.contents c.write_out.new.writer) x in
     let n = c.in_default.not-Starved in
     let i = d.ended n in
     let k = c.is_over.ensures in
@@ -37,6 +37,7 @@ returns-in-Ok-write_out g c =
           d.awake n,
         ),
       );
+      write_failed = c.in-Ok-write_out.ensures.failed;
       after = λ history x. turned_fed b c.feed.new.self.0 history c.args.id c.args.piece.now c.clear.new.self.items out
           c.in-Ok.status (c.in-Ok.ensures.after history x);
     }
@@ -67,6 +68,7 @@ returns-in-Err-write_out g c =
         o.sets,
         (q.0, q.1, q.3, (λ input at. (d.at n input at, d.talks n input at))),
       );
+      write_failed = failed (Unit {0}) _ _ _ c.in-Err-write_out.ensures.fault c.in-Err-write_out.ensures.failed;
       after = λ history x. turned_fed b c.feed.new.self.0 history c.args.id c.args.piece.now c.clear.new.self.items out
           c.in-Ok.status (c.in-Ok.ensures.after history x);
     }

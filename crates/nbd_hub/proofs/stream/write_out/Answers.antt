@@ -22,8 +22,8 @@ returns-in-Ok-eq0-clause-err g c =
       take d bytes ++ take n s,
       drop n s,
       parts bytes d n,
-      Appends-trans (g.W.Write.contents c.args.writer.now) (g.W.Write.contents c.loop-done.writer)
-          (g.W.Write.contents c.write.new.self) (take d bytes) (take n s) c.loop-done.invariant.wrote c.in-Ok-eq0.ensures.bytes,
+      Appends-trans (g.W.Output.contents c.args.writer.now) (g.W.Output.contents c.loop-done.writer)
+          (g.W.Output.contents c.write.new.self) (take d bytes) (take n s) c.loop-done.invariant.wrote c.in-Ok-eq0.ensures.bytes,
     )
 
 pub returns-in-Err-clause-err : goal.returns-in-Err-clause-err
@@ -33,8 +33,8 @@ returns-in-Err-clause-err g c =
       take d bytes,
       drop d bytes,
       sym (take-append-drop d bytes),
-      Appends-kept (g.W.Write.contents c.args.writer.now) (g.W.Write.contents c.loop-done.writer)
-          (g.W.Write.contents c.write.new.self) (take d bytes) c.loop-done.invariant.wrote c.in-Err.ensures.bytes,
+      Appends-kept (g.W.Output.contents c.args.writer.now) (g.W.Output.contents c.loop-done.writer)
+          (g.W.Output.contents c.write.new.self) (take d bytes) c.loop-done.invariant.wrote c.in-Err.ensures.bytes,
     )
 
 pub loop-done-preserved : goal.loop-done-preserved
@@ -43,7 +43,7 @@ loop-done-preserved g c =
     let d = c.loop-done.done in
     let n = c.in-Ok.taken in
     let s = take (length bytes - d) (drop d bytes) in
-    let P : List ℕ → Type 0 = λ x. Appends (g.W.Write.contents c.args.writer.now) (g.W.Write.contents c.write.new.self) x in
+    let P : List ℕ → Type 0 = λ x. Appends (g.W.Output.contents c.args.writer.now) (g.W.Output.contents c.write.new.self) x in
     record {
       within = omega (
         arith,
@@ -52,7 +52,8 @@ loop-done-preserved g c =
         c.in-Ok.ensures.bound,
         c.loop-done.invariant.within,
       );
-      wrote = subst P (next_bytes bytes d n) (Appends-trans (g.W.Write.contents c.args.writer.now)
-          (g.W.Write.contents c.loop-done.writer) (g.W.Write.contents c.write.new.self) (take d bytes) (take n s)
+      wrote = subst P (next_bytes bytes d n) (Appends-trans (g.W.Output.contents c.args.writer.now)
+          (g.W.Output.contents c.loop-done.writer) (g.W.Output.contents c.write.new.self) (take d bytes) (take n s)
           c.loop-done.invariant.wrote c.in-Ok.ensures.bytes);
+      failures = c.in-Ok.ensures.failures.0 (omega (arith, c.in-Ok.taken-test)) ∙ c.loop-done.invariant.failures;
     }

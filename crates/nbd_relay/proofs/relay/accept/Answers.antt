@@ -24,8 +24,8 @@ returns-in-Ok-push-clause-serves g c = λ h logs x v.
     λ z. AllServed hub'.0.offer (h ++ Opening hub.0.next greeting ∷ []) z (logs ++ record { read = []; wrote = [] } ∷ []) in (
       subst A o.number s.0,
       subst R (sym (c.in-Ok-push.ensures.items ∙ ap (λ z. z ++ client ∷ []) c.reserve.ensures.items))
-          (all_open g.S.Stream.remaining g.S.Stream.contents hub'.0.offer h hub.0.next greeting items logs client x.next o.number
-          (subst B o.number s.1) (subst V (sym o.offer) v)),
+          (all_open g.S.Stream.remaining g.S.Stream.received g.S.Stream.contents hub'.0.offer h hub.0.next greeting items logs client
+          x.next o.number (subst B o.number s.1) (subst V (sym o.offer) v)),
     )
 
 pub returns-in-Ok-push-clause-added : goal.returns-in-Ok-push-clause-added

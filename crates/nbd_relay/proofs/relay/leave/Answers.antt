@@ -21,7 +21,7 @@ returns-in-Ok-clause-serves g c = λ h logs x v.
     let B : ClientState × g.row.S.Denot → Type 0 = λ z. AllServed hub.0.offer (h ++ Ending z.0.id ∷ []) (remove cs at) (remove logs at) in
     let R : List (ClientState × g.row.S.Denot) → Type 0 = λ z. AllServed hub.0.offer (h ++ Ending d.0.id ∷ []) z (remove logs at) in
     let O : Offer → Type 0 = λ z. AllServed z (h ++ Ending d.0.id ∷ []) c.remove-client.new.self.items (remove logs at) in
-    let left = all_left g.S.Stream.remaining g.S.Stream.contents hub.0.offer h cs logs at d c.requires v in (
+    let left = all_left g.S.Stream.remaining g.S.Stream.received g.S.Stream.contents hub.0.offer h cs logs at d c.requires v in (
       subst A c.id.ensures (c.in-Ok.ensures.after h x).after,
       subst O (sym c.in-Ok.ensures.ends.offer)
           (subst R (sym c.remove-client.ensures.items) (subst B (sym c.remove-client.ensures.value) left)),
@@ -32,8 +32,9 @@ returns-in-Err-clause-serves g c = λ h logs x v.
     let hub = c.args.hub.now in
     let d = c.remove-client.result in
     let P : ClientState × g.row.S.Denot → Type 0 = λ z. IsOpen h z.0.id in
-    let was : IsOpen h d.0.id = subst P (sym c.remove-client.ensures.value) (open_at g.S.Stream.remaining g.S.Stream.contents
-    hub.0.offer h c.args.clients.now.items logs c.args.at d c.requires v) in
+    let was : IsOpen h d.0.id = subst P (sym c.remove-client.ensures.value)
+    (open_at g.S.Stream.remaining g.S.Stream.received g.S.Stream.contents hub.0.offer h c.args.clients.now.items logs c.args.at d
+    c.requires v) in
     let Q : ℕ → Type 0 = λ z. IsOpen h z in
     let S : Option State → Type 0 = λ z. Stands h c.id.result z in
     absurd ((subst S c.in-Err.ensures.unknown (x.sessions c.id.result)) (subst Q (sym c.id.ensures) was))

@@ -7,14 +7,15 @@ pub returns-clause-serves : goal.returns-clause-serves
 returns-clause-serves g c = λ h logs x v.
     let f = g.E.Export.facts in
     let r = g.S.Stream.remaining in
+    let q = g.S.Stream.received in
     let w = g.S.Stream.contents in
     let cs = c.args.clients.now in
     let d = c.index-clients-at.result in
     let new = c.turn.new.self in
     let hub = c.args.hub.now in
     let hub' = c.turn.new.hub in
-    runs_of r w (f hub'.1) hub'.0 hub.0.offer h new.0.id cs _ logs c.turn.ensures.offer
-    (put r w (f hub'.1) hub'.0 hub.0.offer h cs logs c.args.at d new c.turn.ensures.offer c.requires c.turn.ensures.same
+    runs_of r q w (f hub'.1) hub'.0 hub.0.offer h new.0.id cs _ logs c.turn.ensures.offer
+    (put r q w (f hub'.1) hub'.0 hub.0.offer h cs logs c.args.at d new c.turn.ensures.offer c.requires c.turn.ensures.same
     (λ read wrote s. c.turn.ensures.serves h read wrote x s) v)
 
 pub returns-clause-turns : goal.returns-clause-turns

@@ -1,30 +1,14 @@
-use Rattle.std.proofs.Common.{◌∙◌, sym, subst, not, Bool}
-use Rattle.nbd_serve.specs.Lines.{IsServing}
-use Rattle.nbd_serve.proofs.Servings.{goes_same, goes_on}
-use Rattle.nbd_serve.proofs.Tellings.{tells_all, tells_none, tells_then, tells_to}
+use Rattle.nbd_serve.proofs.Keeping.{back_none, kept_empty}
 use Rattle.nbd_serve.proofs.server.serve_each.Goals as goal
 
-pub loop-init : goal.loop-init
-loop-init g c = record {
-  goes_on = goes_same g.E.Export.later g.met.E.Export.later_same c.args.hub.now;
-  sessions = c.in_ok-room.ensures.sessions;
-  told = tells_to _ _ _ _ _ c.in_ok-room.ensures.stands (tells_none _ _);
-}
+pub returns-clause-given_back : goal.returns-clause-given_back
+returns-clause-given_back g c = λ history after.
+    let begun = g.L.Door.visits c.args.door.now in
+    c.give_back.ensures.given_back begun (c.serve_in-served.ensures.kept begun
+    (kept_empty _ _ _ begun _ _ _ history c.in_ok-room.ensures.clients c.in_ok-room.ensures.leaving after))
 
-pub returns-then-is_empty-clause-serves : goal.returns-then-is_empty-clause-serves
-returns-then-is_empty-clause-serves g c = let same = c.serve_once.ensures.sessions ∙ c.loop.invariant.sessions in
-    subst (λ (faulty : Bool). IsServing (g.W.Write.contents c.args.output.now) (g.W.Write.contents c.serve_once.new.output)
-    c.args.sessions (not faulty)) (sym c.is_faulty.ensures) (tells_all _ _ _ _ _ _ _ (c.is_empty.ensures.ended c.if-is_empty.true ∙ same)
-    (c.is_empty.ensures.accepted c.if-is_empty.true ∙ same) (c.is_empty.ensures.numbers c.if-is_empty.true)
-    (tells_then _ _ _ _ _ _ c.loop.invariant.told c.in_ok-at_once.ensures.told))
+pub returns-in_err-events-clause-given_back : goal.returns-in_err-events-clause-given_back
+returns-in_err-events-clause-given_back g c = λ history after. back_none _ _
 
-pub loop-preserved : goal.loop-preserved
-loop-preserved g c = record {
-  goes_on = goes_on g.E.Export.later g.met.E.Export.later_on _ _ _ c.loop.invariant.goes_on c.serve_once.ensures.goes_on;
-  sessions = c.look.ensures.sessions ∙ c.serve_once.ensures.sessions ∙ c.loop.invariant.sessions;
-  told = tells_to _ _ _ _ _ c.look.ensures.stands (tells_then _ _ _ _ _ _ c.loop.invariant.told c.in_ok-at_once.ensures.told);
-}
-
-pub returns-in_err-look-clause-goes_on : goal.returns-in_err-look-clause-goes_on
-returns-in_err-look-clause-goes_on g c = goes_on g.E.Export.later g.met.E.Export.later_on _ _ _ c.loop.invariant.goes_on
-    c.serve_once.ensures.goes_on
+pub returns-in_err-room-clause-given_back : goal.returns-in_err-room-clause-given_back
+returns-in_err-room-clause-given_back g c = λ history after. back_none _ _

@@ -17,8 +17,8 @@ loop-init g c = record {
   goes_on = goes_same g.E.Export.later g.met.E.Export.later_same c.args.hub.now;
   budget = λ p. inl p;
   hungry = λ e. absurd (let z : ⊥ = cc in z);
-  serves = λ h logs x v. runs_none g.S.Stream.remaining g.S.Stream.contents (g.E.Export.facts c.args.hub.now.1) c.args.hub.now.0 h
-      c.args.clients.now logs x v;
+  serves = λ h logs x v. runs_none g.S.Stream.remaining g.S.Stream.received g.S.Stream.contents (g.E.Export.facts c.args.hub.now.1)
+      c.args.hub.now.0 h c.args.clients.now logs x v;
 }
 
 pub loop-preserved : goal.loop-preserved
@@ -36,6 +36,6 @@ loop-preserved g c =
           ] in t.ensures.budget q;
       hungry = t.ensures.hungry;
       serves = λ h logs x v.
-          runs_more g.S.Stream.remaining g.S.Stream.contents (f c.loop.hub.1) (f t.new.hub.1) c.loop.hub.0 t.new.hub.0 h
+          runs_more g.S.Stream.remaining g.S.Stream.received g.S.Stream.contents (f c.loop.hub.1) (f t.new.hub.1) c.loop.hub.0 t.new.hub.0 h
           c.args.clients.now c.loop.clients t.new.clients logs (i.serves h logs x v) t.ensures.serves;
     }

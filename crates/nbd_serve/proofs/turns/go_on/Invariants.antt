@@ -19,5 +19,5 @@ invariant-loop g l =
       hungry : l.came ≡ came.Hungry → IsHungry l.budget.share (facts l.hub.1) l.hub.0 l.clients l.at;
       serves : (history : List Step) (logs : List Log) → IsAfter (facts l.fn.hub.1) l.fn.hub.0 history →
           AllServed l.fn.hub.0.offer history l.fn.clients logs
-          → RunsOn g.S.Stream.remaining g.S.Stream.contents (facts l.hub.1) l.hub.0 history l.fn.clients l.clients logs;
+          → RunsOn g.S.Stream.remaining g.S.Stream.received g.S.Stream.contents (facts l.hub.1) l.hub.0 history l.fn.clients l.clients logs;
     }

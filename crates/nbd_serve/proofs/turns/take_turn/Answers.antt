@@ -25,4 +25,5 @@ returns-then-not-has_room-clause-hungry g c = λ e.
 
 pub returns-then-not-has_room-clause-serves : goal.returns-then-not-has_room-clause-serves
 returns-then-not-has_room-clause-serves g c = λ h logs x v.
-    runs_none g.S.Stream.remaining g.S.Stream.contents (g.E.Export.facts c.args.hub.now.1) c.args.hub.now.0 h c.args.clients.now logs x v
+    runs_none g.S.Stream.remaining g.S.Stream.received g.S.Stream.contents (g.E.Export.facts c.args.hub.now.1) c.args.hub.now.0 h
+    c.args.clients.now logs x v

@@ -17,10 +17,10 @@ returns-clause-right g c = λ image fits.
     let v : HubState × Verifying g.row.D.Denot g.row.H.Denot = c.args.hub.now in
     let w : HubState × Verifying g.row.D.Denot g.row.H.Denot = c.serve-result.new.hub in
     let e : Ends = record {
-      reader = g.R.Read.remaining c.args.reader.now;
-      reader' = g.R.Read.remaining c.serve-result.new.reader;
-      writer = g.W.Write.contents c.args.writer.now;
-      writer' = g.W.Write.contents c.serve-result.new.writer;
+      reader = g.R.Input.remaining c.args.reader.now;
+      reader' = g.R.Input.remaining c.serve-result.new.reader;
+      writer = g.W.Output.contents c.args.writer.now;
+      writer' = g.W.Output.contents c.serve-result.new.writer;
     } in
     let served : Served (facts_of D H v.1) (facts_of D H w.1) v.0.offer e c.args.limit c.serve-result.result =
     subst (λ (x : HubState × Verifying g.row.D.Denot g.row.H.Denot). Served (facts_of D H x.1) (facts_of D H w.1) x.0.offer e
@@ -39,10 +39,10 @@ returns-clause-exact g c = λ image holds.
     let v : HubState × Verifying g.row.D.Denot g.row.H.Denot = c.args.hub.now in
     let w : HubState × Verifying g.row.D.Denot g.row.H.Denot = c.serve-result.new.hub in
     let e : Ends = record {
-      reader = g.R.Read.remaining c.args.reader.now;
-      reader' = g.R.Read.remaining c.serve-result.new.reader;
-      writer = g.W.Write.contents c.args.writer.now;
-      writer' = g.W.Write.contents c.serve-result.new.writer;
+      reader = g.R.Input.remaining c.args.reader.now;
+      reader' = g.R.Input.remaining c.serve-result.new.reader;
+      writer = g.W.Output.contents c.args.writer.now;
+      writer' = g.W.Output.contents c.serve-result.new.writer;
     } in
     let served : Served (facts_of D H v.1) (facts_of D H w.1) v.0.offer e c.args.limit c.serve-result.result =
     subst (λ (x : HubState × Verifying g.row.D.Denot g.row.H.Denot). Served (facts_of D H x.1) (facts_of D H w.1) x.0.offer e

@@ -4,10 +4,10 @@ use Rattle.verity_serving.proofs.Talks.{talked}
 use Rattle.verity_serving.proofs.talking.talk.Goals as goal
 
 pub returns-clause-ended : goal.returns-clause-ended
-returns-clause-ended g c = told c.ended.result _ c.serve_stream-served.result c.ended.ensures.status
+returns-clause-ended g c = told c.ended.result _ _ _ c.serve_stream-served.result c.ended.ensures.status
     (talked _ _ c.serve_stream-served.result c.args.words.now _ c.in_ok-hub.hub _ c.in_ok-hub.ensures.line c.in_ok-hub.ensures.made
     c.in_ok-hub.ensures.offer c.serve_stream-served.ensures.verifier c.serve_stream-served.ensures.served
-    c.serve_stream-served.ensures.right)
+    c.serve_stream-served.ensures.right) c.serve_stream-served.ensures.read_failed c.serve_stream-served.ensures.write_failed
 
 pub returns-clause-blames : goal.returns-clause-blames
 returns-clause-blames g c = starved c.ended.result c.args.words.now c.ended.ensures.refused

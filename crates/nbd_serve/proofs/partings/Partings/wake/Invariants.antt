@@ -3,6 +3,6 @@ use Rattle.nbd_serve.proofs.partings.Partings.wake.Given as goal
 
 abbrev pub invariant-each : goal.invariant-each
 invariant-each g l = record {
-  same : length l.self.leaving.items ≡ length l.fn.self.leaving.items;
+  same : l.self.leaving.items ≡ l.fn.self.leaving.items;
   end : l.at-end ≡ length l.fn.self.leaving.items;
 }

@@ -8,6 +8,7 @@ loop-preserved g c = record {
   goes_on = goes_on g.E.Export.later g.met.E.Export.later_on _ _ _ c.loop.invariant.goes_on c.turns_at.ensures.goes_on;
   sessions = c.turns_at.ensures.sessions ∙ c.loop.invariant.sessions;
   told = tells_then _ _ _ _ _ _ c.loop.invariant.told c.in_ok-next.ensures.told;
+  kept = λ begun k. c.turns_at.ensures.kept begun (c.loop.invariant.kept begun k);
 }
 
 pub loop-init : goal.loop-init
@@ -15,4 +16,8 @@ loop-init g c = record {
   goes_on = goes_same g.E.Export.later g.met.E.Export.later_same c.args.hub.now;
   sessions = refl;
   told = tells_none _ _;
+  kept = λ begun k. k;
 }
+
+pub returns-in_err-next-clause-kept : goal.returns-in_err-next-clause-kept
+returns-in_err-next-clause-kept g c = λ begun k. c.turns_at.ensures.kept begun (c.loop.invariant.kept begun k)
