@@ -111,9 +111,10 @@ impl Number {
             .advising("run recover on DATA and HASH"),
             Number::S7 => Meaning::new(
                 "S7",
-                "the journal can't be used, or is none of this volume",
-            ).advising(
-                "name another with --journal, or none; after a commit that failed, run recover",
+                "the journal can't be used: it isn't a regular file, is none of this program and version, or is of another volume",
+            )
+            .advising(
+                "it is left as it is: move it away, or, where --journal names it, name another; after a commit that failed, run recover",
             ),
             Number::G1 => Meaning::new("G1", "a salt has at most 256 bytes"),
             Number::G2 => Meaning::new("G2", "memory was refused"),

@@ -2,6 +2,9 @@
 use std::alloc::{AllocError, Allocator};
 use verity_journal::{Change, Device, Disks, Plan, Side, TearingDisks, commit_through, start};
 
+/// A journal whose gate is closed: its magic, its version, and the gate.
+pub const CLOSED: &[u8] = b"dalgjrnl\x01\0\0\0\0";
+
 /// A device that gets a new length, and two bytes at its beginning and at its end.
 pub fn side<A: Allocator + Copy>(alloc: A, old: u64, len: u64) -> Result<Side<A>, AllocError> {
     let mut changes = Vec::new(alloc);
@@ -39,7 +42,7 @@ pub fn commit<A: Allocator + Copy>(
     );
     let data = vec![in alloc; 1; data_lens.0 as usize]?;
     let hash = vec![in alloc; 2; hash_lens.0 as usize]?;
-    let mut disks = TearingDisks::new(alloc, data, hash, vec![in alloc; 0; 1]?, calls)?;
+    let mut disks = TearingDisks::new(alloc, data, hash, CLOSED.to_vec(alloc)?, calls)?;
     let answered = recover_and_commit(alloc, &mut disks, &plan);
     Ok((answered, disks))
 }

@@ -9,6 +9,8 @@ mod device;
 #[cfg(test)]
 mod failing;
 #[cfg(test)]
+mod heads;
+#[cfg(test)]
 mod runs;
 #[cfg(test)]
 mod stops;

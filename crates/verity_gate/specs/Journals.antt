@@ -1,7 +1,8 @@
 -- Where a volume's journal stands, what is found there, and whom a call that failed is laid to.
-use Rattle.std.specs.Prelude.{◌≡◌, ◌≢◌, ◌⊎◌, ℕ, Bool, List, [], ◌∷◌, ◌++◌, length, codes, Option, None, Some, IfSome, MatchOption}
+use Rattle.std.specs.Prelude.{◌≡◌, ◌⊎◌, ℕ, ◌+◌, ◌<◌, min, Bool, List, [], ◌∷◌, ◌++◌, length, codes, Option, None, Some, IfSome, MatchOption}
 use Rattle.std.specs.Prelude.{is_some, unwrap_or}
 use Rattle.std.specs.Borrow.{Bor}
+use Rattle.std.specs.Int.{w64, to_le_bytes, from_le_bytes}
 use Rattle.std.specs.Path.{path_file_name}
 use Rattle.verity_files.specs.Identities.{IsDevice}
 use Rattle.verity_files.specs.declared.opening.Opened.{Opened}
@@ -11,7 +12,9 @@ use Rattle.verity_files.specs.declared.identity.Identity.TheVariants as identity
 use Rattle.verity_files.specs.declared.fault.Fault.{Fault}
 use Rattle.verity_files.specs.declared.fault.Fault.TheVariants as fault
 use Rattle.verity_journal.specs.Disks.{Contents}
-use Rattle.verity_journal.specs.Journal.{pair_of, plan_of, recovered}
+use Rattle.verity_journal.specs.Journal.{pair_of, plan_of, recovered, IsJournal, Says}
+use Rattle.verity_journal.specs.declared.head.Gate.{Gate}
+use Rattle.verity_journal.specs.declared.head.Gate.TheVariants as gate
 use Rattle.verity_journal.specs.declared.disks.Device.{Device}
 use Rattle.verity_journal.specs.declared.disks.Device.TheVariants as device
 use Rattle.verity_journal.specs.declared.disks.DiskFault.{DiskFault}
@@ -19,6 +22,8 @@ use Rattle.verity_journal.specs.declared.disks.DiskFault.TheVariants as disk
 use Rattle.verity_pending.specs.declared.fault.EditFault.TheVariants as edit
 use Rattle.verity_store.specs.declared.fault.StoreFault.TheVariants as store
 use Rattle.verity_store.specs.declared.fault.Which.TheVariants as which
+use Rattle.verity_superblock.specs.Reading as superblock
+use Rattle.verity_superblock.specs.declared.faults.SuperFault.{SuperFault}
 
 -- no journal is named, and HASH, as a device, has none beside it; or none is asked for
 abbrev pub IsWithoutJournal : Option (Bor (List ℕ)) → Identity → Type 0
@@ -37,9 +42,17 @@ abbrev pub IsFound : {P : Type 0} → Ghosts P → P → List ℕ → Option Ope
 IsFound facts p path (Some opened) = facts.opens p path opened
 IsFound facts p path None = facts.lacks p path
 
--- what was opened has no byte, or its first one is 0
+-- the first 13 bytes of what was opened, in which a journal's head and gate stand; all where it has fewer
+abbrev pub AreFirst : {P : Type 0} → Ghosts P → P → Opened → List ℕ → Type 0
+AreFirst facts p opened first = facts.begins p opened first × (length first ≡ min opened.len 13)
+
+-- what the first bytes of what was opened say of it
+abbrev pub HasGate : {P : Type 0} → Ghosts P → P → Opened → Gate → Type 0
+HasGate facts p opened gate = (first : List ℕ) × AreFirst facts p opened first × Says first gate
+
+-- what was opened has no more than a beginning of a journal's head, maybe no byte, or a closed gate behind one
 abbrev pub HasShutGate : {P : Type 0} → Ghosts P → P → Opened → Type 0
-HasShutGate facts p opened = (opened.len ≡ 0) ⊎ facts.begins p opened (0 ∷ [])
+HasShutGate facts p opened = HasGate facts p opened gate.Begun ⊎ HasGate facts p opened gate.Closed
 
 -- no gate is open at a path
 abbrev pub IsShutAt : {P : Type 0} → Ghosts P → P → List ℕ → Type 0
@@ -50,9 +63,13 @@ abbrev pub IsShut : {P : Type 0} → Ghosts P → P → List ℕ → Type 0
 IsShut facts p hash_path = facts.has_device p hash_path
     ⊎ ((path : List ℕ) × Beside facts p hash_path path × IsShutAt facts p path)
 
--- what was opened begins with a byte that isn't 0
+-- what was opened begins with a journal's head and an open gate
 abbrev pub HasOpenGate : {P : Type 0} → Ghosts P → P → Opened → Type 0
-HasOpenGate facts p opened = (first : List ℕ) × (length first ≡ 1) × facts.begins p opened first × (first ≢ 0 ∷ [])
+HasOpenGate facts p opened = HasGate facts p opened gate.Open
+
+-- what was opened is no journal, or one of another version
+abbrev pub HasNoGate : {P : Type 0} → Ghosts P → P → Opened → Type 0
+HasNoGate facts p opened = HasGate facts p opened gate.Foreign
 
 -- a gate is open at a path
 abbrev pub IsOpenAt : {P : Type 0} → Ghosts P → P → List ℕ → Type 0
@@ -88,6 +105,34 @@ abbrev pub IsInVolume : {P : Type 0} → Ghosts P → P → Option (Bor (List �
 IsInVolume facts p named hash_path image device = (path : List ℕ) × IsJournalPath facts p named hash_path path
     × IsOneOf facts p path image device
 
+-- the names that a journal has of a volume: its UUID, the byte offset of its superblock in HASH, of eight bytes, the lowest first, and
+-- the names of its files
+abbrev pub volume_names : (uuid : List ℕ) → (offset : ℕ) → (files : List ℕ) → List ℕ
+volume_names uuid offset files = uuid ++ (to_le_bytes w64 offset ++ files)
+
+-- 512 bytes were read of a hash device at a byte offset
+abbrev pub IsReadAt : {P : Type 0} → Ghosts P → P → (hash : Opened) → (offset : ℕ) → List ℕ → Type 0
+IsReadAt facts p hash offset block = (again : Opened) × (again.identity ≡ hash.identity) × facts.reads p again.file offset block
+    × (length block ≡ 512)
+
+-- the UUID of the superblock of the profile that stands at a byte offset of a hash device; none where none does
+abbrev pub IsVolumeAt : {P : Type 0} → Ghosts P → P → (hash : Opened) → (offset : ℕ) → Option (List ℕ) → Type 0
+IsVolumeAt facts p hash offset (Some uuid) = (block : List ℕ) × IsReadAt facts p hash offset block × (superblock.uuid block ≡ uuid)
+IsVolumeAt facts p hash offset None = (hash.len < offset + 512)
+    ⊎ ((block : List ℕ) × IsReadAt facts p hash offset block × (fault : SuperFault) × (superblock.refusal block ≡ Some fault))
+
+-- a journal has these names of a volume's files, and of the volume that stands in HASH: where a superblock stands at the offset that it
+-- names, that has the UUID that it names
+pub record IsOfVolume {P : Type 0} (facts : Ghosts P) (p : P) (hash : Opened) (files names : List ℕ) : Type 0 where
+  pub uuid : List ℕ
+  pub offset : List ℕ
+  pub named : names ≡ uuid ++ (offset ++ files)
+  pub sixteen : length uuid ≡ 16
+  pub eight : length offset ≡ 8
+  pub found : Option (List ℕ)
+  pub stands : IsVolumeAt facts p hash (from_le_bytes w64 offset) found
+  pub own : IfSome found (λ other. other ≡ uuid)
+
 -- something was opened at a path
 abbrev pub Stands : {P : Type 0} → Ghosts P → P → List ℕ → Type 0
 Stands facts p path = (opened : Opened) × facts.opens p path opened
@@ -97,17 +142,18 @@ abbrev pub Starts : (data_len hash_len : ℕ) → List ℕ → Contents → Type
 Starts data_len hash_len journal contents = (image device : List ℕ) × (length image ≡ data_len) × (length device ≡ hash_len)
     × (pair_of contents ≡ recovered journal (image, device))
 
--- a journal was found at a path, and what it says was made of both files: where its gate was open it has these names
-pub record Recovers {P : Type 0} (facts : Ghosts P) (p : P) (path : List ℕ) (data_len hash_len : ℕ) (names : List ℕ)
+-- a journal was found at a path, and what it says was made of both files: where its gate was open it is of this volume
+pub record Recovers {P : Type 0} (facts : Ghosts P) (p : P) (path : List ℕ) (data_len : ℕ) (hash : Opened) (names : List ℕ)
     (is_recovered : Bool) (contents : Contents) : Type 0 where
   pub journal : Opened
   pub bytes : List ℕ
   pub opened : facts.opens p path journal
   pub read : facts.begins p journal bytes
   pub whole : length bytes ≡ journal.len
-  pub named : IfSome (plan_of bytes) (λ plan. plan.names ≡ names)
+  pub is_journal : IsJournal bytes
+  pub named : IfSome (plan_of bytes) (λ plan. IsOfVolume facts p hash names plan.names)
   pub recovered : is_recovered ≡ is_some (plan_of bytes)
-  pub made : Starts data_len hash_len bytes contents
+  pub made : Starts data_len hash.len bytes contents
 
 -- want of memory; the store whose file failed last; else the journal
 abbrev pub laid_to : DiskFault → Option Device → Fault

@@ -12,16 +12,20 @@ use Rattle.verity_files.specs.declared.fault.Fault.TheVariants as fault
 use Rattle.verity_pending.specs.declared.fault.EditFault.TheVariants as edit
 use Rattle.verity_store.specs.declared.fault.StoreFault.{StoreFault}
 use Rattle.verity_store.specs.declared.fault.StoreFault.TheVariants as store
-use Rattle.verity_gate.specs.Journals.{Beside}
+use Rattle.verity_gate.specs.Journals.{Beside, HasNoGate}
 
 -- no word of the command is blamed
 abbrev pub BlamesNone : Failure → Type 0
 BlamesNone (failure.Word word) = ⊥
 BlamesNone _ = ⊤
 
--- no journal can be used at a path: the system refused a call, or a block device was opened there
+-- no journal can be opened at a path: the system refused a call, or a block device was opened there
+abbrev pub IsClosedOffAt : {P : Type 0} → Ghosts P → P → List ℕ → Type 0
+IsClosedOffAt facts p path = (facts.refuses p ≡ true) ⊎ ((opened : Opened) × facts.opens p path opened × IsDevice opened.identity)
+
+-- no journal can be used at a path: none can be opened there, or what was opened is none
 abbrev pub IsUnusableAt : {P : Type 0} → Ghosts P → P → List ℕ → Type 0
-IsUnusableAt facts p path = (facts.refuses p ≡ true) ⊎ ((opened : Opened) × facts.opens p path opened × IsDevice opened.identity)
+IsUnusableAt facts p path = IsClosedOffAt facts p path ⊎ ((opened : Opened) × facts.opens p path opened × HasNoGate facts p opened)
 
 -- nor beside a hash device
 abbrev pub IsUnusable : {P : Type 0} → Ghosts P → P → List ℕ → Type 0
@@ -39,10 +43,10 @@ IsUnopened unusable fault.Journal = unusable
 IsUnopened unusable _ = ⊥
 
 -- nor is it read
-abbrev pub IsUnread : Failure → Type 0
-IsUnread failure.NoMemory = ⊤
-IsUnread (failure.Refused fault.Journal) = ⊤
-IsUnread _ = ⊥
+abbrev pub IsUnread : Type 0 → Failure → Type 0
+IsUnread refuses failure.NoMemory = ⊤
+IsUnread refuses (failure.Refused fault.Journal) = refuses
+IsUnread refuses _ = ⊥
 
 -- a gate isn't shut: want of memory, it is open, or its journal can't be used
 abbrev pub IsUnshut : (under_way unusable : Type 0) → Failure → Type 0

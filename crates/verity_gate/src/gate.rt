@@ -1,15 +1,17 @@
 //! The gate of a journal, and what stands at a journal's path.
-ghost use Rattle.std.specs.Prelude.{◌≡◌, true, IfOk, IfErr, OnOk};
+ghost use Rattle.std.specs.Prelude.{◌≡◌, ◌⊎◌, true, length, IfOk, IfErr, OnOk};
 ghost use Rattle.verity_files.specs.Identities.{IsDevice};
-ghost use Rattle.verity_gate.specs.Journals.{HasOpenGate, HasShutGate, IsFound, IsOpen, IsOpenAt, IsOtherShut, IsShut, IsShutAt};
-ghost use Rattle.verity_gate.specs.Refusals.{IsUnopened, IsUnshut, IsUnusable, IsUnusableAt, journal_fault_of};
+ghost use Rattle.verity_gate.specs.Journals.{HasGate, HasNoGate, HasOpenGate, HasShutGate, IsFound, IsOpen, IsOpenAt, IsOtherShut};
+ghost use Rattle.verity_gate.specs.Journals.{IsShut, IsShutAt};
+ghost use Rattle.verity_gate.specs.Refusals.{IsClosedOffAt, IsUnopened, IsUnread, IsUnshut, IsUnusable, IsUnusableAt, journal_fault_of};
 
 use crate::places::path_beside;
 use verity_files::{Command, Failure, Fault, Identity, Opened, Paths, open_there};
+use verity_journal::{GATE_END, Gate, gate_of};
 use verity_store::{StoreFault, Which};
 
-/// That no commit of a hash device is under way, as the journal beside it says: S6 where its gate is open, S7 where it is no regular file
-/// or the system refuses to open or read it. Of a device, which has none beside it, nothing is known.
+/// That no commit of a hash device is under way, as the journal beside it says: S6 where its gate is open, S7 where it is no regular file,
+/// is no journal, or the system refuses to open or read it. Of a device, which has none beside it, nothing is known. It reads 13 bytes.
 pub fn check_gate<P: Paths + AllocGlobal>(rt: &P, hash_path: &str) -> Result<(), Failure>
     ensures shut { OnOk result (IsShut P.Paths rt.now hash_path.now) }
     ensures refused { IfErr result (IsUnshut (IsOpen P.Paths rt.now hash_path.now) (IsUnusable P.Paths rt.now hash_path.now)) }
@@ -43,33 +45,53 @@ pub fn check_other_gate<P: Paths + AllocGlobal>(
 }
 
 /// That the gate of a journal is closed, or there is none. S6, S7.
-fn check_gate_at<P: Paths>(rt: &P, path: &str) -> Result<(), Failure>
+fn check_gate_at<P: Paths + AllocGlobal>(rt: &P, path: &str) -> Result<(), Failure>
     ensures shut { OnOk result (IsShutAt P.Paths rt.now path.now) }
     ensures refused { IfErr result (IsUnshut (IsOpenAt P.Paths rt.now path.now) (IsUnusableAt P.Paths rt.now path.now)) }
 {
     let Some(opened) = open_journal(rt, path, Command::Verify)? else {
         return Ok(());
     };
-    check_first_byte(rt, opened)
+    check_first_bytes(rt, opened)
 }
 
-/// That what was opened is empty, or its first byte is 0.
-fn check_first_byte<P: Paths>(rt: &P, opened: Opened) -> Result<(), Failure>
+/// That what was opened is no more than a beginning of a journal's head, or a journal whose gate is closed. S6, S7.
+fn check_first_bytes<P: Paths + AllocGlobal>(rt: &P, opened: Opened) -> Result<(), Failure>
     ensures shut { OnOk result (HasShutGate P.Paths rt.now opened) }
-    ensures refused { IfErr result (IsUnshut (HasOpenGate P.Paths rt.now opened) (P.refuses rt.now ≡ true)) }
+    ensures refused { IfErr result (IsUnshut (HasOpenGate P.Paths rt.now opened)
+        ((P.refuses rt.now ≡ true) ⊎ HasNoGate P.Paths rt.now opened)) }
 {
-    if opened.len == 0 {
-        return Ok(());
+    match gate_at_front(rt, opened)? {
+        Gate::Begun | Gate::Closed => Ok(()),
+        Gate::Open => Err(Fault::UnderWay.into()),
+        Gate::Foreign => Err(Fault::Journal.into()),
     }
+}
+
+/// What the first 13 bytes of what was opened say of it, or all where it has fewer. S7 where the system refuses to read them.
+pub(crate) fn gate_at_front<P: Paths + AllocGlobal>(rt: &P, opened: Opened) -> Result<Gate, Failure>
+    ensures gate { IfOk result (HasGate P.Paths rt.now opened) }
+    ensures refused { IfErr result (IsUnread (P.refuses rt.now ≡ true)) }
+{
+    let count = opened.len.min(GATE_END) as usize;
+    let (_, first) = read_front(rt, opened, count)?;
+    Ok(gate_of(&first))
+}
+
+/// What was opened, and so many of its first bytes. S7 where the system refuses to read them.
+pub(crate) fn read_front<P: Paths + AllocGlobal>(
+    rt: &P,
+    opened: Opened,
+    count: usize,
+) -> Result<(Opened, Vec<u8>), Failure>
+    ensures begins { IfOk result (λ read. P.begins rt.now opened read.1.items × (length read.1.items ≡ count)) }
+    ensures refused { IfErr result (IsUnread (P.refuses rt.now ≡ true)) }
+{
     let mut opened = opened;
-    let mut gate = [0];
-    if rt.read_first(&mut opened, &mut gate).is_err() {
-        return Err(Fault::Journal.into());
-    }
-    if gate == [0] {
-        Ok(())
-    } else {
-        Err(Fault::UnderWay.into())
+    let mut bytes = vec![in rt.alloc(); 0; count]?;
+    match rt.read_first(&mut opened, &mut bytes) {
+        Ok(()) => Ok((opened, bytes)),
+        Err(_) => Err(Fault::Journal.into()),
     }
 }
 
@@ -80,7 +102,7 @@ pub(crate) fn open_journal<P: Paths>(
     command: Command,
 ) -> Result<Option<Opened>, Fault>
     ensures found { IfOk result (IsFound P.Paths rt.now path.now) }
-    ensures refused { IfErr result (IsUnopened (IsUnusableAt P.Paths rt.now path.now)) }
+    ensures refused { IfErr result (IsUnopened (IsClosedOffAt P.Paths rt.now path.now)) }
 {
     if !rt.is_there(path)? {
         return Ok(None);

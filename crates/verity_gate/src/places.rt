@@ -1,8 +1,10 @@
 //! Where a volume's journal stands, and the names that it has of the volume's files.
 ghost use Rattle.std.specs.Prelude.{◌≡◌, ◌↔◌, None, IfSome, IfOk, IfErr, string_bytes};
-ghost use Rattle.verity_gate.specs.Journals.{AreNames, Beside, IsJournalPath, IsName, IsWithoutJournal};
+ghost use Rattle.verity_gate.specs.Journals.{AreNames, Beside, IsJournalPath, IsName, IsWithoutJournal, volume_names};
 
+use std::alloc::{AllocError, Global};
 use std::path::Path;
+use uuid::Uuid;
 use verity_files::{Failure, Identity, Opened, Paths};
 
 /// The word that asks for no journal.
@@ -57,6 +59,22 @@ pub fn volume_names<P: Paths + AllocGlobal>(
     let mut names = name_of(rt, data.identity, data_path)?;
     names.push('\0')?;
     names.push_str(&name_of(rt, hash.identity, hash_path)?)?;
+    Ok(names)
+}
+
+/// The names that a journal has of a volume: its UUID, the byte offset of its superblock in HASH, and the names of its files.
+pub fn names_of_volume(
+    alloc: Global,
+    uuid: Uuid,
+    offset: u64,
+    files: &str,
+) -> Result<Vec<u8>, AllocError>
+    ensures { IfOk result (λ names. names.items ≡ volume_names uuid offset files.now) }
+{
+    let mut names = Vec::new(alloc);
+    names.extend_from_slice(uuid.as_bytes())?;
+    names.extend_from_slice(&offset.to_le_bytes())?;
+    names.extend_from_slice(files.as_bytes())?;
     Ok(names)
 }
 

@@ -1,19 +1,24 @@
 //! A journal's file, made or found, and the volume that it stands for.
 ghost use Rattle.std.specs.Prelude.{◌≡◌, None, [], length, is_some, IfSome, IfOk, IfErr, OnOk, true};
 ghost use Rattle.verity_files.specs.declared.failure.Word.TheVariants as word;
-ghost use Rattle.verity_journal.specs.Journal.{plan_of};
+ghost use Rattle.verity_journal.specs.Journal.{plan_of, IsJournal};
 ghost use Rattle.verity_journal.specs.Tearing.{read_of};
-ghost use Rattle.verity_gate.specs.Journals.{IsOneOf, Recovers, Stands, Starts, laid_to};
+ghost use Rattle.verity_gate.specs.Journals.{IsOfVolume, IsOneOf, IsVolumeAt, Recovers, Stands, Starts, laid_to};
 ghost use Rattle.verity_files.specs.Errors.{IsS1For};
-ghost use Rattle.verity_gate.specs.Refusals.{BlamesAtMost, IsOfFile, IsOfJournal, IsUnread};
+ghost use Rattle.verity_gate.specs.Refusals.{BlamesAtMost, BlamesNone, IsOfFile, IsOfJournal, IsUnread};
 
-use crate::gate::{journal_fault, open_journal, regular};
-use std::alloc::{AllocError, Global};
+use crate::gate::{gate_at_front, journal_fault, open_journal, read_front, regular};
+use std::alloc::AllocError;
 use std::fs::File;
+use uuid::Uuid;
 use verity_edit::EditFault;
 use verity_files::{Command, Failure, Fault, Opened, Paths, VolumeFile, Word, whole_file};
-use verity_journal::{Device, DiskFault, Disks, FileDisks, Keeper, parse_journal};
+use verity_journal::{Device, DiskFault, Disks, FileDisks, Gate, Keeper, parse_journal};
 use verity_store::{RawFile, StoreFault, Which};
+use verity_superblock::{SuperFault, Superblock};
+
+/// The bytes of a superblock.
+const SUPERBLOCK_SIZE: u64 = 512;
 
 /// Three files, kept between commits.
 pub type FileKeeper = Keeper<FileDisks<VolumeFile<File>>>;
@@ -29,8 +34,9 @@ pub struct Found {
 
 /// Makes the volume that its files stand for, where there is a journal.
 ///
-/// S7 where the journal can't be used, is no journal, or has an open gate and other names than these, or keeps more of a file than
-/// there is; E6 with the file that failed. `--journal` isn't understood where it leads to DATA or HASH.
+/// S7 where the journal can't be used, is no journal, is of other files or another volume than these, or keeps more of a file than there
+/// is: then nothing is changed, the journal neither. E6 with the file that failed. `--journal` isn't understood where it leads to DATA or
+/// HASH.
 pub fn recover_files<P: Paths + AllocGlobal>(
     rt: &P,
     path: &str,
@@ -39,7 +45,7 @@ pub fn recover_files<P: Paths + AllocGlobal>(
     names: &str,
 ) -> Result<Option<Found>, Failure>
     ensures nothing { IfOk result (λ found. found ≡ None → P.lacks rt.now path.now) }
-    ensures found { IfOk result (λ found. IfSome found (λ found. Recovers P.Paths rt.now path.now data.now.len hash.now.len names.now
+    ensures found { IfOk result (λ found. IfSome found (λ found. Recovers P.Paths rt.now path.now data.now.len hash.now names.now
         found.is_recovered (⟦<FileDisks<VolumeFile<File>> as Disks>⟧.seen found.keeper.disks))) }
     ensures word { IfErr result (λ e. e ≡ Failure.Word Word.Journal → IsOneOf P.Paths rt.now path.now data.now.identity hash.now.identity) }
     ensures refused { IfErr result (BlamesAtMost word.Journal) }
@@ -51,8 +57,9 @@ pub fn recover_files<P: Paths + AllocGlobal>(
     if opened.identity == data.identity || opened.identity == hash.identity {
         return Err(Failure::Word(Word::Journal));
     }
+    check_journal(rt, &opened)?;
     let (opened, bytes) = bytes_of(rt, opened)?;
-    let is_recovered = has_open_gate(rt.alloc(), &bytes, names)?;
+    let is_recovered = has_open_gate(rt, hash, &bytes, names)?;
     let keeper = started(rt, data, hash, opened, bytes)?;
     Ok(Some(Found {
         keeper,
@@ -60,40 +67,116 @@ pub fn recover_files<P: Paths + AllocGlobal>(
     }))
 }
 
-/// Whether a plan stands in a journal behind an open gate. S7 where it has other names than these, and where the bytes are no journal's.
-fn has_open_gate(alloc: Global, bytes: &[u8], names: &str) -> Result<bool, Failure>
-    ensures open { IfOk result (λ is_open. is_open ≡ is_some (plan_of bytes.now)) }
-    ensures named { OnOk result (IfSome (plan_of bytes.now) (λ plan. plan.names ≡ names.now)) }
-    ensures refused { IfErr result IsUnread }
+/// That what was opened may be a journal, by its first bytes, before all of it is read. S7.
+fn check_journal<P: Paths + AllocGlobal>(rt: &P, journal: &Opened) -> Result<(), Failure>
+    ensures refused { IfErr result BlamesNone }
+    ensures system { IfErr result (IsS1For (P.refuses rt.now ≡ true)) }
 {
-    match parse_journal(alloc, bytes)? {
-        Some(plan) if plan.names() != names.as_bytes() => Err(Fault::Journal.into()),
-        Some(_) => Ok(true),
-        None if is_foreign(bytes) => Err(Fault::Journal.into()),
+    match gate_at_front(rt, rt.again(journal)?)? {
+        Gate::Foreign => Err(Fault::Journal.into()),
+        _ => Ok(()),
+    }
+}
+
+/// Whether a plan stands in a journal behind an open gate. S7 where it is of other files or another volume than these, and where the bytes
+/// are no journal's.
+fn has_open_gate<P: Paths + AllocGlobal>(
+    rt: &P,
+    hash: &Opened,
+    bytes: &[u8],
+    names: &str,
+) -> Result<bool, Failure>
+    ensures open { IfOk result (λ is_open. is_open ≡ is_some (plan_of bytes.now)) }
+    ensures named { OnOk result (IfSome (plan_of bytes.now) (λ plan. IsOfVolume P.Paths rt.now hash.now names.now plan.names)) }
+    ensures refused { IfErr result BlamesNone }
+    ensures system { IfErr result (IsS1For (P.refuses rt.now ≡ true)) }
+{
+    match parse_journal(rt.alloc(), bytes)? {
+        Some(plan) => {
+            check_names(rt, hash, plan.names(), names)?;
+            Ok(true)
+        }
         None => Ok(false),
     }
 }
 
-/// Whether bytes behind which no plan stands are no journal's. A stop leaves a gate that isn't closed alone, or before a plan.
-fn is_foreign(bytes: &[u8]) -> bool {
-    bytes.len() > 1 && bytes[0] != 0
+/// That a journal's names are those of these files and of the volume that stands in HASH. S7; E6 where HASH can't be read at the offset
+/// that they name.
+fn check_names<P: Paths + AllocGlobal>(
+    rt: &P,
+    hash: &Opened,
+    names: &[u8],
+    files: &str,
+) -> Result<(), Failure>
+    ensures own { OnOk result (IsOfVolume P.Paths rt.now hash.now files.now names.now) }
+    ensures refused { IfErr result BlamesNone }
+    ensures system { IfErr result (IsS1For (P.refuses rt.now ≡ true)) }
+{
+    let Some((uuid, rest)) = names.split_first_chunk::<16>() else {
+        return Err(Fault::Journal.into());
+    };
+    let Some((offset, rest)) = rest.split_first_chunk::<8>() else {
+        return Err(Fault::Journal.into());
+    };
+    if rest != files.as_bytes() {
+        return Err(Fault::Journal.into());
+    }
+    match uuid_at(rt, hash, u64::from_le_bytes(*offset))? {
+        Some(other) if other.as_bytes() != uuid => Err(Fault::Journal.into()),
+        _ => Ok(()),
+    }
+}
+
+/// The UUID of the superblock that stands at a byte offset of HASH; none where none of the profile does. E6 where HASH can't be read there.
+fn uuid_at<P: Paths + AllocGlobal>(
+    rt: &P,
+    hash: &Opened,
+    offset: u64,
+) -> Result<Option<Uuid>, Failure>
+    ensures found { IfOk result (IsVolumeAt P.Paths rt.now hash.now offset) }
+    ensures refused { IfErr result BlamesNone }
+    ensures system { IfErr result (IsS1For (P.refuses rt.now ≡ true)) }
+{
+    if SUPERBLOCK_SIZE <= hash.len && offset <= hash.len - SUPERBLOCK_SIZE {
+        read_uuid(rt, hash, offset)
+    } else {
+        Ok(None)
+    }
+}
+
+/// The same, where HASH has 512 bytes there.
+fn read_uuid<P: Paths + AllocGlobal>(
+    rt: &P,
+    hash: &Opened,
+    offset: u64,
+) -> Result<Option<Uuid>, Failure>
+    ensures found { IfOk result (IsVolumeAt P.Paths rt.now hash.now offset) }
+    ensures refused { IfErr result BlamesNone }
+    ensures system { IfErr result (IsS1For (P.refuses rt.now ≡ true)) }
+{
+    let mut again = rt.again(hash)?;
+    let mut block = [0; SUPERBLOCK_SIZE as usize];
+    if rt.read_at(&mut again.file, offset, &mut block).is_err() {
+        return Err(Fault::Edit(EditFault::Store(Which::Hash)).into());
+    }
+    match Superblock::decode(rt.alloc(), &block) {
+        Ok(superblock) => Ok(Some(superblock.uuid())),
+        Err(SuperFault::NoMemory) => Err(Failure::NoMemory),
+        Err(_) => Ok(None),
+    }
 }
 
 /// All bytes of a journal.
 fn bytes_of<P: Paths + AllocGlobal>(rt: &P, journal: Opened) -> Result<(Opened, Vec<u8>), Failure>
     ensures begins { IfOk result (λ read. P.begins rt.now journal read.1.items × (length read.1.items ≡ journal.len)) }
-    ensures refused { IfErr result IsUnread }
+    ensures refused { IfErr result (IsUnread (P.refuses rt.now ≡ true)) }
 {
-    let mut journal = journal;
-    let mut bytes = vec![in rt.alloc(); 0; journal.len as usize]?;
-    match rt.read_first(&mut journal, &mut bytes) {
-        Ok(()) => Ok((journal, bytes)),
-        Err(_) => Err(Fault::Journal.into()),
-    }
+    let count = journal.len as usize;
+    read_front(rt, journal, count)
 }
 
-/// Makes a journal where there is none, and its entry in its folder lasting. S7, or E6 with the file that failed, and then none
-/// is left.
+/// Makes a journal where there is nothing, and its entry in its folder lasting. S7, where something stands there by now too, which is
+/// neither written nor removed; or E6 with the file that failed. What was made is removed again then.
 pub fn make_journal<P: Paths + AllocGlobal>(
     rt: &P,
     path: &str,
@@ -106,15 +189,26 @@ pub fn make_journal<P: Paths + AllocGlobal>(
     ensures refused { IfErr result (IsOfJournal (P.refuses rt.now ≡ true)) }
 {
     let opened = match rt.open_or_make(rt.alloc(), path) {
-        Ok((opened, _)) => regular(opened)?,
+        Ok((opened, true)) => regular(opened)?,
+        Ok((_, false)) => return Err(Fault::Journal),
         Err(fault) => return Err(journal_fault(fault)),
     };
     match started_anew(rt, path, data, hash, opened) {
         Ok(keeper) => Ok(keeper),
         Err(fault) => {
-            rt.remove(path);
+            unmake(rt, path);
             Err(fault)
         }
+    }
+}
+
+/// Removes a journal that was made, while no more stands there than its head and a closed gate.
+fn unmake<P: Paths + AllocGlobal>(rt: &P, path: &str) {
+    let Ok(Some(opened)) = open_journal(rt, path, Command::Recover) else {
+        return;
+    };
+    if let Ok(Gate::Begun | Gate::Closed) = gate_at_front(rt, opened) {
+        rt.remove(path);
     }
 }
 
@@ -146,6 +240,7 @@ fn started<P: Paths + AllocGlobal>(
 ) -> Result<FileKeeper, Fault>
     ensures started { IfOk result (λ keeper. Starts data.now.len hash.now.len bytes.items
         (⟦<FileDisks<VolumeFile<File>> as Disks>⟧.seen keeper.disks)) }
+    ensures journal { OnOk result (IsJournal bytes.items) }
     ensures refused { IfErr result (IsOfJournal (P.refuses rt.now ≡ true)) }
 {
     let on_data = sized(rt, data)?;

@@ -1,24 +1,29 @@
--- What a stop leaves while a gate is opened or closed, and while a plan's changes are made.
+-- What a stop leaves while a head is written, a gate is opened or closed, and while a plan's changes are made.
 use Rattle.std.proofs.Common.{◌≡◌, ◌≢◌, ◌⊎◌, inl, inr, ⊎_elim, refl, ℕ, ◌+◌, ◌-◌, ◌<◌, ◌≤◌, ◌^◌, List, [], ◌∷◌, ◌++◌, length, get_or, take}
 use Rattle.std.proofs.Common.{drop, Option, None, Some, sym, ap, ◌∙◌, subst, arith}
 use Rattle.std.proofs.lemmas.Bool.{cases_eq}
 use Rattle.std.proofs.lemmas.Bool.Decides.{nat_tests}
-use Rattle.std.proofs.lemmas.List.{take_all}
+use Rattle.std.proofs.lemmas.List.{length-append, take_all}
 use Rattle.verity_store.specs.RawFile.{overwritten}
 use Rattle.verity_journal.specs.declared.disks.Device.TheVariants.{Data, Hash, Journal}
 use Rattle.verity_journal.specs.Disks.{Contents, put, Torn, Reached, IsDurable}
 use Rattle.verity_journal.specs.Plan.{Plan, IsSide, IsSmall, Amid, made}
-use Rattle.verity_journal.specs.Journal.{spelled, read_plan, plan_of, Pair, made_pair, under, recovered, pair_of, recovered_pair, IsClosed}
+use Rattle.verity_journal.specs.Journal.{spelled, read_plan, head, gated_plan, plan_of, Pair, made_pair, under, recovered, pair_of}
+use Rattle.verity_journal.specs.Journal.{recovered_pair, IsBegun, IsClosed}
 use Rattle.verity_journal.specs.Journal.{IsGated, IsOpen, IsReady, IsSettled, IsNamed, IsOldOrNew, IsNew, Suits}
 use Rattle.verity_journal.proofs.Format.{read_plan-spelled}
+use Rattle.verity_journal.proofs.Heads.{opened_behind, few_none, split_closed, split_gated}
 use Rattle.verity_journal.proofs.Parses.{plan_fits}
 use Rattle.verity_journal.proofs.Made.{made_same, made_again, amid_made, amid_self}
 
-pub is_none : (gate : ℕ) (rest : List ℕ) → gate ≡ 0 → plan_of (gate ∷ rest) ≡ None
-is_none gate rest shut = ap (λ (n : ℕ). plan_of (n ∷ rest)) shut
+pub is_none : (gate : ℕ) (rest : List ℕ) → gate ≡ 0 → plan_of (head ++ gate ∷ rest) ≡ None
+is_none gate rest shut = ap (λ (n : ℕ). plan_of (head ++ n ∷ rest)) shut
 
-pub is_plan : (gate : ℕ) (rest : List ℕ) → gate ≢ 0 → plan_of (gate ∷ rest) ≡ read_plan rest
-is_plan gate rest opened = grind (arith, nat_tests)
+pub gated_is_plan : (gate : ℕ) (rest : List ℕ) → gate ≢ 0 → gated_plan (gate ∷ rest) ≡ read_plan rest
+gated_is_plan gate rest opened = grind (arith, nat_tests)
+
+pub is_plan : (gate : ℕ) (rest : List ℕ) → gate ≢ 0 → plan_of (head ++ gate ∷ rest) ≡ read_plan rest
+is_plan gate rest opened = gated_is_plan gate rest opened
 
 pub closed_is_old : (journal : List ℕ) (pair : Pair) → IsClosed journal → recovered journal pair ≡ pair
 closed_is_old journal pair (rest, is) = ap (λ (j : List ℕ). recovered j pair) is
@@ -64,25 +69,25 @@ open_gated : (plan : Plan) (journal : List ℕ) → IsOpen plan journal → IsGa
 open_gated plan journal (gate, rest, is, reads, opened) = (gate, rest, is, reads)
 
 -- a write behind the gate leaves it closed
-torn_closed : (n : ℕ) (old new : List ℕ) → IsClosed old → Torn 1 n old new → IsClosed new
-torn_closed n old [] (rest, is) torn = absurd (omega (arith, torn.no_shorter, ap length is))
-torn_closed n old (x ∷ new) (rest, is) torn = (new, ap (λ (l : List ℕ). l ++ new) (torn.before ∙ ap (λ (l : List ℕ). take 1 l) is))
+torn_closed : (n : ℕ) (old new : List ℕ) → IsClosed old → Torn 13 n old new → IsClosed new
+torn_closed n old new (rest, is) torn = split_closed new (torn.before ∙ ap (λ (l : List ℕ). take 13 l) is)
 
 -- a write of the gate leaves what stands behind it
-torn_gated : (plan : Plan) (old new : List ℕ) → IsGated plan old → Torn 0 1 old new → IsGated plan new
-torn_gated plan old [] (gate, rest, is, reads) torn = absurd (omega (arith, torn.no_shorter, ap length is))
-torn_gated plan old (x ∷ new) (gate, rest, is, reads) torn =
-    (x, new, refl, ap read_plan (torn.after ∙ ap (λ (l : List ℕ). drop 1 l) is) ∙ reads)
+torn_gated : (plan : Plan) (old new : List ℕ) → IsGated plan old → Torn 12 1 old new → IsGated plan new
+torn_gated plan old new (gate, rest, is, reads) torn =
+    let there = split_gated new (omega (arith, torn.no_shorter, ap length is)) (torn.before ∙ ap (λ (l : List ℕ). take 12 l) is) in
+    (there.0, drop 13 new, there.1, ap read_plan (torn.after ∙ ap (λ (l : List ℕ). drop 13 l) is) ∙ reads)
 
 pub staged : (plan : Plan) (bytes journal : List ℕ) → IsSide plan.on_data → IsSide plan.on_hash → IsSmall plan.on_data →
-    IsSmall plan.on_hash → length plan.names < 2 ^ 64 → bytes ≡ spelled plan → IsClosed journal → IsGated plan (overwritten 1 bytes journal)
+    IsSmall plan.on_hash → length plan.names < 2 ^ 64 → bytes ≡ spelled plan → IsClosed journal →
+    IsGated plan (overwritten 13 bytes journal)
 staged plan bytes journal d h sd sh sn same (rest, is) =
-    let tail = drop (1 + length bytes) journal in
-    (0, spelled plan ++ tail, (λ i. take 1 (is i) ++ (same i ++ tail)), read_plan-spelled plan d h sd sh sn tail)
+    let tail = drop (13 + length bytes) journal in
+    (0, spelled plan ++ tail, (λ i. take 13 (is i) ++ (same i ++ tail)), read_plan-spelled plan d h sd sh sn tail)
 
 pub gate_written : (plan : Plan) (gate : ℕ) (journal : List ℕ) → IsGated plan journal → (rest : List ℕ) ×
-    (overwritten 0 (gate ∷ []) journal ≡ gate ∷ rest) × (read_plan rest ≡ Some plan)
-gate_written plan gate journal (old, rest, is, reads) = (rest, ap (λ (l : List ℕ). gate ∷ drop 1 l) is, reads)
+    (overwritten 12 (gate ∷ []) journal ≡ head ++ gate ∷ rest) × (read_plan rest ≡ Some plan)
+gate_written plan gate journal (old, rest, is, reads) = (rest, ap (λ (l : List ℕ). take 12 l ++ gate ∷ drop 13 l) is, reads)
 
 pair_same : (seen : Contents) (may_leave : Contents → Type 0) → IsDurable seen may_leave → (d : Contents) → may_leave d →
     pair_of d ≡ pair_of seen
@@ -90,7 +95,7 @@ pair_same seen may_leave durable d was = λ i. (durable Data d was i, durable Ha
 
 -- while a plan is written, the volume is as it was
 pub behind_is_old : (plan : Plan) (seen : Contents) (may_leave : Contents → Type 0) (n : ℕ) → IsSettled seen may_leave → (c : Contents) →
-    Reached Journal (Torn 1 n) may_leave c → IsOldOrNew plan (pair_of seen) c
+    Reached Journal (Torn 13 n) may_leave c → IsOldOrNew plan (pair_of seen) c
 behind_is_old plan seen may_leave n settled c (d, was, b, step, is) =
     let shut : IsClosed (d Journal) = (settled.closed.0, settled.durable Journal d was ∙ settled.closed.1) in
     let still = torn_closed n (d Journal) b shut step in
@@ -101,7 +106,7 @@ behind_is_old plan seen may_leave n settled c (d, was, b, step, is) =
 
 -- while its gate is opened or closed, it is as it stands or as the plan makes it
 pub gate_is_one : (plan : Plan) (seen : Contents) (may_leave : Contents → Type 0) → IsDurable seen may_leave → IsGated plan (seen Journal)
-    → (c : Contents) → Reached Journal (Torn 0 1) may_leave c → IsOldOrNew plan (pair_of seen) c
+    → (c : Contents) → Reached Journal (Torn 12 1) may_leave c → IsOldOrNew plan (pair_of seen) c
 gate_is_one plan seen may_leave durable gated c (d, was, b, step, is) =
     let there : IsGated plan (d Journal) = (gated.0, gated.1, durable Journal d was ∙ gated.2, gated.3) in
     let same = pair_same seen may_leave durable d was in
@@ -190,7 +195,7 @@ module _ (plan : Plan) (seen one two : Contents) (may_leave : Contents → Type 
     made_again plan.on_hash suits.on_hash (seen Hash) suits.hash_kept i,
   )
 
-  pub close_is_new : (c : Contents) → Reached Journal (Torn 0 1) may_leave c → IsNew plan (pair_of seen) c
+  pub close_is_new : (c : Contents) → Reached Journal (Torn 12 1) may_leave c → IsNew plan (pair_of seen) c
   close_is_new c reached =
       let one_of = gate_is_one plan two may_leave durable still_gated c reached in
       record {
@@ -200,41 +205,31 @@ module _ (plan : Plan) (seen one two : Contents) (may_leave : Contents → Type 
       }
 
 -- where a plan is read behind an open gate
-pub opened_is : (journal : List ℕ) (o : Option Plan) → 1 ≤ length journal → get_or journal 0 0 ≢ 0 →
-    read_plan (take (length journal - 1) (drop 1 journal)) ≡ o → plan_of journal ≡ o
+pub opened_is : (gated : List ℕ) (o : Option Plan) → 1 ≤ length gated → get_or gated 0 0 ≢ 0 →
+    read_plan (take (length gated - 1) (drop 1 gated)) ≡ o → gated_plan gated ≡ o
 opened_is [] o long opened reads = absurd (omega arith)
-opened_is (gate ∷ rest) o long opened reads = is_plan gate rest opened
+opened_is (gate ∷ rest) o long opened reads = gated_is_plan gate rest opened
     ∙ sym (ap read_plan (take_all (length (gate ∷ rest) - 1) rest (omega arith))) ∙ reads
 
 -- a plan stands behind an open gate alone
 pub plan_is_open : (journal : List ℕ) (plan : Plan) → plan_of journal ≡ Some plan → IsOpen plan journal
-plan_is_open [] plan e = cc
-plan_is_open (gate ∷ rest) plan e =
+plan_is_open journal plan e =
+    let there = opened_behind journal plan e in
     ⊎_elim
-    (λ shut. absurd (none_some plan (sym (is_none gate rest shut) ∙ e)))
-    (λ opened. (gate, rest, refl, sym (is_plan gate rest opened) ∙ e, opened))
-    (cases_eq gate 0)
+    (λ shut. absurd (none_some plan (sym (is_none there.0 there.1 shut) ∙ sym (ap plan_of there.2) ∙ e)))
+    (λ opened. (there.0, there.1, there.2, sym (is_plan there.0 there.1 opened) ∙ sym (ap plan_of there.2) ∙ e, opened))
+    (cases_eq there.0 0)
 
-pub closes : (journal : List ℕ) → (rest : List ℕ) × (overwritten 0 (0 ∷ []) journal ≡ 0 ∷ rest)
-closes journal = (drop 1 journal, refl)
-
--- a gate without a plan that is open or isn't there may be closed
-pub torn_none : (old new : List ℕ) → plan_of old ≡ None → ¬ IsClosed old → Torn 0 1 old new → plan_of new ≡ None
-torn_none [] [] none open_gate torn = refl
-torn_none [] (x ∷ []) none open_gate torn = ⊎_elim (λ shut. is_none x [] shut) (λ opened. is_plan x [] opened ∙ refl) (cases_eq x 0)
-torn_none [] (x ∷ y ∷ new) none open_gate torn = absurd (omega (arith, torn.no_longer))
-torn_none (gate ∷ rest) [] none open_gate torn = refl
-torn_none (gate ∷ rest) (x ∷ new) none open_gate torn =
-    let opened : gate ≢ 0 = λ shut. open_gate (rest, ap (λ (n : ℕ). n ∷ rest) shut) in
-    let reads : read_plan new ≡ None = ap read_plan torn.after ∙ sym (is_plan gate rest opened) ∙ none in
-    ⊎_elim (λ shut. is_none x new shut) (λ still. is_plan x new still ∙ reads) (cases_eq x 0)
+-- a head and a closed gate are written over no more than a beginning of a head
+pub closes : (journal : List ℕ) → (rest : List ℕ) × (overwritten 0 (head ++ 0 ∷ []) journal ≡ head ++ 0 ∷ rest)
+closes journal = (drop 13 journal, refl)
 
 pub shutting : (seen : Contents) (may_leave : Contents → Type 0) → IsDurable seen may_leave → plan_of (seen Journal) ≡ None →
-    ¬ IsClosed (seen Journal) → (c : Contents) → Reached Journal (Torn 0 1) may_leave c → recovered_pair c ≡ recovered_pair seen
-shutting seen may_leave durable none open_gate c (d, was, b, step, is) =
-    let b_none : plan_of b ≡ None = torn_none (seen Journal) b none open_gate
-    (subst (λ (l : List ℕ). Torn 0 1 l b) (durable Journal d was) step) in
-    ap recovered_pair is ∙ ap (λ (o : Option Plan). under o (pair_of d)) b_none ∙ pair_same seen may_leave durable d was
+    IsBegun (seen Journal) → (c : Contents) → Reached Journal (Torn 0 13) may_leave c → recovered_pair c ≡ recovered_pair seen
+shutting seen may_leave durable none (rest, begun) c (d, was, b, step, is) =
+    let torn : Torn 0 13 (seen Journal) b = subst (λ (l : List ℕ). Torn 0 13 l b) (durable Journal d was) step in
+    let few : length b ≤ 13 = omega (arith, torn.no_longer, ap length begun, length-append (seen Journal) rest) in
+    ap recovered_pair is ∙ ap (λ (o : Option Plan). under o (pair_of d)) (few_none b few) ∙ pair_same seen may_leave durable d was
     ∙ sym (ap (λ (o : Option Plan). under o (pair_of seen)) none)
 
 module _ (plan : Plan) (seen : Contents) (may_leave : Contents → Type 0) (durable : IsDurable seen may_leave)

@@ -66,15 +66,15 @@ side_reads side keep len count changes a b c d e is first second third below rea
     ∙ ap (λ (s : Side). Some (s, e)) (sym is)
 
 -- what is read of an option that is there
-was_some : {A B : Type 0} (o : Option A) (f : A → Option B) (y : B) → and_then o f ≡ Some y → (x : A) × (o ≡ Some x) × (f x ≡ Some y)
+pub was_some : {A B : Type 0} (o : Option A) (f : A → Option B) (y : B) → and_then o f ≡ Some y → (x : A) × (o ≡ Some x) × (f x ≡ Some y)
 was_some None f y e = cc
 was_some (Some x) f y e = (x, refl, e)
 
-was_given : {B : Type 0} (b : Bool) (o : Option B) (y : B) → (if b then o else None) ≡ Some y → (b ≡ true) × (o ≡ Some y)
+pub was_given : {B : Type 0} (b : Bool) (o : Option B) (y : B) → (if b then o else None) ≡ Some y → (b ≡ true) × (o ≡ Some y)
 was_given true o y e = (refl, e)
 was_given false o y e = cc
 
-two_some : {A : Type 0} (x y : A) → Some x ≡ Some y → x ≡ y
+pub two_some : {A : Type 0} (x y : A) → Some x ≡ Some y → x ≡ y
 two_some x y e = cc
 
 change_fits : (len : ℕ) (bytes : List ℕ) (change : ℕ × List ℕ) (rest : List ℕ) → read_change len bytes ≡ Some (change, rest) →

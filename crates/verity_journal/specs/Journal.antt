@@ -1,10 +1,12 @@
--- What a journal's bytes say: a gate, and behind it a plan. Numbers are of eight bytes, the lowest first.
+-- What a journal's bytes say: a head by which it is known, a gate, and behind it a plan. Numbers are of eight bytes, the lowest first.
 use Rattle.std.specs.Prelude.{◌≡◌, ◌≢◌, ◌⊎◌, ℕ, zero, suc, ◌+◌, ◌<◌, ◌≤◌, List, [], ◌∷◌, ◌++◌, length, take, drop}
 use Rattle.std.specs.Prelude.{nat_le, ◌==◌, if◌then◌else◌, Option, None, Some}
 use Rattle.std.specs.Int.{w64, to_le_bytes, from_le_bytes}
 use Rattle.verity_journal.specs.Disks.{Contents, IsDurable}
 use Rattle.verity_journal.specs.Plan.{Side, Plan, made, IsSide}
 use Rattle.verity_journal.specs.declared.disks.Device.TheVariants.{Data, Hash, Journal}
+use Rattle.verity_journal.specs.declared.head.Gate.{Gate}
+use Rattle.verity_journal.specs.declared.head.Gate.TheVariants as gate
 
 unfoldable pub number : ℕ → List ℕ
 number n = to_le_bytes w64 n
@@ -63,10 +65,47 @@ read_plan bytes =
     and_then (read_side names.1) (λ d. and_then (read_side d.1) (λ h.
     Some (record { names = names.0; on_data = d.0; on_hash = h.0 })))))
 
--- the plan of a journal, where its gate is open, which is any byte but 0, and a whole one stands behind it
+-- what each journal begins with: the magic `dalgjrnl`, and the version, 1, of four bytes, the lowest first
+abbrev pub head : List ℕ
+head = 100 ∷ 97 ∷ 108 ∷ 103 ∷ 106 ∷ 114 ∷ 110 ∷ 108 ∷ 1 ∷ 0 ∷ 0 ∷ 0 ∷ []
+
+-- what stands behind this beginning of bytes; none where they begin otherwise
+abbrev pub behind : List ℕ → List ℕ → Option (List ℕ)
+behind [] bytes = Some bytes
+behind (b ∷ beginning) [] = None
+behind (b ∷ beginning) (byte ∷ bytes) = if byte == b then behind beginning bytes else None
+
+-- the plan behind a gate that is open, which is any byte but 0, where a whole one stands there
+abbrev pub gated_plan : List ℕ → Option Plan
+gated_plan [] = None
+gated_plan (gate ∷ rest) = if gate == 0 then None else read_plan rest
+
+-- the plan of a journal: behind its head and an open gate
 abbrev pub plan_of : List ℕ → Option Plan
-plan_of [] = None
-plan_of (gate ∷ rest) = if gate == 0 then None else read_plan rest
+plan_of journal = and_then (behind head journal) gated_plan
+
+-- no more than a beginning of the head stands there: no byte, some of it, or all of it
+abbrev pub IsBegun : List ℕ → Type 0
+IsBegun bytes = (rest : List ℕ) × (head ≡ bytes ++ rest)
+
+-- a closed gate stands behind the head
+abbrev pub IsClosed : List ℕ → Type 0
+IsClosed bytes = (rest : List ℕ) × (bytes ≡ head ++ 0 ∷ rest)
+
+-- an open gate stands behind the head
+abbrev pub IsOpened : List ℕ → Type 0
+IsOpened bytes = (gate : ℕ) × (rest : List ℕ) × (bytes ≡ head ++ gate ∷ rest) × (gate ≢ 0)
+
+-- what the first bytes of a file say of it: 13 of them, or all where there are fewer
+abbrev pub Says : List ℕ → Gate → Type 0
+Says bytes gate.Begun = IsBegun bytes
+Says bytes gate.Closed = IsClosed bytes
+Says bytes gate.Open = IsOpened bytes
+Says bytes gate.Foreign = (¬ IsBegun bytes) × (¬ IsClosed bytes) × (¬ IsOpened bytes)
+
+-- the bytes of a journal as a stop may leave it: a beginning of its head, a closed gate, or a whole plan behind an open one
+abbrev pub IsJournal : List ℕ → Type 0
+IsJournal bytes = IsBegun bytes ⊎ (IsClosed bytes ⊎ ((plan : Plan) × (plan_of bytes ≡ Some plan)))
 
 -- the data and the hash device
 abbrev pub Pair : Type 0
@@ -92,23 +131,23 @@ pair_of contents = (contents Data, contents Hash)
 abbrev pub recovered_pair : Contents → Pair
 recovered_pair contents = recovered (contents Journal) (pair_of contents)
 
--- a closed gate stands first
-abbrev pub IsClosed : List ℕ → Type 0
-IsClosed journal = (rest : List ℕ) × (journal ≡ 0 ∷ rest)
-
--- a gate stands first, and behind it this plan
+-- a gate stands behind the head, and behind it this plan
 abbrev pub IsGated : Plan → List ℕ → Type 0
-IsGated plan journal = (gate : ℕ) × (rest : List ℕ) × (journal ≡ gate ∷ rest) × (read_plan rest ≡ Some plan)
+IsGated plan journal = (gate : ℕ) × (rest : List ℕ) × (journal ≡ head ++ gate ∷ rest) × (read_plan rest ≡ Some plan)
 
 -- and the gate is open
 abbrev pub IsOpen : Plan → List ℕ → Type 0
-IsOpen plan journal = (gate : ℕ) × (rest : List ℕ) × (journal ≡ gate ∷ rest) × (read_plan rest ≡ Some plan) × (gate ≢ 0)
+IsOpen plan journal = (gate : ℕ) × (rest : List ℕ) × (journal ≡ head ++ gate ∷ rest) × (read_plan rest ≡ Some plan) × (gate ≢ 0)
 
 -- a plan stands behind an open gate, and a device has fewer bytes than it keeps: it was made for other devices
-abbrev pub IsForeign : Contents → Type 0
-IsForeign contents =
+abbrev pub IsOfOthers : Contents → Type 0
+IsOfOthers contents =
     (plan : Plan) × (plan_of (contents Journal) ≡ Some plan)
     × ((length (contents Data) < plan.on_data.keep) ⊎ (length (contents Hash) < plan.on_hash.keep))
+
+-- the bytes are no journal's, or its plan was made for other devices
+abbrev pub IsForeign : Contents → Type 0
+IsForeign contents = (¬ IsJournal (contents Journal)) ⊎ IsOfOthers contents
 
 -- no commit is under way: all is on the devices, and the gate is closed
 pub record IsSettled (seen : Contents) (may_leave : Contents → Type 0) : Type 0 where

@@ -20,7 +20,7 @@ pub enum DiskFault {
     Device,
     #[error("there is too little memory")]
     NoMemory,
-    #[error("the journal is not of this volume")]
+    #[error("it is no journal, or not of this volume")]
     Foreign,
 }
 

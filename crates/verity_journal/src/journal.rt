@@ -82,8 +82,8 @@ pub fn open_plan<K: Disks, A: Allocator>(
     ensures failed { OnErr result (K.faults disks.old < K.faults disks.new) }
     ensures faults { K.faults disks.old ≤ K.faults disks.new }
 {
-    write_synced(disks, Device::Journal, 1, bytes)?;
-    write_synced(disks, Device::Journal, 0, &[1])?;
+    write_synced(disks, Device::Journal, 13, bytes)?;
+    write_synced(disks, Device::Journal, 12, &[1])?;
     Ok(())
 }
 
@@ -100,7 +100,7 @@ pub fn carry_out<K: Disks, A: Allocator>(disks: &mut K, plan: &Plan<A>) -> Resul
 {
     make(disks, Device::Data, plan.data())?;
     make(disks, Device::Hash, plan.hash())?;
-    write_synced(disks, Device::Journal, 0, &[0])?;
+    write_synced(disks, Device::Journal, 12, &[0])?;
     Ok(())
 }
 

@@ -1,8 +1,8 @@
 //! Commits of one volume, one after the other.
-ghost use Rattle.std.specs.Prelude.{◌≡◌, ◌⊎◌, ◌≤◌, ◌<◌, ◌↔◌, [], ◌∷◌, true, false, take, Err, OnOk, IsOk};
+ghost use Rattle.std.specs.Prelude.{◌≡◌, ◌⊎◌, ◌≤◌, ◌<◌, ◌↔◌, ◌++◌, [], ◌∷◌, true, false, take, Err, OnOk, IsOk};
 ghost use Rattle.verity_journal.specs.declared.disks.Device.TheVariants.{Journal};
-ghost use Rattle.verity_journal.specs.Disks.{IsDurable, LeavesOnly};
-ghost use Rattle.verity_journal.specs.Journal.{IsOldOrNew, IsForeign, Suits, pair_of, made_pair, recovered_pair};
+ghost use Rattle.verity_journal.specs.Disks.{IsDurable, LeavesOnly, Stays};
+ghost use Rattle.verity_journal.specs.Journal.{head, IsJournal, IsOldOrNew, IsForeign, Suits, pair_of, made_pair, recovered_pair};
 
 use crate::journal::commit_through;
 use crate::recovering::start;
@@ -16,7 +16,7 @@ pub struct Keeper<K: Disks> {
     disks: K,
     is_settled: bool,
     ghost durable: { is_settled ≡ true → IsDurable (K.seen disks) (K.may_leave disks) },
-    ghost closed: { is_settled ≡ true → take 1 (K.seen disks Journal) ≡ 0 ∷ [] },
+    ghost closed: { is_settled ≡ true → take 13 (K.seen disks Journal) ≡ head ++ 0 ∷ [] },
 }
 
 impl<K: Disks> Keeper<K> {
@@ -45,8 +45,12 @@ impl<K: Disks> Keeper<K> {
         ensures any_moment { LeavesOnly K.moment K.left_since self.old.disks self.new.disks
             (λ c. K.may_leave self.old.disks c ⊎ (recovered_pair c ≡ recovered_pair (K.seen self.old.disks))) }
         ensures memory { result ≡ Err DiskFault.NoMemory → K.seen self.new.disks ≡ K.seen self.old.disks }
+        ensures journal { OnOk result (IsJournal (K.seen self.old.disks Journal)) }
         ensures foreign { result ≡ Err DiskFault.Foreign → IsForeign (K.seen self.old.disks) }
         ensures foreign_stays { result ≡ Err DiskFault.Foreign → K.seen self.new.disks ≡ K.seen self.old.disks }
+        ensures untouched { ¬ IsJournal (K.seen self.old.disks Journal) → K.seen self.new.disks ≡ K.seen self.old.disks }
+        ensures untouched_crash { ¬ IsJournal (K.seen self.old.disks Journal)
+            → Stays (K.may_leave self.old.disks) (K.may_leave self.new.disks) }
         ensures failed { result ≡ Err DiskFault.Device → K.faults self.old.disks < K.faults self.new.disks }
     {
         self.is_settled = false;

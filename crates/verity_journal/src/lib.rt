@@ -2,7 +2,8 @@
 //!
 //! A commit changes two devices, the data and the hash device, in many writes. A third device, the journal, gets all of them
 //! first: [`commit_through`] writes the plan behind a closed gate, opens the gate, makes the changes, and closes it. After a
-//! stop [`start`] makes again what an open gate's plan says, and does nothing where the gate is closed.
+//! stop [`start`] makes again what an open gate's plan says, and does nothing where the gate is closed. A journal begins with a
+//! magic and a version: a file that begins otherwise is none, and is never written.
 //!
 //! # The contract
 //!
@@ -18,8 +19,8 @@
 //!
 //! # Errors
 //!
-//! [`DiskFault`]: a device failed; there was too little memory, and nothing was changed; the journal isn't of this volume, and
-//! nothing was changed. After a failed device, [`start`] again.
+//! [`DiskFault`]: a device failed; there was too little memory, and nothing was changed; the file is no journal, or not of
+//! this volume, and nothing was changed. After a failed device, [`start`] again.
 #![tactic(auto)]
 
 mod changing;
@@ -27,6 +28,7 @@ mod disks;
 mod file_device;
 mod file_log;
 mod files;
+mod head;
 mod journal;
 mod keeper;
 pub mod laws;
@@ -41,6 +43,7 @@ mod three;
 pub use disks::{Device, DiskFault, Disks};
 pub use file_device::FileDevice;
 pub use files::FileDisks;
+pub use head::{GATE_END, Gate, gate_of};
 pub use journal::{commit_through, spell};
 pub use keeper::Keeper;
 pub use memory::TearingDisks;

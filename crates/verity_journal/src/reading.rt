@@ -1,7 +1,9 @@
 //! Reads a plan from a journal's bytes. Any bytes may stand there: a stop may have cut the journal anywhere.
 ghost use Rattle.std.specs.Prelude.{◌≡◌, ◌++◌, [], ◌∷◌, List, ℕ, true, false, None, Some, IfOk, IfSome, IfNone};
-ghost use Rattle.verity_journal.specs.Journal.{read_number, read_bytes, read_change, read_changes, read_side, read_plan, plan_of};
+ghost use Rattle.verity_journal.specs.Journal.{read_number, read_bytes, read_change, read_changes, read_side, read_plan};
+ghost use Rattle.verity_journal.specs.Journal.{gated_plan, plan_of};
 
+use crate::head::behind_head;
 use crate::{Change, Plan, Side};
 use std::alloc::{AllocError, Allocator};
 use std::marker::Model;
@@ -144,8 +146,8 @@ pub fn parse<A: Allocator + Copy>(alloc: A, bytes: &[u8]) -> Result<Option<Plan<
     Ok(Some(Plan::new(names, on_data, on_hash)))
 }
 
-/// The plan of a journal, where its gate is open and a whole one stands behind it. A gate is closed where its byte is 0.
-#[tactic(auto, using(crate::proofs::Gates::opened_is))]
+/// The plan of a journal, where its gate is open and a whole one stands behind it. A gate is closed where its byte is 0. None where the
+/// bytes are no journal's.
 pub fn parse_journal<A: Allocator + Copy>(
     alloc: A,
     journal: &[u8],
@@ -153,7 +155,19 @@ pub fn parse_journal<A: Allocator + Copy>(
     ensures some { IfOk result (λ r. IfSome r (λ plan. plan_of journal.now ≡ Some plan)) }
     ensures none { IfOk result (λ r. IfNone r (plan_of journal.now ≡ None)) }
 {
-    let [gate, rest @ ..] = journal else {
+    match behind_head(journal) {
+        Some(gated) => parse_gated(alloc, gated),
+        None => Ok(None),
+    }
+}
+
+/// The plan of what stands behind a journal's head, where the gate is open and a whole one stands behind it.
+#[tactic(auto, using(crate::proofs::Gates::opened_is))]
+fn parse_gated<A: Allocator + Copy>(alloc: A, gated: &[u8]) -> Result<Option<Plan<A>>, AllocError>
+    ensures some { IfOk result (λ r. IfSome r (λ plan. gated_plan gated.now ≡ Some plan)) }
+    ensures none { IfOk result (λ r. IfNone r (gated_plan gated.now ≡ None)) }
+{
+    let [gate, rest @ ..] = gated else {
         return Ok(None);
     };
     if *gate == 0 {

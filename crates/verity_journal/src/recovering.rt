@@ -2,9 +2,10 @@
 ghost use Rattle.std.specs.Prelude.{◌≡◌, ◌≢◌, ◌⊎◌, ◌≤◌, ◌<◌, List, ℕ, [], ◌∷◌, length, Some, None, Err, OnOk, OnErr, IfOk, IfErr};
 ghost use Rattle.verity_journal.specs.declared.disks.Device.TheVariants.{Data, Hash, Journal};
 ghost use Rattle.verity_journal.specs.Disks.{Contents, put, Only, Stays, Elapses, LeavesOnly, IsDurable};
-ghost use Rattle.verity_journal.specs.Journal.{plan_of, IsSettled, IsForeign, pair_of, recovered_pair};
+ghost use Rattle.verity_journal.specs.Journal.{plan_of, IsJournal, IsSettled, IsForeign, pair_of, recovered_pair};
 
 use crate::changing::write_synced;
+use crate::head::{Gate, SHUT, gate_of};
 use crate::journal::carry_out;
 use crate::reading::parse_journal;
 use crate::{Device, DiskFault, Disks, Plan};
@@ -33,7 +34,8 @@ fn read_all<K: Disks, A: Allocator + Copy>(
     Ok(bytes)
 }
 
-/// Closes a gate behind which no plan stands.
+/// Ends the making of a journal's head by a closed gate: where no more than a beginning of it stands there, 13 bytes are written. Where the
+/// gate is closed nothing is done. Foreign where the bytes are no journal's: nothing is changed.
 fn shut<K: Disks>(disks: &mut K, journal: &[u8]) -> Result<(), DiskFault>
     requires durable { IsDurable (K.seen disks.old) (K.may_leave disks.old) }
     requires journal { journal.now ≡ K.seen disks.old Journal }
@@ -41,16 +43,23 @@ fn shut<K: Disks>(disks: &mut K, journal: &[u8]) -> Result<(), DiskFault>
     ensures volume { OnOk result (pair_of (K.seen disks.new) ≡ recovered_pair (K.seen disks.old)) }
     ensures settled { OnOk result (IsSettled (K.seen disks.new) (K.may_leave disks.new)) }
     ensures any_moment { LeavesOnly K.moment K.left_since disks.old disks.new (λ c. recovered_pair c ≡ recovered_pair (K.seen disks.old)) }
-    ensures error { IfErr result (λ e. e ≡ DiskFault.Device) }
-    ensures failed { OnErr result (K.faults disks.old < K.faults disks.new) }
+    ensures journal { OnOk result (IsJournal (K.seen disks.old Journal)) }
+    ensures foreign { result ≡ Err DiskFault.Foreign → ¬ IsJournal (K.seen disks.old Journal) }
+    ensures untouched { ¬ IsJournal (K.seen disks.old Journal) → disks.new ≡ disks.old }
+    ensures own { result ≢ Err DiskFault.NoMemory }
+    ensures failed { result ≡ Err DiskFault.Device → K.faults disks.old < K.faults disks.new }
     ensures faults { K.faults disks.old ≤ K.faults disks.new }
 {
-    // A gate that is closed stays untouched: a write that is cut short might open it.
-    if let [0, ..] = journal {
-        return Ok(());
+    match gate_of(journal) {
+        // A gate that is closed stays untouched: a write that is cut short might open it.
+        Gate::Closed => Ok(()),
+        Gate::Begun => {
+            write_synced(disks, Device::Journal, 0, &SHUT)?;
+            Ok(())
+        }
+        // A stop leaves no open gate without its plan, which is synced before.
+        Gate::Open | Gate::Foreign => Err(DiskFault::Foreign),
     }
-    write_synced(disks, Device::Journal, 0, &[0])?;
-    Ok(())
 }
 
 /// Makes the changes of an open journal again.
@@ -74,15 +83,19 @@ fn redo<K: Disks, A: Allocator>(disks: &mut K, plan: &Plan<A>) -> Result<(), Dis
 /// the devices stand for the same volume.
 ///
 /// Where the gate is closed it only reads the journal. It takes as much memory as the journal's bytes, twice. With too little,
-/// or where a device is shorter than what the plan keeps of it, nothing was changed.
+/// or where a device is shorter than what the plan keeps of it, nothing was changed. Where the bytes are no journal's nothing is ever
+/// changed, and Foreign is the answer.
 pub fn recover<K: Disks, A: Allocator + Copy>(alloc: A, disks: &mut K) -> Result<(), DiskFault>
     requires { IsDurable (K.seen disks.old) (K.may_leave disks.old) }
     ensures volume { OnOk result (pair_of (K.seen disks.new) ≡ recovered_pair (K.seen disks.old)) }
     ensures settled { OnOk result (IsSettled (K.seen disks.new) (K.may_leave disks.new)) }
     ensures any_moment { LeavesOnly K.moment K.left_since disks.old disks.new (λ c. recovered_pair c ≡ recovered_pair (K.seen disks.old)) }
     ensures memory { result ≡ Err DiskFault.NoMemory → K.seen disks.new ≡ K.seen disks.old }
+    ensures journal { OnOk result (IsJournal (K.seen disks.old Journal)) }
     ensures foreign { result ≡ Err DiskFault.Foreign → IsForeign (K.seen disks.old) }
     ensures foreign_stays { result ≡ Err DiskFault.Foreign → K.seen disks.new ≡ K.seen disks.old }
+    ensures untouched { ¬ IsJournal (K.seen disks.old Journal) → K.seen disks.new ≡ K.seen disks.old }
+    ensures untouched_crash { ¬ IsJournal (K.seen disks.old Journal) → Stays (K.may_leave disks.old) (K.may_leave disks.new) }
     ensures failed { result ≡ Err DiskFault.Device → K.faults disks.old < K.faults disks.new }
 {
     let journal = read_all(alloc, disks, Device::Journal)?;
@@ -91,8 +104,7 @@ pub fn recover<K: Disks, A: Allocator + Copy>(alloc: A, disks: &mut K) -> Result
         Err(_) => return Err(DiskFault::NoMemory),
     };
     let Some(plan) = plan else {
-        shut(disks, &journal)?;
-        return Ok(());
+        return shut(disks, &journal);
     };
     if disks.len(Device::Data) < plan.data().keep()
         || disks.len(Device::Hash) < plan.hash().keep()
@@ -105,14 +117,20 @@ pub fn recover<K: Disks, A: Allocator + Copy>(alloc: A, disks: &mut K) -> Result
 
 /// Syncs all three devices, so that what is read is what a stop leaves, and recovers. It asks nothing of the devices, and may be
 /// stopped: at any moment a stop leaves what it might have left before the call, or the volume that the devices stand for.
+///
+/// A stop while a journal's head is first written may leave bytes that aren't a beginning of it. They are no journal's then: Foreign until
+/// the file is removed, and no change is lost, since none was made before the head was synced.
 pub fn start<K: Disks, A: Allocator + Copy>(alloc: A, disks: &mut K) -> Result<(), DiskFault>
     ensures volume { OnOk result (pair_of (K.seen disks.new) ≡ recovered_pair (K.seen disks.old)) }
     ensures settled { OnOk result (IsSettled (K.seen disks.new) (K.may_leave disks.new)) }
     ensures any_moment { LeavesOnly K.moment K.left_since disks.old disks.new
         (λ c. K.may_leave disks.old c ⊎ (recovered_pair c ≡ recovered_pair (K.seen disks.old))) }
     ensures memory { result ≡ Err DiskFault.NoMemory → K.seen disks.new ≡ K.seen disks.old }
+    ensures journal { OnOk result (IsJournal (K.seen disks.old Journal)) }
     ensures foreign { result ≡ Err DiskFault.Foreign → IsForeign (K.seen disks.old) }
     ensures foreign_stays { result ≡ Err DiskFault.Foreign → K.seen disks.new ≡ K.seen disks.old }
+    ensures untouched { ¬ IsJournal (K.seen disks.old Journal) → K.seen disks.new ≡ K.seen disks.old }
+    ensures untouched_crash { ¬ IsJournal (K.seen disks.old Journal) → Stays (K.may_leave disks.old) (K.may_leave disks.new) }
     ensures failed { result ≡ Err DiskFault.Device → K.faults disks.old < K.faults disks.new }
 {
     disks.sync(Device::Data)?;

@@ -18,6 +18,7 @@ pub struct Staged<S: BlockStore, A: Allocator + Copy = Global> {
     store: S,
     stage: Stage<A>,
     read_count: Count,
+    change_count: Count,
     failed: Count,
     given: Given,
     is_starved: bool,
@@ -46,6 +47,7 @@ impl<S: BlockStore, A: Allocator + Copy> Staged<S, A> {
             store,
             stage: Stage::new(alloc, size, blocks),
             read_count: Count::new(),
+            change_count: Count::new(),
             failed: Count::new(),
             given: Given::new(),
             is_starved: false,
@@ -98,6 +100,8 @@ impl<S: BlockStore, A: Allocator + Copy> BlockStore for Staged<S, A> {
 
     ghost reads = { λ s. s.read_count.steps };
 
+    ghost changes = { λ s. s.change_count.steps };
+
     ghost room = { λ _. 2 ^ 41 };
 
     ghost fixed = { λ s. below_of (S.content s.store) };
@@ -122,6 +126,7 @@ impl<S: BlockStore, A: Allocator + Copy> BlockStore for Staged<S, A> {
     }
 
     fn write(&mut self, n: u64, block: &[u8]) -> Result<(), StoreFault> {
+        self.change_count.step();
         match self.stage.write(n, block) {
             Ok(()) => Ok(()),
             Err(_) => {
@@ -137,6 +142,7 @@ impl<S: BlockStore, A: Allocator + Copy> BlockStore for Staged<S, A> {
     }
 
     fn set_len(&mut self, blocks: u64) -> Result<(), StoreFault> {
+        self.change_count.step();
         self.stage.resize(blocks);
         Ok(())
     }

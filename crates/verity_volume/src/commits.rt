@@ -7,7 +7,7 @@ use crate::staging::StagedEdits;
 use verity_commit::CommitFault;
 use verity_edit::{Committed, EditFault};
 use verity_files::{Fault, Opened, Paths};
-use verity_gate::{FileKeeper, fault_of_disks, make_journal};
+use verity_gate::{FileKeeper, fault_of_disks, make_journal, names_of_volume};
 use verity_store::StoreFault;
 
 /// How the commits of an editor of the type `V` reach a volume's files.
@@ -62,6 +62,7 @@ pub struct Journalled<'a, P> {
     rt: &'a P,
     path: &'a str,
     names: &'a str,
+    offset: u64,
     data: Opened,
     hash: Opened,
     keeper: Option<FileKeeper>,
@@ -70,7 +71,8 @@ pub struct Journalled<'a, P> {
 }
 
 impl<'a, P: Paths + AllocGlobal> Journalled<'a, P> {
-    /// Over these files, and a journal at this path, which has these names of them: where it was there, with what was found.
+    /// Over these files, and a journal at this path, which has these names of them beside the volume's UUID and the offset of its
+    /// superblock: where it was there, with what was found.
     pub fn new(
         rt: &'a P,
         path: &'a str,
@@ -92,12 +94,20 @@ impl<'a, P: Paths + AllocGlobal> Journalled<'a, P> {
             rt,
             path,
             names,
+            offset: 0,
             data,
             hash,
             keeper,
             is_staged: false,
             is_broken: false,
         }
+    }
+
+    /// Notes the byte offset of the volume's superblock in HASH, which the journal has beside its UUID: at first it is 0.
+    pub fn note_offset(&mut self, offset: u64)
+        ensures { self.new ≡ record self.old { offset = offset } }
+    {
+        self.offset = offset;
     }
 
     /// The volume's files, once more: DATA and HASH. S1 or want of memory, where the system refuses one of them.
@@ -150,7 +160,12 @@ impl<'a, P: Paths + AllocGlobal, V: StagedEdits> Commits<V> for Journalled<'a, P
         let Some(keeper) = &mut self.keeper else {
             return (editor, Err(Fault::Journal));
         };
-        let (editor, done) = editor.commit_through(self.rt.alloc(), keeper, self.names.as_bytes());
+        let alloc = self.rt.alloc();
+        let uuid = editor.superblock().uuid();
+        let Ok(names) = names_of_volume(alloc, uuid, self.offset, self.names) else {
+            return (editor, Err(Fault::Store(StoreFault::NoMemory)));
+        };
+        let (editor, done) = editor.commit_through(alloc, keeper, &names);
         let answer = match done {
             Ok(committed) => {
                 self.is_staged = true;

@@ -41,6 +41,16 @@ pub struct Sizes {
     pub hash_room: u64,
 }
 
+impl Sizes {
+    /// The byte offset of the superblock, which is the hash block in front of the tree; 0 where the tree has none in front of it.
+    pub fn superblock_offset(&self) -> u64
+        ensures { result ≡ min ((self.now.hash_start_block - 1) * self.now.hash_block_size) (2 ^ 64 - 1) }
+    {
+        let block = self.hash_start_block.saturating_sub(1);
+        block.saturating_mul(self.hash_block_size as u64)
+    }
+}
+
 /// Opens both files and takes their locks. That there is no DATA is told only once HASH was found to hold a superblock. HASH isn't
 /// understood where it leads to the file that DATA leads to.
 pub fn open_both<P: Paths>(

@@ -115,7 +115,7 @@ pub trait StagedEdits: Edits {
         ensures fresh { OnOk result (starved self.new ≡ false) }
         ensures refused { IfErr result (IsOfStores (P.refuses rt.now ≡ true)) };
 
-    /// Commits, and brings what is staged through a journal, which has these names of the files, to them. The editor comes back.
+    /// Commits, and brings what is staged through a journal, which has these names of the volume, to the files. The editor comes back.
     fn commit_through(
         self,
         alloc: Global,

@@ -142,6 +142,7 @@ pub(crate) fn do_staged<R: Paths + Clock + Eprint + AllocGlobal, T: Work, W: Wri
 {
     let (data, hash) = commits.files()?;
     let volume = open_volume(rt, &line, words.offset, Ok(data), hash)?;
+    commits.note_offset(volume.sizes.superblock_offset());
     work.see(rt, volume.sizes.data_block_size)?;
     run_through(rt, words, line, work, volume, commits, output, errors)
 }

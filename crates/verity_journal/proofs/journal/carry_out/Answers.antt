@@ -75,7 +75,7 @@ returns-clause-any_moment g c =
     c.in_ok-make-2.ensures.made ∙ ap (λ (s : Side). put Hash (made s (g.K.Disks.seen mid Hash)) (g.K.Disks.seen mid)) c.hash.ensures in
     let both = durable_after Hash (Amid c.hash.result.now) _ _ _ _ _ durable c.in_ok-make-2.ensures.made c.make-2.ensures.crash
     c.in_ok-make-2.ensures.durable in
-    let closing : (f : Contents) → Reached Journal (Torn 0 1) (g.K.Disks.may_leave last) f → P f =
+    let closing : (f : Contents) → Reached Journal (Torn 12 1) (g.K.Disks.may_leave last) f → P f =
     λ f r. close_is_new plan seen (g.K.Disks.seen mid) (g.K.Disks.seen last) (g.K.Disks.may_leave last) c.requires.suits
     c.requires.ready.opened both data_made hash_made f r in
     joined g.K.Disks.moment g.K.Disks.left_since old last c.write_synced.new.disks P _ second c.write_synced.ensures.any_moment closing
@@ -107,14 +107,14 @@ returns-clause-settled g c =
     c.in_ok-make-2.ensures.made ∙ ap (λ (s : Side). put Hash (made s (g.K.Disks.seen mid Hash)) (g.K.Disks.seen mid)) c.hash.ensures in
     let both = durable_after Hash (Amid c.hash.result.now) _ _ _ _ _ durable c.in_ok-make-2.ensures.made c.make-2.ensures.crash
     c.in_ok-make-2.ensures.durable in
-    let closing : (f : Contents) → Reached Journal (Torn 0 1) (g.K.Disks.may_leave last) f → P f =
+    let closing : (f : Contents) → Reached Journal (Torn 12 1) (g.K.Disks.may_leave last) f → P f =
     λ f r. close_is_new plan seen (g.K.Disks.seen mid) (g.K.Disks.seen last) (g.K.Disks.may_leave last) c.requires.suits
     c.requires.ready.opened both data_made hash_made f r in
     let gated = still_gated plan seen (g.K.Disks.seen mid) (g.K.Disks.seen last) (g.K.Disks.may_leave last) c.requires.suits
     c.requires.ready.opened both data_made hash_made in
     let shut = gate_written plan 0 (g.K.Disks.seen last Journal) gated in
     record {
-      durable = durable_after Journal (Torn 0 1) _ _ _ _ _ both c.in_ok-write_synced.ensures.written c.write_synced.ensures.crash
+      durable = durable_after Journal (Torn 12 1) _ _ _ _ _ both c.in_ok-write_synced.ensures.written c.write_synced.ensures.crash
           c.in_ok-write_synced.ensures.durable;
       closed = (shut.0, ap (λ (f : Contents). f Journal) c.in_ok-write_synced.ensures.written ∙ shut.1);
     }
@@ -146,7 +146,7 @@ returns-in_err-write_synced-clause-any_moment g c =
     c.in_ok-make-2.ensures.made ∙ ap (λ (s : Side). put Hash (made s (g.K.Disks.seen mid Hash)) (g.K.Disks.seen mid)) c.hash.ensures in
     let both = durable_after Hash (Amid c.hash.result.now) _ _ _ _ _ durable c.in_ok-make-2.ensures.made c.make-2.ensures.crash
     c.in_ok-make-2.ensures.durable in
-    let closing : (f : Contents) → Reached Journal (Torn 0 1) (g.K.Disks.may_leave last) f → P f =
+    let closing : (f : Contents) → Reached Journal (Torn 12 1) (g.K.Disks.may_leave last) f → P f =
     λ f r. close_is_new plan seen (g.K.Disks.seen mid) (g.K.Disks.seen last) (g.K.Disks.may_leave last) c.requires.suits
     c.requires.ready.opened both data_made hash_made f r in
     joined g.K.Disks.moment g.K.Disks.left_since old last c.write_synced.new.disks P _ second c.write_synced.ensures.any_moment closing

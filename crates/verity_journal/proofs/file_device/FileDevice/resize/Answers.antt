@@ -1,4 +1,4 @@
-use Rattle.std.proofs.Common.{◌≡◌, length, sym, ap, ◌∙◌}
+use Rattle.std.proofs.Common.{length, sym, ap, ◌∙◌}
 use Rattle.verity_journal.specs.Tearing.{read_of, resized}
 use Rattle.verity_journal.proofs.FileLemmas.{none_set}
 use Rattle.verity_journal.proofs.Made.{length-with_length}
