@@ -14,6 +14,12 @@ fn hashed_at_last(replies: &[Reply]) -> Option<u64> {
     match replies {
         [Reply::Done, Reply::Committed(committed)] => Some(committed.hashed),
         [Reply::Done, Reply::Done, Reply::Committed(committed)] => Some(committed.hashed),
+        [
+            Reply::Done,
+            Reply::Done,
+            Reply::Done,
+            Reply::Committed(committed),
+        ] => Some(committed.hashed),
         _ => None,
     }
 }
@@ -44,6 +50,45 @@ fn a_commit_reads_no_data_block(rt: HostRuntime) -> Result<(), Fail> {
     let (hashed, is_same) = add_a_block(rt.alloc())?;
     assert!(rt;
         hashed.is_some_and(|hashed| hashed <= 3),
+        "hashed: {hashed:?}"
+    );
+    assert!(rt; is_same);
+    Ok(())
+}
+
+// The volume of 17 blocks whose first two have other bytes, made from scratch.
+fn with_two_blocks(alloc: Global) -> Result<BuiltVolume, Fail> {
+    let mut bytes = image(alloc, 17)?;
+    let mut byte = 9u8;
+    for block in bytes.chunks_mut(SIZE) {
+        if byte > 7 {
+            block.fill(byte);
+            byte = byte.wrapping_sub(1);
+        }
+    }
+    make_volume(alloc, MemStore::new(bytes, SIZE)?)
+}
+
+// Two blocks of 17 are written, the first of them twice: how many blocks are hashed by the commit, and whether the stores then hold the
+// volume with what was written last.
+fn write_a_block_twice(alloc: Global) -> Result<(Option<u64>, bool), Fail> {
+    let asked = [
+        Step::Write(0, 7),
+        Step::Write(1, 8),
+        Step::Write(0, 9),
+        Step::Commit,
+    ];
+    let left = left_by(alloc, volume_of(alloc, 17)?, NO_FAILURES, &asked)?;
+    let is_same = is_left(&left, &with_two_blocks(alloc)?);
+    Ok((hashed_at_last(&left.replies), is_same))
+}
+
+// A block that is written twice is hashed once: both blocks, their level-0 block and the top.
+#[test]
+fn a_block_that_is_written_twice(rt: HostRuntime) -> Result<(), Fail> {
+    let (hashed, is_same) = write_a_block_twice(rt.alloc())?;
+    assert!(rt;
+        hashed.is_some_and(|hashed| hashed <= 4),
         "hashed: {hashed:?}"
     );
     assert!(rt; is_same);

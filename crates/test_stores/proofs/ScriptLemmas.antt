@@ -16,6 +16,7 @@ pub record ReadTells (old new : Script) (n : ℕ) (out : List ℕ) (result : Res
   pub unfailed : OnOk result (new.failures ≡ old.failures)
   pub failures : old.failures ≤ new.failures
   pub counted : new.reads ≡ old.reads + 1
+  pub changes : new.changes ≡ old.changes
   pub blocks : new.blocks ≡ old.blocks
   pub size : new.size ≡ old.size
   pub gave : GoesOn old.given new.given
@@ -29,6 +30,7 @@ read_fails n old out = record {
   unfailed = tt;
   failures = omega arith;
   counted = refl;
+  changes = refl;
   blocks = refl;
   size = refl;
   gave = goes_on_same old.given;
@@ -45,6 +47,7 @@ read_gives n block old u whole =
       unfailed = refl;
       failures = omega arith;
       counted = refl;
+      changes = refl;
       blocks = refl;
       size = refl;
       gave = goes_on_push old.given _ (n, block) refl;

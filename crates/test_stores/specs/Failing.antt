@@ -2,7 +2,8 @@
 use Rattle.std.specs.Prelude.{ℕ, ◌+◌, ◌-◌, ◌^◌, min, Bool, false, ◌||◌, ◌==◌, nat_le, Option, None, Some}
 
 -- the store below; which call fails, counted from 1 (0 for none); after how many reads each one fails (None for never);
--- the calls and the reads so far, which stay at the greatest u64; and how many calls, and reads among them, it made fail
+-- the calls and the reads so far, which stay at the greatest u64; how many calls, and reads among them, it made fail; and how many
+-- changes were asked for
 pub record Failing (S : Type 0) : Type 0 where
   pub store : S
   pub due : ℕ
@@ -11,10 +12,20 @@ pub record Failing (S : Type 0) : Type 0 where
   pub reads : ℕ
   pub failed : ℕ
   pub refused : ℕ
+  pub changes : ℕ
 
 -- nothing was asked yet
 abbrev pub failing_at : {S : Type 0} → S → ℕ → Option ℕ → Failing S
-failing_at store due allowed = record { store = store; due = due; allowed = allowed; calls = 0; reads = 0; failed = 0; refused = 0 }
+failing_at store due allowed = record {
+  store = store;
+  due = due;
+  allowed = allowed;
+  calls = 0;
+  reads = 0;
+  failed = 0;
+  refused = 0;
+  changes = 0;
+}
 
 abbrev pub one_more : ℕ → ℕ
 one_more n = min (n + 1) (2 ^ 64 - 1)
@@ -38,6 +49,10 @@ after_call s store = record s { store = store; calls = one_more s.calls }
 -- a read was passed on, and left this store
 abbrev pub after_read : {S : Type 0} → Failing S → S → Failing S
 after_read s store = record s { store = store; calls = one_more s.calls; reads = one_more s.reads }
+
+-- a change was asked for
+abbrev pub asked_change : {S : Type 0} → Failing S → Failing S
+asked_change s = record s { changes = s.changes + 1 }
 
 -- a call failed, and the store below wasn't asked
 abbrev pub after_failed_call : {S : Type 0} → Failing S → Failing S

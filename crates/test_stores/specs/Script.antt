@@ -18,7 +18,7 @@ abbrev pub IsSized : {A : Type 0} → ℕ → Answer A → Type 0
 IsSized size answer = answer_len size answer ≡ size
 
 -- a script's store: its size and length, the blocks of the answers that are left (None for a fault), the next one first,
--- what was given for which numbers, in order, and its two counts
+-- what was given for which numbers, in order, and its three counts
 pub record Script : Type 0 where
   pub size : ℕ
   pub blocks : ℕ
@@ -26,6 +26,7 @@ pub record Script : Type 0 where
   pub given : List (ℕ × List ℕ)
   pub reads : ℕ
   pub failures : ℕ
+  pub changes : ℕ
 
 -- the block that the next read gives, if it gives one
 abbrev pub next_block : List (Option (List ℕ)) → Option (List ℕ)
@@ -45,3 +46,7 @@ after_read n (Some block) s = record s { answers = later_answers s.answers; read
 -- what a call that only fails leaves
 abbrev pub after_fault : Script → Script
 after_fault s = record s { failures = s.failures + 1 }
+
+-- what a change leaves, which is refused
+abbrev pub after_change : Script → Script
+after_change s = record s { failures = s.failures + 1; changes = s.changes + 1 }

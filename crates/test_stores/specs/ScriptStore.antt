@@ -13,6 +13,7 @@ script_of s =
       given = s.given.items;
       reads = s.read_count.steps;
       failures = s.failed.steps;
+      changes = s.changed.steps;
     }
 
 -- the size is one of the profile, all blocks have it, and there is room to keep all that is left

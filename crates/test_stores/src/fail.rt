@@ -20,6 +20,7 @@ pub struct FailStore<S: BlockStore> {
     reads: u64,
     failed: Count,
     refused: Count,
+    changed: Count,
 }
 
 impl<S: BlockStore> Model for FailStore<S> {
@@ -35,6 +36,7 @@ impl<S: BlockStore> Model for FailStore<S> {
       reads = s.reads;
       failed = s.failed.steps;
       refused = s.refused.steps;
+      changes = s.changed.steps;
     } };
 }
 
@@ -72,6 +74,7 @@ impl<S: BlockStore> FailStore<S> {
             reads: 0,
             failed: Count::new(),
             refused: Count::new(),
+            changed: Count::new(),
         }
     }
 
@@ -87,6 +90,7 @@ impl<S: BlockStore> FailStore<S> {
             reads: 0,
             failed: Count::new(),
             refused: Count::new(),
+            changed: Count::new(),
         }
     }
 
@@ -150,6 +154,7 @@ impl<S: BlockStore> BlockStore for FailStore<S> {
     ghost use Rattle.verity_store.specs.Given.{GoesOn};
     ghost use Rattle.verity_store.specs.Blocks.{resized, ResizedToward, ChangesAt};
     ghost use Rattle.test_stores.specs.Failing.{is_call_due, is_read_due, after_call, after_read, after_failed_call, after_failed_read};
+    ghost use Rattle.test_stores.specs.Failing.{asked_change};
 
     ghost size = { λ s. S.size s.store };
 
@@ -162,6 +167,8 @@ impl<S: BlockStore> BlockStore for FailStore<S> {
     ghost failures = { λ s. S.failures s.store + s.failed };
 
     ghost reads = { λ s. S.reads s.store + s.refused };
+
+    ghost changes = { λ s. s.changes };
 
     ghost room = { λ s. S.room s.store };
 
@@ -190,6 +197,7 @@ impl<S: BlockStore> BlockStore for FailStore<S> {
         ensures unfailed { OnOk result (S.failures self.new.store + self.new.failed ≡ S.failures self.old.store + self.old.failed) }
         ensures failures { S.failures self.old.store + self.old.failed ≤ S.failures self.new.store + self.new.failed }
         ensures counted { S.reads self.new.store + self.new.refused ≡ S.reads self.old.store + self.old.refused + 1 }
+        ensures changes { self.new.changes ≡ self.old.changes }
         ensures content { S.content self.new.store ≡ S.content self.old.store }
         ensures gave { GoesOn (S.given self.old.store) (S.given self.new.store) }
         ensures tells { S.tells self.new.store ≡ S.tells self.old.store }
@@ -206,8 +214,9 @@ impl<S: BlockStore> BlockStore for FailStore<S> {
     fn write(&mut self, n: u64, block: &[u8]) -> Result<(), StoreFault>
         requires within { n < length (S.content self.old.store) }
         requires sized { length block.now ≡ S.size self.old.store }
-        ensures due { is_call_due self.old ≡ true → (result ≡ Err StoreFault.Device) × (self.new ≡ after_failed_call self.old) }
-        ensures passed { is_call_due self.old ≡ false → self.new ≡ after_call self.old self.new.store }
+        ensures due { is_call_due self.old ≡ true
+            → (result ≡ Err StoreFault.Device) × (self.new ≡ after_failed_call (asked_change self.old)) }
+        ensures passed { is_call_due self.old ≡ false → self.new ≡ after_call (asked_change self.old) self.new.store }
         ensures written { OnOk result (S.tells self.old.store ≡ true
             → S.content self.new.store ≡ slice_set (S.content self.old.store) n block.now) }
         ensures others { ChangesAt n (S.content self.old.store) (S.content self.new.store) }
@@ -218,6 +227,7 @@ impl<S: BlockStore> BlockStore for FailStore<S> {
         ensures unfailed { OnOk result (S.failures self.new.store + self.new.failed ≡ S.failures self.old.store + self.old.failed) }
         ensures failures { S.failures self.old.store + self.old.failed ≤ S.failures self.new.store + self.new.failed }
         ensures reads { S.reads self.new.store + self.new.refused ≡ S.reads self.old.store + self.old.refused }
+        ensures counted { self.new.changes ≡ self.old.changes + 1 }
         ensures given { S.given self.new.store ≡ S.given self.old.store }
         ensures gave { GoesOn (S.given self.old.store) (S.given self.new.store) }
         ensures tells { S.tells self.new.store ≡ S.tells self.old.store }
@@ -225,6 +235,7 @@ impl<S: BlockStore> BlockStore for FailStore<S> {
         ensures fixed { S.fixed self.new.store ≡ S.fixed self.old.store }
         ensures room { S.room self.new.store ≡ S.room self.old.store }
     {
+        self.changed.step();
         if self.fails_call() {
             return Err(StoreFault::Device);
         }
@@ -239,6 +250,7 @@ impl<S: BlockStore> BlockStore for FailStore<S> {
         ensures error { IfErr result (λ e. e ≡ StoreFault.NoMemory) }
         ensures failures { S.failures self.new.store + self.new.failed ≡ S.failures self.old.store + self.old.failed }
         ensures reads { S.reads self.new.store + self.new.refused ≡ S.reads self.old.store + self.old.refused }
+        ensures changes { self.new.changes ≡ self.old.changes }
         ensures content { S.content self.new.store ≡ S.content self.old.store }
         ensures given { S.given self.new.store ≡ S.given self.old.store }
         ensures gave { GoesOn (S.given self.old.store) (S.given self.new.store) }
@@ -252,8 +264,9 @@ impl<S: BlockStore> BlockStore for FailStore<S> {
 
     fn set_len(&mut self, blocks: u64) -> Result<(), StoreFault>
         requires { blocks ≤ 2 ^ 41 }
-        ensures due { is_call_due self.old ≡ true → (result ≡ Err StoreFault.Device) × (self.new ≡ after_failed_call self.old) }
-        ensures passed { is_call_due self.old ≡ false → self.new ≡ after_call self.old self.new.store }
+        ensures due { is_call_due self.old ≡ true
+            → (result ≡ Err StoreFault.Device) × (self.new ≡ after_failed_call (asked_change self.old)) }
+        ensures passed { is_call_due self.old ≡ false → self.new ≡ after_call (asked_change self.old) self.new.store }
         ensures done { OnOk result (S.content self.new.store ≡ resized (S.size self.old.store) blocks (S.content self.old.store)) }
         ensures partly { ResizedToward (S.size self.old.store) blocks (S.content self.old.store) (S.content self.new.store) }
         ensures blocks { AllSized (S.size self.old.store) (S.content self.old.store)
@@ -266,6 +279,7 @@ impl<S: BlockStore> BlockStore for FailStore<S> {
         ensures unfailed { OnOk result (S.failures self.new.store + self.new.failed ≡ S.failures self.old.store + self.old.failed) }
         ensures failures { S.failures self.old.store + self.old.failed ≤ S.failures self.new.store + self.new.failed }
         ensures reads { S.reads self.new.store + self.new.refused ≡ S.reads self.old.store + self.old.refused }
+        ensures counted { self.new.changes ≡ self.old.changes + 1 }
         ensures given { S.given self.new.store ≡ S.given self.old.store }
         ensures gave { GoesOn (S.given self.old.store) (S.given self.new.store) }
         ensures tells { S.tells self.new.store ≡ S.tells self.old.store }
@@ -273,6 +287,7 @@ impl<S: BlockStore> BlockStore for FailStore<S> {
         ensures fixed { S.fixed self.new.store ≡ S.fixed self.old.store }
         ensures room { S.room self.old.store ≤ S.room self.new.store }
     {
+        self.changed.step();
         if self.fails_call() {
             return Err(StoreFault::Device);
         }
@@ -288,6 +303,7 @@ impl<S: BlockStore> BlockStore for FailStore<S> {
         ensures unfailed { OnOk result (S.failures self.new.store + self.new.failed ≡ S.failures self.old.store + self.old.failed) }
         ensures failures { S.failures self.old.store + self.old.failed ≤ S.failures self.new.store + self.new.failed }
         ensures reads { S.reads self.new.store + self.new.refused ≡ S.reads self.old.store + self.old.refused }
+        ensures changes { self.new.changes ≡ self.old.changes }
         ensures content { S.content self.new.store ≡ S.content self.old.store }
         ensures given { S.given self.new.store ≡ S.given self.old.store }
         ensures gave { GoesOn (S.given self.old.store) (S.given self.new.store) }

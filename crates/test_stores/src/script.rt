@@ -23,6 +23,7 @@ pub struct ScriptStore<A: Allocator = Global> {
     given: Vec<(u64, Block<A>), A>,
     read_count: Count,
     failed: Count,
+    changed: Count,
 }
 
 impl<A: Allocator> Model for ScriptStore<A> {
@@ -59,7 +60,15 @@ impl<A: Allocator> ScriptStore<A> {
         answers: Vec<Answer<A>, A>,
     ) -> Result<ScriptStore<A>, StoreFault>
         ensures script { IfOk result (λ s. s
-            ≡ record { size = size; blocks = blocks; answers = map block_of answers.items; given = []; reads = 0; failures = 0 }) }
+            ≡ record {
+              size = size;
+              blocks = blocks;
+              answers = map block_of answers.items;
+              given = [];
+              reads = 0;
+              failures = 0;
+              changes = 0;
+            }) }
         ensures wrong_size { (result ≡ Err StoreFault.BlockSize) ↔ ¬ IsBlockSize size }
         ensures ragged { (result ≡ Err StoreFault.Ragged) ↔ (IsBlockSize size × ¬ All (IsSized size) answers.items) }
         ensures device { result ≢ Err StoreFault.Device }
@@ -82,6 +91,7 @@ impl<A: Allocator> ScriptStore<A> {
             given,
             read_count: Count::new(),
             failed: Count::new(),
+            changed: Count::new(),
         })
     }
 
@@ -97,7 +107,7 @@ impl<A: Allocator> ScriptStore<A> {
 impl<A: Allocator> BlockStore for ScriptStore<A> {
     ghost use Rattle.std.specs.Prelude.{◌≡◌, ℕ, ◌^◌, List, length, replicate, Contains, false, None, Some, IsOk};
     ghost use Rattle.verity_profile.specs.Profile.{zero_block};
-    ghost use Rattle.test_stores.specs.Script.{Script, next_block, after_read, after_fault};
+    ghost use Rattle.test_stores.specs.Script.{Script, next_block, after_read, after_fault, after_change};
 
     ghost size = { λ s. s.size };
 
@@ -110,6 +120,8 @@ impl<A: Allocator> BlockStore for ScriptStore<A> {
     ghost failures = { λ s. s.failures };
 
     ghost reads = { λ s. s.reads };
+
+    ghost changes = { λ s. s.changes };
 
     ghost room = { λ _. 2 ^ 41 };
 
@@ -146,8 +158,9 @@ impl<A: Allocator> BlockStore for ScriptStore<A> {
 
     fn write(&mut self, _n: u64, _block: &[u8]) -> Result<(), StoreFault>
         ensures refused { result ≡ Err StoreFault.Device }
-        ensures after { self.new ≡ after_fault self.old }
+        ensures after { self.new ≡ after_change self.old }
     {
+        self.changed.step();
         self.failed.step();
         Err(StoreFault::Device)
     }
@@ -161,8 +174,9 @@ impl<A: Allocator> BlockStore for ScriptStore<A> {
 
     fn set_len(&mut self, _blocks: u64) -> Result<(), StoreFault>
         ensures refused { result ≡ Err StoreFault.Device }
-        ensures after { self.new ≡ after_fault self.old }
+        ensures after { self.new ≡ after_change self.old }
     {
+        self.changed.step();
         self.failed.step();
         Err(StoreFault::Device)
     }

@@ -49,6 +49,7 @@ pub read_since : {H : Type 0} (hash : store.Ghosts H) (was : StoreFacts) (old ne
     → IsReadSince hash was new
 read_since hash was old new since read = record {
   content = read.content ∙ since.content;
+  changes = read.changes ∙ since.changes;
   fixed = read.later.fixed ∙ since.fixed;
   tells = read.later.tells ∙ since.tells;
   size = read.later.size ∙ since.size;
@@ -186,6 +187,7 @@ checking_unread hash t h is = record {
   since = refl;
   read = record {
     content = refl;
+    changes = refl;
     fixed = refl;
     tells = refl;
     size = refl;

@@ -42,9 +42,9 @@ pub rows_same : (a b : StoreFacts) → rows_of a ≡ rows_of b → a ≡ b
 rows_same a b e =
     let end : StoreFacts → List (ℕ × List ℕ) = λ s. s.given ++ s.fixed in
     let front : StoreFacts → List (ℕ × List ℕ) = λ s. map (λ (block : List ℕ). (0, block)) s.content in
-    let many : length a.content ≡ length b.content = ap (λ xs. (head (tail (tail (tail (tail (tail xs)))))).0) e in
-    let few : length a.given ≡ length b.given = ap (λ xs. (head (tail (tail (tail (tail (tail (tail xs))))))).0) e in
-    let rest : front a ++ end a ≡ front b ++ end b = ap (λ xs. tail (tail (tail (tail (tail (tail (tail xs))))))) e in
+    let many : length a.content ≡ length b.content = ap (λ xs. (head (tail (tail (tail (tail (tail (tail xs))))))).0) e in
+    let few : length a.given ≡ length b.given = ap (λ xs. (head (tail (tail (tail (tail (tail (tail (tail xs)))))))).0) e in
+    let rest : front a ++ end a ≡ front b ++ end b = ap (λ xs. tail (tail (tail (tail (tail (tail (tail (tail xs)))))))) e in
     let long : length (front a) ≡ length (front b) = length-map a.content (λ (block : List ℕ). (0, block)) ∙ many
     ∙ sym (length-map b.content (λ (block : List ℕ). (0, block))) in
     let fronts : front a ≡ front b = sym (take-append_seam (front a) (end a)) ∙ (λ i. take (long i) (rest i))
@@ -67,6 +67,7 @@ rows_same a b e =
       failures = (head (tail (tail (e i)))).0;
       reads = (head (tail (tail (tail (e i))))).0;
       room = (head (tail (tail (tail (tail (e i)))))).0;
+      changes = (head (tail (tail (tail (tail (tail (e i))))))).0;
     }
 
 -- they are bound alike to one table line and to one store

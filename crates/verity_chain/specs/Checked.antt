@@ -16,8 +16,8 @@ IsAnswer t notes n block = ((n < t.hash_start_block) × (block ≡ zero_block t.
     Contains notes (record { number = n; block = block })
 
 -- the table line; the store below; the blocks that were read of it; those that were given; how many digests were made of blocks that
--- were read; how many reads were asked for, and how many refused; why the first of these was; how many blocks there are; how many
--- blocks the store below had given when this one was made; and all that was true of it then
+-- were read; how many reads were asked for, and how many refused; how many changes were asked for; why the first refused read was;
+-- how many blocks there are; how many blocks the store below had given when this one was made; and all that was true of it then
 pub record Checking (H : Type 0) : Type 0 where
   pub table : Table
   pub hash_store : H
@@ -26,6 +26,7 @@ pub record Checking (H : Type 0) : Type 0 where
   pub hashed : ℕ
   pub asked : ℕ
   pub refused : ℕ
+  pub changes : ℕ
   pub refusal : Option ReadRefused
   pub blocks : ℕ
   pub since : ℕ
@@ -81,6 +82,7 @@ unread hash t h = record {
   hashed = 0;
   asked = 0;
   refused = 0;
+  changes = 0;
   refusal = None;
   blocks = t.hash_start_block + tree_len t;
   since = length (hash.given h);

@@ -11,6 +11,7 @@ pub record StoreFacts : Type 0 where
   pub size : ℕ
   pub failures : ℕ
   pub reads : ℕ
+  pub changes : ℕ
   pub room : ℕ
 
 -- what is true of a store now
@@ -23,12 +24,14 @@ facts_of facts s = record {
   size = facts.size s;
   failures = facts.failures s;
   reads = facts.reads s;
+  changes = facts.changes s;
   room = facts.room s;
 }
 
 -- since that moment the store was only read
 pub record IsReadSince {S : Type 0} (facts : store.Ghosts S) (was : StoreFacts) (s : S) : Type 0 where
   pub content : facts.content s ≡ was.content
+  pub changes : facts.changes s ≡ was.changes
   pub fixed : facts.fixed s ≡ was.fixed
   pub tells : facts.tells s ≡ was.tells
   pub size : facts.size s ≡ was.size
@@ -40,4 +43,5 @@ pub record IsReadSince {S : Type 0} (facts : store.Ghosts S) (was : StoreFacts) 
 -- the same in numbers and lists of bytes, as a store is bound to them
 abbrev pub rows_of : StoreFacts → List (ℕ × List ℕ)
 rows_of was = (was.size, []) ∷ ((if was.tells then 1 else 0), []) ∷ (was.failures, []) ∷ (was.reads, []) ∷ (was.room, [])
-    ∷ (length was.content, []) ∷ (length was.given, []) ∷ map (λ block. (0, block)) was.content ++ (was.given ++ was.fixed)
+    ∷ (was.changes, []) ∷ (length was.content, []) ∷ (length was.given, [])
+    ∷ map (λ block. (0, block)) was.content ++ (was.given ++ was.fixed)

@@ -23,8 +23,8 @@ use verity_superblock::Table;
 ///
 /// A read is refused, with S1, where a block hasn't that digest, where the store below failed, and where memory was refused;
 /// `refusal` says which of these it was, and from then on each read is refused and asks nothing. It takes memory for each block
-/// that was read, and makes one digest of it, which is counted. It doesn't tell: what is written to it goes nowhere. Its `fixed`
-/// is its table line and what was true of the store below when this one was made, so no call puts another store in its place
+/// that was read, and makes one digest of it, which is counted. It doesn't tell: what is written to it is counted and goes nowhere.
+/// Its `fixed` is its table line and what was true of the store below when this one was made, so no call puts another store in its place
 /// unseen.
 #[derive(Drop)]
 pub struct Checked<H: BlockStore, A: Allocator + Copy + Drop = Global> {
@@ -36,6 +36,7 @@ pub struct Checked<H: BlockStore, A: Allocator + Copy + Drop = Global> {
     hashed: Count,
     asked: Count,
     refused: Count,
+    changed: Count,
     refusal: Option<ReadRefused>,
     blocks: u64,
     since: Mark,
@@ -55,6 +56,7 @@ impl<H: BlockStore, A: Allocator + Copy + Drop> Model for Checked<H, A> {
       hashed = s.hashed.steps;
       asked = s.asked.steps;
       refused = s.refused.steps;
+      changes = s.changed.steps;
       refusal = s.refusal;
       blocks = s.blocks;
       since = s.since.steps;
@@ -69,6 +71,7 @@ impl<H: BlockStore, A: Allocator + Copy + Drop> Model for Checked<H, A> {
       hashed = s.hashed.steps;
       asked = s.asked.steps;
       refused = s.refused.steps;
+      changes = s.changed.steps;
       refusal = s.refusal;
       blocks = s.blocks;
       since = s.since.steps;
@@ -149,6 +152,7 @@ impl<H: BlockStore, A: Allocator + Copy + Drop> Checked<H, A> {
             hashed: Count::new(),
             asked: Count::new(),
             refused: Count::new(),
+            changed: Count::new(),
             refusal: None,
             blocks,
             since,
@@ -204,6 +208,8 @@ impl<H: BlockStore, A: Allocator + Copy + Drop> BlockStore for Checked<H, A> {
 
     ghost reads = { λ s. s.asked };
 
+    ghost changes = { λ s. s.changes };
+
     ghost room = { λ _. 0 };
 
     ghost fixed = { λ s. bound_to s.table s.origin };
@@ -245,6 +251,7 @@ impl<H: BlockStore, A: Allocator + Copy + Drop> BlockStore for Checked<H, A> {
     }
 
     fn write(&mut self, _n: u64, _block: &[u8]) -> Result<(), StoreFault> {
+        self.changed.step();
         Ok(())
     }
 
@@ -256,6 +263,7 @@ impl<H: BlockStore, A: Allocator + Copy + Drop> BlockStore for Checked<H, A> {
     }
 
     fn set_len(&mut self, blocks: u64) -> Result<(), StoreFault> {
+        self.changed.step();
         if blocks == 0 {
             self.blocks = 0;
             return Ok(());

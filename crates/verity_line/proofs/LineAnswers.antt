@@ -71,6 +71,7 @@ stays_draft stored hashes old d size = record {
   data_store = stays_same stored old.data_store;
   hash_store = stays_same hashes old.hash_store;
   front = λ q below. refl;
+  broken = λ whole broken. absurd (true≢false (sym broken ∙ whole));
 }
 
 explains_ruled : {D H A : Type 0} (stored : store.Ghosts D) (hashes : store.Ghosts H) (command : Command A) (old : LineEditing D H)

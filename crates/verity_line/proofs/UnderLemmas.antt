@@ -201,6 +201,7 @@ module _ {H : Type 0} (hash : store.Ghosts H) (t : Table) (h : H) (new : Checkin
   pub read_then : IsOnlyRead hash h new.hash_store
   read_then = record {
     content = is.read.content ∙ ap (λ w. w.content) was_then;
+    changes = is.read.changes ∙ ap (λ w. w.changes) was_then;
     room = is.read.room ∙ ap (λ w. w.room) was_then;
     later = record {
       tells = is.read.tells ∙ ap (λ w. w.tells) was_then;
@@ -209,6 +210,7 @@ module _ {H : Type 0} (hash : store.Ghosts H) (t : Table) (h : H) (new : Checkin
       gave = subst (λ w. take (length w.given) (hash.given new.hash_store) ≡ w.given) was_then is.read.gave;
       failures = subst (λ w. w.failures ≤ hash.failures new.hash_store) was_then is.read.failures;
       reads = subst (λ w. w.reads ≤ hash.reads new.hash_store) was_then is.read.reads;
+      changes = let same = is.read.changes ∙ ap (λ w. w.changes) was_then in omega arith;
       room = let same = is.read.room ∙ ap (λ w. w.room) was_then in omega arith;
     };
   }

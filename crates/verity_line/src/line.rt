@@ -129,8 +129,9 @@ impl<D: BlockStore, H: BlockStore, A: Allocator + Copy + Drop> LineEditor<D, H, 
     ///
     /// The first that applies: E7; E14 with the first hash block that was read and hasn't the digest that is named for it, E5 where
     /// memory was refused, and E6 with the store of which a call failed, as they are met. On E14, on E5, and on E6 before the first
-    /// change, both stores and the pending edits are as they were, and the editor isn't broken. On E6 after it the editor is broken;
-    /// the blocks in front of the superblock's are as they were, and the line is the old one.
+    /// change, both stores and the pending edits are as they were, and the editor isn't broken. On E6 after it the editor is broken,
+    /// and only then: the data store, which is changed first, was asked for a change in this call. The blocks in front of the
+    /// superblock's are as they were, and the line is the old one.
     ///
     /// On E14 the hash store gave, for every image that fits the line, a block that isn't the image's own; from a store that tells
     /// and holds the image's tree there is none.
@@ -146,6 +147,7 @@ impl<D: BlockStore, H: BlockStore, A: Allocator + Copy + Drop> LineEditor<D, H, 
         ensures committed { IfOk result.1 (CommitsUnder D.BlockStore H.BlockStore self result.0) }
         ensures refused { IfErr result.1 (IsRefusalUnder D.BlockStore H.BlockStore self result.0) }
         ensures still_broken { self.broken ≡ true → result.0 ≡ self }
+        ensures broken { self.broken ≡ false → result.0.broken ≡ true → D.changes self.data_store < D.changes result.0.data_store }
         ensures unchanged { OnErr result.1 (result.0.broken ≡ self.broken
             → IsUnchanged D.BlockStore H.BlockStore (editing_of self) (editing_of result.0)) }
         ensures refused_reads { OnErr result.1 (result.0.broken ≡ false

@@ -1,6 +1,6 @@
 //! The plan of a commit under a trusted table line: each hash block that it reads is checked from the root down, so that
 //! the hash store need not be honest.
-ghost use Rattle.std.specs.Prelude.{◌≡◌, ℕ, ◌+◌, ◌-◌, ◌^◌, ◌≤◌, true, false, length, IfErr, IfOk, OnOk, OnErr};
+ghost use Rattle.std.specs.Prelude.{◌≡◌, ℕ, ◌+◌, ◌-◌, ◌^◌, ◌<◌, ◌≤◌, true, false, length, IfErr, IfOk, OnOk, OnErr};
 ghost use Rattle.verity_digest.specs.Hash.{size_of};
 ghost use Rattle.verity_geometry.specs.Geometry.{total_of};
 ghost use Rattle.verity_store.specs.Stores.{IsKept, IsOnlyRead, IsOnlyWritten, StaysStore};
@@ -234,6 +234,7 @@ pub fn commit_under<D: BlockStore, H: BlockStore, A: Allocator + Copy + Drop>(
     ensures refused { IfErr result.2 (ExplainsUncommitted D.BlockStore H.BlockStore tree (length (H.given hash_store)) data_store.old
         data_store.new hash_store result.1) }
     ensures whole { IfErr result.2 (LeavesWhole broken.new) }
+    ensures broken { broken.new ≡ true → D.changes data_store.old < D.changes data_store.new }
     ensures unfailed { OnOk result.2 ((D.failures data_store.new ≡ D.failures data_store.old)
         × (H.failures result.1 ≡ H.failures hash_store)) }
     ensures salted { hasher.new.salted ≡ hasher.old.salted }

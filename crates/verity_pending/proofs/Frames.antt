@@ -15,6 +15,7 @@ stays_then facts old now new first second =
       fixed = second.fixed ∙ first.fixed;
       gave = goes_on_then _ _ _ first.gave second.gave;
       failures = omega (arith, first.failures, second.failures);
+      changes = omega (arith, first.changes, second.changes);
       room = omega (arith, first.room, second.room);
     }
 
@@ -25,6 +26,7 @@ stays_of facts old new later = record {
   fixed = later.fixed;
   gave = later.gave;
   failures = later.failures;
+  changes = later.changes;
   room = later.room;
 }
 
@@ -40,6 +42,7 @@ pub kept_then : {S : Type 0} (facts : store.Ghosts S) (old now new : S) → IsKe
 kept_then facts old now new first second =
     record {
       content = second.content ∙ first.content;
+      changes = second.changes ∙ first.changes;
       reads = second.reads ∙ first.reads;
       later = later_then facts old now new first.later second.later;
     }
@@ -48,8 +51,8 @@ kept_then facts old now new first second =
 pub wrote : {S : Type 0} (facts : store.Ghosts S) (old now new : S) → IsOnlyWritten facts old now →
     facts.tells new ≡ facts.tells now → facts.size new ≡ facts.size now → facts.fixed new ≡ facts.fixed now
     → GoesOn (facts.given now) (facts.given new) → facts.failures now ≤ facts.failures new → facts.reads new ≡ facts.reads now
-    → facts.room now ≤ facts.room new → IsOnlyWritten facts old new
-wrote facts old now new first tells size fixed gave failures reads room =
+    → facts.changes now ≤ facts.changes new → facts.room now ≤ facts.room new → IsOnlyWritten facts old new
+wrote facts old now new first tells size fixed gave failures reads changes room =
     written_then facts old now new first (record {
       reads = reads;
       later = record {
@@ -59,6 +62,7 @@ wrote facts old now new first tells size fixed gave failures reads room =
         gave = gave;
         failures = failures;
         reads = omega arith;
+        changes = changes;
         room = room;
       };
     })

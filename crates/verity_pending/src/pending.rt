@@ -230,8 +230,8 @@ impl<A: Allocator + Copy> Pending<A> {
     }
 
     /// Makes a store that holds the committed image hold the working one, in room that it has: gives it the length, writes zeros
-    /// where blocks were dropped and others added again, and each block that was written. It reads nothing and takes no memory. Where
-    /// the store fails, some of this may be done.
+    /// where blocks were dropped and others added again, and each block that was written. It asks for a change, whatever is answered;
+    /// it reads nothing and takes no memory. Where the store fails, some of this may be done.
     pub fn apply<D: BlockStore>(&self, store: &mut D, zero: &[u8]) -> Result<(), StoreFailed>
         requires committed { length (D.content store.old) ≡ self.now.committed }
         requires size { D.size store.old ≡ self.now.size }
@@ -239,6 +239,7 @@ impl<A: Allocator + Copy> Pending<A> {
         requires reserved { self.now.working ≤ D.room store.old }
         ensures applied { OnOk result (D.tells store.old ≡ true → D.content store.new ≡ (edits_of (D.content store.old) self.now).working) }
         ensures len { OnOk result (length (D.content store.new) ≡ self.now.working) }
+        ensures changed { D.changes store.old < D.changes store.new }
         ensures fails { TellsFailure result (D.failures store.old) (D.failures store.new) }
         ensures written_only { IsOnlyWritten D.BlockStore store.old store.new }
     {

@@ -13,6 +13,7 @@ later_same facts s = record {
   gave = goes_on_same _;
   failures = omega arith;
   reads = omega arith;
+  changes = omega arith;
   room = omega arith;
 }
 
@@ -26,17 +27,19 @@ later_then facts old now new first second =
       gave = goes_on_then _ _ _ first.gave second.gave;
       failures = omega (arith, first.failures, second.failures);
       reads = omega (arith, first.reads, second.reads);
+      changes = omega (arith, first.changes, second.changes);
       room = omega (arith, first.room, second.room);
     }
 
 pub only_read_same : {S : Type 0} (facts : store.Ghosts S) (s : S) → IsOnlyRead facts s s
-only_read_same facts s = record { content = refl; room = refl; later = later_same facts s }
+only_read_same facts s = record { content = refl; changes = refl; room = refl; later = later_same facts s }
 
 pub only_read_then : {S : Type 0} (facts : store.Ghosts S) (old now new : S) → IsOnlyRead facts old now → IsOnlyRead facts now new →
     IsOnlyRead facts old new
 only_read_then facts old now new first second =
     record {
       content = second.content ∙ first.content;
+      changes = second.changes ∙ first.changes;
       room = second.room ∙ first.room;
       later = later_then facts old now new first.later second.later;
     }

@@ -11,6 +11,7 @@ pub record IsLater {S : Type 0} (facts : store.Ghosts S) (old new : S) : Type 0 
   pub gave : GoesOn (facts.given old) (facts.given new)
   pub failures : facts.failures old ≤ facts.failures new
   pub reads : facts.reads old ≤ facts.reads new
+  pub changes : facts.changes old ≤ facts.changes new
   pub room : facts.room old ≤ facts.room new
 
 -- the same, the count of reads aside
@@ -20,11 +21,13 @@ pub record StaysStore {S : Type 0} (facts : store.Ghosts S) (old new : S) : Type
   pub fixed : facts.fixed new ≡ facts.fixed old
   pub gave : GoesOn (facts.given old) (facts.given new)
   pub failures : facts.failures old ≤ facts.failures new
+  pub changes : facts.changes old ≤ facts.changes new
   pub room : facts.room old ≤ facts.room new
 
 -- what reads and syncs leave
 pub record IsOnlyRead {S : Type 0} (facts : store.Ghosts S) (old new : S) : Type 0 where
   pub content : facts.content new ≡ facts.content old
+  pub changes : facts.changes new ≡ facts.changes old
   pub room : facts.room new ≡ facts.room old
   pub later : IsLater facts old new
 
@@ -36,6 +39,7 @@ pub record IsOnlyWritten {S : Type 0} (facts : store.Ghosts S) (old new : S) : T
 -- what syncs and calls that make room leave
 pub record IsKept {S : Type 0} (facts : store.Ghosts S) (old new : S) : Type 0 where
   pub content : facts.content new ≡ facts.content old
+  pub changes : facts.changes new ≡ facts.changes old
   pub reads : facts.reads new ≡ facts.reads old
   pub later : IsLater facts old new
 

@@ -26,6 +26,7 @@ pub struct FileStore<F: RawFile> {
     size: usize,
     blocks: u64,
     read_count: Count,
+    change_count: Count,
     failed: Count,
     given: Given,
     ghost profile: { IsBlockSize size },
@@ -123,6 +124,7 @@ impl<F: RawFile> FileStore<F> {
             size,
             blocks: len / size64,
             read_count: Count::new(),
+            change_count: Count::new(),
             failed: Count::new(),
             given: Given::new(),
         })
@@ -212,6 +214,8 @@ impl<F: RawFile> BlockStore for FileStore<F> {
 
     ghost reads = { λ s. s.read_count.steps };
 
+    ghost changes = { λ s. s.change_count.steps };
+
     ghost room = { λ _. 2 ^ 41 };
 
     ghost synced = { λ s. F.synced s.file };
@@ -259,6 +263,7 @@ impl<F: RawFile> BlockStore for FileStore<F> {
     }
 
     fn write(&mut self, n: u64, block: &[u8]) -> Result<(), StoreFault> {
+        self.change_count.step();
         let at = n * self.size as u64;
         match self.file.write_all_at(at, block) {
             Ok(()) => Ok(()),
@@ -274,6 +279,7 @@ impl<F: RawFile> BlockStore for FileStore<F> {
     }
 
     fn set_len(&mut self, blocks: u64) -> Result<(), StoreFault> {
+        self.change_count.step();
         let len = blocks * self.size as u64;
         match self.file.set_byte_len(len) {
             Ok(()) => {
@@ -298,6 +304,7 @@ impl<F: RawFile> BlockStore for FileStore<F> {
         ensures unfailed { OnOk result (self.new.failed.steps ≡ self.old.failed.steps) }
         ensures failures { self.old.failed.steps ≤ self.new.failed.steps }
         ensures reads { self.new.read_count.steps ≡ self.old.read_count.steps }
+        ensures changes { self.new.change_count.steps ≡ self.old.change_count.steps }
         ensures content { file_blocks self.new.size self.new.blocks (F.bytes self.new.file)
             ≡ file_blocks self.old.size self.old.blocks (F.bytes self.old.file) }
         ensures given { self.new.given.blocks ≡ self.old.given.blocks }

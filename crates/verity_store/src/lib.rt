@@ -1,11 +1,11 @@
 //! Block stores: lists of blocks of one size that may fail and need not be honest.
 //!
-//! Its one contract is `BlockStore`. A contract over a store sees nine facts of it: its block `size`, its `content`, whether
+//! Its one contract is `BlockStore`. A contract over a store sees ten facts of it: its block `size`, its `content`, whether
 //! it `tells` (a read gives the block of `content`, a write puts it there), the list of the blocks that its reads gave, with
-//! their numbers (`given`), how often it failed (`failures`), how often it was read (`reads`), up to how many blocks it has
-//! `room`, whether it was asked to keep what was written (`synced`), and what it is bound to (`fixed`), which no call changes.
-//! Counts and lists have no bytes at run time. A run of blocks is read into one buffer by `read_run`: block by block, or, where
-//! a store has a way of its own as `FileStore` has, at once.
+//! their numbers (`given`), how often it failed (`failures`), how often it was read (`reads`), how often it was asked to change
+//! (`changes`), up to how many blocks it has `room`, whether it was asked to keep what was written (`synced`), and what it is
+//! bound to (`fixed`), which no call changes. Counts and lists have no bytes at run time. A run of blocks is read into one
+//! buffer by `read_run`: block by block, or, where a store has a way of its own as `FileStore` has, at once.
 //!
 //! Its faults are S1 to S4 (`StoreFault`). A call answers S1 only where `failures` rose in it.
 //!

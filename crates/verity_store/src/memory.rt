@@ -18,6 +18,7 @@ pub struct MemStore<A: Allocator = Global> {
     size: usize,
     blocks: u64,
     read_count: Count,
+    change_count: Count,
     given: Given,
     ghost profile: { IsBlockSize size },
     ghost whole: { vec_len bytes ≡ blocks * size },
@@ -66,6 +67,7 @@ impl<A: Allocator> MemStore<A> {
             size,
             blocks,
             read_count: Count::new(),
+            change_count: Count::new(),
             given: Given::new(),
         })
     }
@@ -92,6 +94,7 @@ impl<A: Allocator> MemStore<A> {
             size,
             blocks,
             read_count: Count::new(),
+            change_count: Count::new(),
             given: Given::new(),
         })
     }
@@ -117,6 +120,8 @@ impl<A: Allocator> BlockStore for MemStore<A> {
 
     ghost reads = { λ s. s.read_count.steps };
 
+    ghost changes = { λ s. s.change_count.steps };
+
     ghost room = { λ s. vec_capacity s.bytes / s.size };
 
     fn block_size(&self) -> usize {
@@ -135,6 +140,7 @@ impl<A: Allocator> BlockStore for MemStore<A> {
     }
 
     fn write(&mut self, n: u64, block: &[u8]) -> Result<(), StoreFault> {
+        self.change_count.step();
         let at = n as usize * self.size;
         put(&mut self.bytes, at, block);
         Ok(())
@@ -150,6 +156,7 @@ impl<A: Allocator> BlockStore for MemStore<A> {
     }
 
     fn set_len(&mut self, blocks: u64) -> Result<(), StoreFault> {
+        self.change_count.step();
         match self.bytes.resize(blocks as usize * self.size, 0) {
             Ok(()) => {
                 self.blocks = blocks;

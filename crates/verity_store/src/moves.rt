@@ -22,6 +22,7 @@ fn move_block<S: BlockStore>(
     ensures unfailed { OnOk result (S.failures store.new ≡ S.failures store.old) }
     ensures failures { S.failures store.old ≤ S.failures store.new }
     ensures reads { S.reads store.new ≡ S.reads store.old + 1 }
+    ensures changes { S.changes store.old ≤ S.changes store.new }
     ensures tells { S.tells store.new ≡ S.tells store.old }
     ensures size { S.size store.new ≡ S.size store.old }
     ensures fixed { S.fixed store.new ≡ S.fixed store.old }
@@ -52,6 +53,7 @@ fn move_down<S: BlockStore>(
     ensures unfailed { OnOk result (S.failures store.new ≡ S.failures store.old) }
     ensures failures { S.failures store.old ≤ S.failures store.new }
     ensures reads { S.reads store.new ≤ S.reads store.old + count }
+    ensures changes { S.changes store.old ≤ S.changes store.new }
     ensures tells { S.tells store.new ≡ S.tells store.old }
     ensures size { S.size store.new ≡ S.size store.old }
     ensures fixed { S.fixed store.new ≡ S.fixed store.old }
@@ -84,6 +86,7 @@ fn move_up<S: BlockStore>(
     ensures unfailed { OnOk result (S.failures store.new ≡ S.failures store.old) }
     ensures failures { S.failures store.old ≤ S.failures store.new }
     ensures reads { S.reads store.new ≤ S.reads store.old + count }
+    ensures changes { S.changes store.old ≤ S.changes store.new }
     ensures tells { S.tells store.new ≡ S.tells store.old }
     ensures size { S.size store.new ≡ S.size store.old }
     ensures fixed { S.fixed store.new ≡ S.fixed store.old }
@@ -122,6 +125,7 @@ pub fn move_run<S: BlockStore>(
     ensures unfailed { OnOk result (S.failures store.new ≡ S.failures store.old) }
     ensures failures { S.failures store.old ≤ S.failures store.new }
     ensures reads { S.reads store.new ≤ S.reads store.old + count }
+    ensures changes { S.changes store.old ≤ S.changes store.new }
     ensures tells { S.tells store.new ≡ S.tells store.old }
     ensures size { S.size store.new ≡ S.size store.old }
     ensures fixed { S.fixed store.new ≡ S.fixed store.old }

@@ -31,6 +31,9 @@ pub trait BlockStore {
     /// How many reads were asked for.
     ghost reads: { Self → ℕ };
 
+    /// How many changes were asked for: writes and changes of the length, whatever was answered.
+    ghost changes: { Self → ℕ };
+
     /// Up to how many blocks `set_len` is not refused for memory.
     ghost room: { Self → ℕ };
 
@@ -64,6 +67,7 @@ pub trait BlockStore {
         ensures unfailed { OnOk result (failures self.new ≡ failures self.old) }
         ensures failures { failures self.old ≤ failures self.new }
         ensures counted { reads self.new ≡ reads self.old + 1 }
+        ensures changes { changes self.new ≡ changes self.old }
         ensures content { content self.new ≡ content self.old }
         ensures gave { GoesOn (given self.old) (given self.new) }
         ensures tells { tells self.new ≡ tells self.old }
@@ -88,6 +92,7 @@ pub trait BlockStore {
         ensures counted { OnOk result (reads self.new ≡ reads self.old + count) }
         ensures counted_least { reads self.old ≤ reads self.new }
         ensures counted_most { reads self.new ≤ reads self.old + count }
+        ensures changes { changes self.new ≡ changes self.old }
         ensures content { content self.new ≡ content self.old }
         ensures gave { GoesOn (given self.old) (given self.new) }
         ensures tells { tells self.new ≡ tells self.old }
@@ -106,7 +111,7 @@ pub trait BlockStore {
 
     /// Writes `block`, which has the bytes of a block, to block `n`.
     ///
-    /// S1 where the device failed; block `n` may then hold anything. No other block changes.
+    /// S1 where the device failed; block `n` may then hold anything. No other block changes. The write is counted in either case.
     fn write(&mut self, n: u64, block: &[u8]) -> Result<(), StoreFault>
         requires within { n < length (content self.old) }
         requires sized { length block.now ≡ size self.old }
@@ -118,6 +123,7 @@ pub trait BlockStore {
         ensures unfailed { OnOk result (failures self.new ≡ failures self.old) }
         ensures failures { failures self.old ≤ failures self.new }
         ensures reads { reads self.new ≡ reads self.old }
+        ensures counted { changes self.new ≡ changes self.old + 1 }
         ensures given { given self.new ≡ given self.old }
         ensures gave { GoesOn (given self.old) (given self.new) }
         ensures tells { tells self.new ≡ tells self.old }
@@ -135,6 +141,7 @@ pub trait BlockStore {
         ensures error { IfErr result (λ e. e ≡ StoreFault.NoMemory) }
         ensures failures { failures self.new ≡ failures self.old }
         ensures reads { reads self.new ≡ reads self.old }
+        ensures changes { changes self.new ≡ changes self.old }
         ensures content { content self.new ≡ content self.old }
         ensures given { given self.new ≡ given self.old }
         ensures gave { GoesOn (given self.old) (given self.new) }
@@ -146,7 +153,8 @@ pub trait BlockStore {
     /// Cuts the store to `blocks` blocks, or fills it up to as many with zero blocks.
     ///
     /// S1 where the device failed; S3 where memory was refused, which it is only past `room`. The blocks that are in both
-    /// lengths stay in any case, and after a refusal the store has either length or one between.
+    /// lengths stay in any case, and after a refusal the store has either length or one between. The change is counted in
+    /// each case.
     fn set_len(&mut self, blocks: u64) -> Result<(), StoreFault>
         requires { blocks ≤ 2 ^ 41 }
         ensures done { OnOk result (content self.new ≡ resized (size self.old) blocks (content self.old)) }
@@ -158,6 +166,7 @@ pub trait BlockStore {
         ensures unfailed { OnOk result (failures self.new ≡ failures self.old) }
         ensures failures { failures self.old ≤ failures self.new }
         ensures reads { reads self.new ≡ reads self.old }
+        ensures counted { changes self.new ≡ changes self.old + 1 }
         ensures given { given self.new ≡ given self.old }
         ensures gave { GoesOn (given self.old) (given self.new) }
         ensures tells { tells self.new ≡ tells self.old }
@@ -175,6 +184,7 @@ pub trait BlockStore {
         ensures unfailed { OnOk result (failures self.new ≡ failures self.old) }
         ensures failures { failures self.old ≤ failures self.new }
         ensures reads { reads self.new ≡ reads self.old }
+        ensures changes { changes self.new ≡ changes self.old }
         ensures content { content self.new ≡ content self.old }
         ensures given { given self.new ≡ given self.old }
         ensures gave { GoesOn (given self.old) (given self.new) }

@@ -186,6 +186,7 @@ updates_all hash news t h h' s s' count old new old_changed new_changed all wide
 pub read_on : {S : Type 0} (facts : store.Ghosts S) (a b c : S) → IsOnlyRead facts a b → IsOnlyRead facts b c → IsOnlyRead facts a c
 read_on facts a b c ab bc = record {
   content = bc.content ∙ ab.content;
+  changes = bc.changes ∙ ab.changes;
   room = bc.room ∙ ab.room;
   later = record {
     tells = bc.later.tells ∙ ab.later.tells;
@@ -194,6 +195,7 @@ read_on facts a b c ab bc = record {
     gave = goes_on_then (facts.given a) (facts.given b) (facts.given c) ab.later.gave bc.later.gave;
     failures = omega (arith, ab.later.failures, bc.later.failures);
     reads = omega (arith, ab.later.reads, bc.later.reads);
+    changes = omega (arith, ab.later.changes, bc.later.changes);
     room = omega (arith, ab.later.room, bc.later.room);
   };
 }

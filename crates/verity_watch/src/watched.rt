@@ -69,6 +69,8 @@ impl<S: BlockStore, M: Meter> BlockStore for Watched<S, M> {
 
     ghost reads = { λ s. S.reads s };
 
+    ghost changes = { λ s. S.changes s };
+
     ghost room = { λ s. S.room s };
 
     ghost synced = { λ s. S.synced s };

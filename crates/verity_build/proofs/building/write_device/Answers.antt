@@ -31,14 +31,16 @@ unreachable-requires g c =
 -- what setting the length leaves
 later_cut : {S : Type 0} (facts : store.Ghosts S) (old new : S) → facts.tells new ≡ facts.tells old → facts.size new ≡ facts.size old
     → facts.fixed new ≡ facts.fixed old → GoesOn (facts.given old) (facts.given new) → facts.failures old ≤ facts.failures new
-    → facts.reads new ≡ facts.reads old → facts.room old ≤ facts.room new → IsLater facts old new
-later_cut facts old new tells size fixed gave failures reads room = record {
+    → facts.reads new ≡ facts.reads old → facts.changes new ≡ facts.changes old + 1 → facts.room old ≤ facts.room new
+    → IsLater facts old new
+later_cut facts old new tells size fixed gave failures reads changes room = record {
   tells = tells;
   size = size;
   fixed = fixed;
   gave = gave;
   failures = failures;
   reads = omega (arith, reads);
+  changes = omega (arith, changes);
   room = room;
 }
 
@@ -66,7 +68,7 @@ returns-in_default g c =
       data_store = only_read_same D image;
       data_reads = tt;
       data_reads_most = no_fewer (D.reads image) c.args.tree.now.geometry.blocks;
-      hash_store = later_cut H device c.set_len.new.self cut.tells cut.size cut.fixed cut.gave cut.failures cut.reads cut.room;
+      hash_store = later_cut H device c.set_len.new.self cut.tells cut.size cut.fixed cut.gave cut.failures cut.reads cut.counted cut.room;
       hash_reads = cut.reads;
       data_failed = λ is. cc;
       hash_failed = λ _. cut_failed c.in_default.field-0 (H.failures device < H.failures c.set_len.new.self) c.in_default.ensures.error
@@ -95,7 +97,7 @@ returns-in_err-write_tree g c =
       data_reads = tt;
       data_reads_most = wrote.data_reads_most;
       hash_store = later_then H device c.set_len.new.self c.write_tree.new.hash_store
-          (later_cut H device c.set_len.new.self cut.tells cut.size cut.fixed cut.gave cut.failures cut.reads cut.room)
+          (later_cut H device c.set_len.new.self cut.tells cut.size cut.fixed cut.gave cut.failures cut.reads cut.counted cut.room)
           wrote.hash_store.later;
       hash_reads = wrote.hash_store.reads ∙ cut.reads;
       data_failed = λ is. wrote.data_failed (ap (λ which. Err which) (same_fault _ _ is));
@@ -125,7 +127,7 @@ returns-in_default-write_superblock g c =
       data_reads_most = wrote.data_reads_most;
       hash_store = later_then H device c.write_tree.new.hash_store c.write_superblock.new.hash_store
           (later_then H device c.set_len.new.self c.write_tree.new.hash_store
-          (later_cut H device c.set_len.new.self cut.tells cut.size cut.fixed cut.gave cut.failures cut.reads cut.room)
+          (later_cut H device c.set_len.new.self cut.tells cut.size cut.fixed cut.gave cut.failures cut.reads cut.counted cut.room)
           wrote.hash_store.later) last.later;
       hash_reads = last.reads ∙ wrote.hash_store.reads ∙ cut.reads;
       data_failed = λ is. cc;
@@ -181,7 +183,7 @@ returns-clause-hash_store g c =
     let cut = c.in-Ok.ensures in
     later_then H device c.write_tree.new.hash_store c.write_superblock.new.hash_store
     (later_then H device c.set_len.new.self c.write_tree.new.hash_store
-    (later_cut H device c.set_len.new.self cut.tells cut.size cut.fixed cut.gave cut.failures cut.reads cut.room)
+    (later_cut H device c.set_len.new.self cut.tells cut.size cut.fixed cut.gave cut.failures cut.reads cut.counted cut.room)
     c.in_ok-write_tree.ensures.hash_store.later) c.in-Ok-write_superblock.ensures.later
 
 pub returns-clause-hash_reads : goal.returns-clause-hash_reads

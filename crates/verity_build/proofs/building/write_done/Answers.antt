@@ -120,6 +120,7 @@ loop-level-preserved g c =
             gave = wrote.gave;
             failures = wrote.failures;
             reads = omega (arith, wrote.reads);
+            changes = omega (arith, wrote.counted);
             room = omega (arith, wrote.room);
           } in
           writes_then H c.args.start c.args.hash_store.now c.loop-level.hash_store c.write.new.self kept.from
@@ -197,6 +198,7 @@ returns-in_err-write g c =
       gave = wrote.gave;
       failures = wrote.failures;
       reads = omega (arith, wrote.reads);
+      changes = omega (arith, wrote.counted);
       room = omega (arith, wrote.room);
     } in
     rw (p.1) record {

@@ -20,6 +20,7 @@ returns-then-not-right-clause-err g c =
     let read : IsOnlyRead H c.args.store.now c.read.new.self =
     record {
       content = e.content;
+      changes = e.changes;
       room = e.room;
       later = record {
         tells = e.tells;
@@ -28,6 +29,7 @@ returns-then-not-right-clause-err g c =
         gave = e.gave;
         failures = e.failures;
         reads = omega (arith, e.counted);
+        changes = omega (arith, e.changes);
         room = omega (arith, e.room);
       };
     } in
@@ -75,6 +77,7 @@ returns-clause-given g c =
     let read : IsOnlyRead H c.args.store.now c.read.new.self =
     record {
       content = e.content;
+      changes = e.changes;
       room = e.room;
       later = record {
         tells = e.tells;
@@ -83,6 +86,7 @@ returns-clause-given g c =
         gave = e.gave;
         failures = e.failures;
         reads = omega (arith, e.counted);
+        changes = omega (arith, e.changes);
         room = omega (arith, e.room);
       };
     } in
@@ -103,6 +107,7 @@ returns-then-is_err-clause-given g c =
     given_later g.H.BlockStore c.args.since.now.steps c.args.store.now c.read.new.self c.args.notes.now.items
     (record {
       content = e.content;
+      changes = e.changes;
       room = e.room;
       later = record {
         tells = e.tells;
@@ -111,6 +116,7 @@ returns-then-is_err-clause-given g c =
         gave = e.gave;
         failures = e.failures;
         reads = omega (arith, e.counted);
+        changes = omega (arith, e.changes);
         room = omega (arith, e.room);
       };
     }) c.requires.given
@@ -121,6 +127,7 @@ returns-then-not-right-clause-given g c =
     given_later g.H.BlockStore c.args.since.now.steps c.args.store.now c.read.new.self c.args.notes.now.items
     (record {
       content = e.content;
+      changes = e.changes;
       room = e.room;
       later = record {
         tells = e.tells;
@@ -129,6 +136,7 @@ returns-then-not-right-clause-given g c =
         gave = e.gave;
         failures = e.failures;
         reads = omega (arith, e.counted);
+        changes = omega (arith, e.changes);
         room = omega (arith, e.room);
       };
     }) c.requires.given
@@ -139,6 +147,7 @@ returns-in_default-clause-given g c =
     given_later g.H.BlockStore c.args.since.now.steps c.args.store.now c.read.new.self c.args.notes.now.items
     (record {
       content = e.content;
+      changes = e.changes;
       room = e.room;
       later = record {
         tells = e.tells;
@@ -147,6 +156,7 @@ returns-in_default-clause-given g c =
         gave = e.gave;
         failures = e.failures;
         reads = omega (arith, e.counted);
+        changes = omega (arith, e.changes);
         room = omega (arith, e.room);
       };
     }) c.requires.given
@@ -159,6 +169,7 @@ returns-in_default-push-clause-given g c =
     (given_later g.H.BlockStore c.args.since.now.steps c.args.store.now c.read.new.self c.args.notes.now.items
     (record {
       content = e.content;
+      changes = e.changes;
       room = e.room;
       later = record {
         tells = e.tells;
@@ -167,6 +178,7 @@ returns-in_default-push-clause-given g c =
         gave = e.gave;
         failures = e.failures;
         reads = omega (arith, e.counted);
+        changes = omega (arith, e.changes);
         room = omega (arith, e.room);
       };
     }) c.requires.given)

@@ -29,6 +29,7 @@ loop-made-preserved g c =
       len = one.others.0 ∙ inv.len;
       unfailed = omega arith;
       written_only = wrote g.H.BlockStore _ _ _ inv.written_only one.tells one.size one.fixed one.gave one.failures one.reads
+          (omega (arith, one.counted))
           (omega (arith, one.room));
     }
 

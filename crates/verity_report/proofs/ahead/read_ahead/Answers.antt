@@ -47,6 +47,7 @@ each-preserved g c =
       failures = read.failures;
       reads =
           omega (arith, read.counted);
+      changes = omega (arith, read.changes);
       room = omega (arith, read.room);
     } in
     let log : List (ℕ × List ℕ) = S.given c.read.new.self in
@@ -75,7 +76,7 @@ each-preserved g c =
           (len ∙ same ∙ sym kept.read.later.size) (ok_here c.read.result _ read.right c.if-is_err.ensures.value));
       counted = omega (arith, read.counted, kept.counted);
       read = only_read_then S c.args.store.now c.each.store c.read.new.self kept.read
-          (record { content = read.content; room = read.room; later = later });
+          (record { content = read.content; changes = read.changes; room = read.room; later = later });
     }
 
 pub returns-then-is_err-clause-given : goal.returns-then-is_err-clause-given

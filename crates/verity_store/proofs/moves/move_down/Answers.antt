@@ -22,5 +22,6 @@ loop-i-preserved g c =
       room = one.room ∙ before.room;
       failures = one.unfailed ∙ before.failures;
       reads = omega arith;
+      changes = omega arith;
       gave = goes_on_then _ _ _ before.gave one.gave;
     }

@@ -1,4 +1,4 @@
-use Rattle.std.proofs.Common.{◌≡◌, ◌+◌, true}
+use Rattle.std.proofs.Common.{◌≡◌, ◌+◌, ◌≤◌, true}
 use Rattle.verity_store.specs.Given.{GoesOn}
 use Rattle.verity_store.specs.Moves.{IsMoved, ChangesWithin}
 use Rattle.verity_store.proofs.moves.move_down.Given as goal
@@ -15,5 +15,6 @@ invariant-loop-i g l =
       room : g.S.BlockStore.room l.store ≡ g.S.BlockStore.room l.initial.store;
       failures : g.S.BlockStore.failures l.store ≡ g.S.BlockStore.failures l.initial.store;
       reads : g.S.BlockStore.reads l.store ≡ g.S.BlockStore.reads l.initial.store + l.i;
+      changes : g.S.BlockStore.changes l.initial.store ≤ g.S.BlockStore.changes l.store;
       gave : GoesOn (g.S.BlockStore.given l.initial.store) (g.S.BlockStore.given l.store);
     }

@@ -17,6 +17,7 @@ invariant-loop-left g l =
       room : g.S.BlockStore.room l.store ≡ g.S.BlockStore.room l.initial.store;
       failures : g.S.BlockStore.failures l.store ≡ g.S.BlockStore.failures l.initial.store;
       reads : g.S.BlockStore.reads l.store ≡ g.S.BlockStore.reads l.initial.store + (l.count - l.left);
+      changes : g.S.BlockStore.changes l.initial.store ≤ g.S.BlockStore.changes l.store;
       gave : GoesOn (g.S.BlockStore.given l.initial.store) (g.S.BlockStore.given l.store);
     }
 

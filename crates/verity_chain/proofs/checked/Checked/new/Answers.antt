@@ -13,6 +13,7 @@ invariant_of-result g c =
       hashed = sym c.new-3.ensures i;
       asked = sym c.new-4.ensures i;
       refused = sym c.new-5.ensures i;
+      changes = sym c.new-6.ensures i;
       refusal = None;
       blocks = sym c.end-blocks.ensures i;
       since = sym c.end_of-since.ensures i;

@@ -1,4 +1,5 @@
 use Rattle.std.proofs.Common.{◌≡◌, ℕ, ◌+◌, ◌≤◌, false, length, arith, sym, ap, subst}
+use Rattle.std.proofs.lemmas.Bool.{false≢true}
 use Rattle.verity_superblock.specs.Superblock.{Volume}
 use Rattle.verity_chain.specs.Table.{Table, height}
 use Rattle.verity_edit.specs.declared.command.Committed.{Committed}
@@ -97,6 +98,7 @@ returns-in-Ok-clause-stays g c =
       data_store = stays_of D _ _ told.data_store.later;
       hash_store = told.hash_store;
       front = λ q below. told.front.each q below;
+      broken = λ whole broken. absurd (false≢true broken);
     })
 
 pub returns-in-Err-clause-refused : goal.returns-in-Err-clause-refused

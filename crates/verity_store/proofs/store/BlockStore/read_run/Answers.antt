@@ -60,6 +60,7 @@ each-preserved g c =
       gave = read.gave;
       failures = read.failures;
       reads = omega (arith, read.counted);
+      changes = omega (arith, read.changes);
       room = omega (arith, read.room);
     } in
     record {
@@ -76,7 +77,7 @@ each-preserved g c =
       unfailed = read.unfailed ∙ kept.unfailed;
       counted = omega (arith, read.counted, kept.counted);
       read = only_read_then S c.args.self.now c.each.self c.read.new.self kept.read
-          (record { content = read.content; room = read.room; later = later });
+          (record { content = read.content; changes = read.changes; room = read.room; later = later });
     }
 
 pub returns-in_err-read-clause-given_most : goal.returns-in_err-read-clause-given_most
