@@ -5,6 +5,7 @@ use nbd_session::ExportName;
 use std::alloc::Global;
 use std::test::Fail;
 use verity_edit::Command;
+use verity_hub::{CountedReader, CountedWriter};
 use verity_promise::{edit_and_serve_under_line, edit_under_line};
 use verity_store::{Block, MemStore};
 
@@ -83,8 +84,8 @@ fn served(
     let line = line(alloc, ROOT_BEFORE, 16)?;
     let name = ExportName::new(b"vol")?;
     let mut replies = Vec::new(alloc);
-    let mut reader = TWO_READS;
-    let mut said = Vec::new(alloc);
+    let mut reader = CountedReader::new(TWO_READS);
+    let mut said = CountedWriter::new(Vec::new(alloc));
     let served = edit_and_serve_under_line(
         alloc,
         data,
@@ -97,7 +98,11 @@ fn served(
         &mut said,
         100,
     );
-    Ok((end_of(&served), difference(&said, want), told_by(&replies)))
+    Ok((
+        end_of(&served),
+        difference(&said.writer, want),
+        told_by(&replies),
+    ))
 }
 
 // The hash store of the sixteen blocks.

@@ -4,6 +4,7 @@ use crate::volumes::*;
 use nbd_session::ExportName;
 use std::alloc::Global;
 use std::test::Fail;
+use verity_hub::{CountedReader, CountedWriter};
 use verity_promise::{edit_and_serve, edit_from_scratch};
 use verity_store::MemStore;
 
@@ -36,8 +37,8 @@ fn served(
     let commands = commands(alloc)?;
     let name = ExportName::new(b"vol")?;
     let mut replies = Vec::new(alloc);
-    let mut reader = CLIENT;
-    let mut said = Vec::new(alloc);
+    let mut reader = CountedReader::new(CLIENT);
+    let mut said = CountedWriter::new(Vec::new(alloc));
     let served = edit_and_serve(
         alloc,
         data,
@@ -50,7 +51,7 @@ fn served(
         &mut said,
         100,
     );
-    Ok((end_of(&served), difference(&said, want)))
+    Ok((end_of(&served), difference(&said.writer, want)))
 }
 
 #[test]

@@ -1,1 +1,2 @@
 mod Scratching
+mod Zeros

@@ -6,13 +6,13 @@ use Rattle.verity_superblock.specs.Superblock.{Volume}
 use Rattle.verity_files.specs.Faults.{line}
 use Rattle.verity_volume.specs.Lines.{volume_line}
 use Rattle.verity_volume.specs.declared.lines.Devices.{Devices}
-use Rattle.verity_changes.specs.Printing.{IsEdited, IsScratch}
+use Rattle.verity_changes.specs.Printing.{IsEdited, IsOfZeros, IsScratch}
 
 -- a table line, and then the answers
 pub behind_its_line : {E : Type 0} (text : Option (List ℕ)) (devices : Devices) (volume : Volume) (root : List ℕ)
-    (old between new : Option (List ℕ))
+    (old between new : Option (List ℕ)) → IsOfZeros volume root
     → Appends old between (line (canonical (volume_line devices volume root))) → (done : Result ℕ E)
     → IfOk done (λ status. IsEdited text devices between new status) → IfOk done (λ status. IsScratch text old new status)
-behind_its_line text devices volume root old between new printed (Ok status) answered =
-    (devices, volume, root, between, printed, answered)
-behind_its_line text devices volume root old between new printed (Err e) answered = answered
+behind_its_line text devices volume root old between new zeros printed (Ok status) answered =
+    (devices, volume, root, between, zeros, printed, answered)
+behind_its_line text devices volume root old between new zeros printed (Err e) answered = answered

@@ -1,8 +1,12 @@
 -- What the commands that change a volume print, and their statuses.
-use Rattle.std.specs.Prelude.{◌≡◌, ℕ, List, Option, IfSome}
+use Rattle.std.specs.Prelude.{◌≡◌, ℕ, List, [], ◌∷◌, Option, IfSome}
 use Rattle.std.specs.Io.KnownBytes.{Appends}
+use Rattle.verity_profile.specs.Profile.{zero_block}
+use Rattle.verity_digest.specs.Tree.{root}
 use Rattle.verity_superblock.specs.Line.{canonical}
 use Rattle.verity_superblock.specs.Superblock.{Volume}
+use Rattle.verity_edit.specs.Opening.{FitsVolume}
+use Rattle.verity_edit.specs.Planning.{volume_hashing}
 use Rattle.verity_files.specs.Faults.{line}
 use Rattle.verity_volume.specs.Lines.{volume_line}
 use Rattle.verity_volume.specs.declared.lines.Devices.{Devices}
@@ -18,7 +22,13 @@ abbrev pub IsUpdated : Devices → Option (List ℕ) → Option (List ℕ) → �
 IsUpdated devices old new status = (changed : ℕ) × (volume : Volume) × (root : List ℕ)
     × (status ≡ 0) × Appends old new (update_lines changed (volume_line devices volume root))
 
--- the table line of a volume, and then the answers to a script over it
+-- the volume of one block of zeros: its sizes, its count, and the root that its own algorithm and salt give of that block
+pub record IsOfZeros (volume : Volume) (root_hash : List ℕ) : Type 0 where
+  pub fits : FitsVolume volume 1024 512 1
+  pub root : root_hash ≡ root (volume_hashing volume.params) (zero_block 1024 ∷ [])
+
+-- the table line of the volume of one block of zeros, and then the answers to a script over it
 abbrev pub IsScratch : Option (List ℕ) → Option (List ℕ) → Option (List ℕ) → ℕ → Type 0
 IsScratch text old new status = (devices : Devices) × (volume : Volume) × (root : List ℕ) × (between : Option (List ℕ))
-    × Appends old between (line (canonical (volume_line devices volume root))) × IsEdited text devices between new status
+    × IsOfZeros volume root × Appends old between (line (canonical (volume_line devices volume root)))
+    × IsEdited text devices between new status

@@ -6,7 +6,7 @@ ghost use Rattle.verity_superblock.specs.Line.{canonical};
 ghost use Rattle.verity_files.specs.Errors.{IsS1For};
 ghost use Rattle.verity_files.specs.Faults.{line};
 ghost use Rattle.verity_volume.specs.Lines.{volume_line};
-ghost use Rattle.verity_changes.specs.Printing.{IsEdited, IsScratch};
+ghost use Rattle.verity_changes.specs.Printing.{IsEdited, IsOfZeros, IsScratch};
 
 use std::alloc::Global;
 use std::io::{Read, Write};
@@ -77,7 +77,9 @@ fn answer_all<R: Paths + AllocGlobal, I: Read, W: Write, E: Write>(
     )
 }
 
+/// Builds the volume of one block of zeros, and opens it.
 fn zero_volume(alloc: Global) -> Result<Editor<MemStore, MemStore>, Failure>
+    ensures zeros { IfOk result (λ editor. IsOfZeros editor.volume editor.root) }
     ensures blames { IfErr result BlamesNone }
     ensures system { IfErr result (IsS1For ⊥) }
 {

@@ -8,7 +8,6 @@ use Rattle.verity_digest.specs.Hash.{hashing, size_of}
 use Rattle.verity_digest.specs.Tree.{Hashing, root, tree, per_block}
 use Rattle.verity_digest.specs.Shape.{total}
 use Rattle.verity_store.specs.declared.store.BlockStore as store
-use Rattle.verity_store.specs.Stores.{StaysStore}
 use Rattle.verity_store.proofs.BlockLemmas.{take_same}
 use Rattle.verity_superblock.specs.Superblock.{Params, salted}
 use Rattle.verity_superblock.specs.Image.{hash_image, superblock_block, tree_of, start_behind}
@@ -25,8 +24,8 @@ use Rattle.verity_edit.specs.Edits.{unedited}
 use Rattle.verity_edit.specs.After.{State, After}
 use Rattle.verity_edit.specs.Planning.{volume_hashing}
 use Rattle.verity_edit.specs.Editing.{Editing, FitsStores, Stands, IsWhole, hashing_in}
-use Rattle.verity_edit.specs.Opening.{IsOpened}
-use Rattle.verity_edit.specs.Running.{AreAnswered, LeadsAll, IsNoFailure, IsUnfailed, is_commit}
+use Rattle.verity_edit.specs.Opening.{IsOpened, ReadsOnce}
+use Rattle.verity_edit.specs.Running.{AreAnswered, IsChain, LeadsAll, IsNoFailure, IsUnfailed, is_commit}
 use Rattle.verity_edit.specs.Faults.{IsNotPassedOver}
 use Rattle.verity_pending.specs.declared.fault.EditFault.{EditFault}
 use Rattle.verity_pending.specs.declared.fault.EditFault.TheVariants as fault
@@ -34,8 +33,9 @@ use Rattle.verity_chain.specs.Table.{hashing_of, tree_len}
 use Rattle.verity_check.specs.Holds.{Holds}
 use Rattle.verity_check.specs.Verifier.{AreStoresOf}
 use Rattle.verity_promise.specs.declared.edited.Edited.{Edited}
-use Rattle.verity_promise.specs.Closing.{IsLine}
-use Rattle.verity_promise.specs.Scratch.{IsFromScratch, IsEdited}
+use Rattle.verity_promise.specs.Lines.{IsLine}
+use Rattle.verity_promise.specs.Scratch.{IsFromScratch, IsUncommitted, IsEdited}
+use Rattle.verity_promise.proofs.Uncommitted.{LeavesSame, chain_leaves_same}
 
 -- what is said of a value follows
 pub if_some : {X : Type 0} (o : Option X) (P Q : X → Type 0) → ((x : X) → P x → Q x) → IfSome o P → IfSome o Q
@@ -142,6 +142,7 @@ module _ {D H : Type 0} (data_facts : store.Ghosts D) (hash_facts : store.Ghosts
 module _ {D H A C : Type 0} (data_facts : store.Ghosts D) (hash_facts : store.Ghosts H) (d : D) (h : H) (offset : ℕ)
     (commands : List (Command C)) (count start : ℕ) (old_replies new_replies : List Reply)
     (opened closed : Editing D H) (opens : IsOpened data_facts hash_facts d h offset opened)
+    (reads : ReadsOnce data_facts hash_facts d opened.data_store h opened.hash_store opened.volume.params.algorithm)
     (runs : AreAnswered data_facts hash_facts commands count opened closed old_replies new_replies)
     (left : Edited D H A) (data_is : left.data_store ≡ closed.data_store) (hash_is : left.hash_store ≡ closed.hash_store)
     (root_is : left.root ≡ closed.root)
@@ -256,30 +257,47 @@ module _ {D H A C : Type 0} (data_facts : store.Ghosts D) (hash_facts : store.Gh
       let e = ap (λ x. hash_facts.failures x) hash_is in
       omega (arith, a, e, runs.named which.Hash there)
 
+  -- where no commit was answered, both contents and the root are those that were opened
+  uncommitted : list_any is_commit runs.added ≡ false → closed.broken ≡ false → IsUncommitted data_facts hash_facts d h offset opened left
+  uncommitted none sound =
+      let same : LeavesSame data_facts hash_facts opened closed =
+      (chain_leaves_same data_facts hash_facts (take count commands) runs.added opened closed runs.chain none sound).1 in
+      record {
+        data_content = ap (λ x. data_facts.content x) data_is ∙ same.data_content ∙ opens.data_store.content;
+        hash_content = ap (λ x. hash_facts.content x) hash_is ∙ same.hash_content ∙ opens.hash_store.content;
+        root = root_is ∙ same.root;
+      }
+
   -- so it was edited
   pub edited_by : OnOk left.done (length runs.added ≡ length commands) → OnErr left.done (length runs.added < length commands)
       → IsEdited data_facts hash_facts d h offset commands old_replies new_replies left
   edited_by all short =
-      let data_stays : StaysStore data_facts opened.data_store left.data_store =
-      subst (λ x. StaysStore data_facts opened.data_store x) (sym data_is) runs.stays.data_store in
-      let hash_stays : StaysStore hash_facts opened.hash_store left.hash_store =
-      subst (λ x. StaysStore hash_facts opened.hash_store x) (sym hash_is) runs.stays.hash_store in
+      let unread : data_facts.reads left.data_store ≡ data_facts.reads opened.data_store =
+      ap (λ x. data_facts.reads x) data_is ∙ runs.stays.data_reads in
       let behind : opened.first - 1 ≡ offset / hash_facts.size h = (let e = opens.first in omega (arith, e)) in
       record {
-        volume = opened.volume;
-        is_volume = opens.volume;
+        opened = opened;
+        closed = closed;
+        opens = opens;
+        reads = reads;
         added = runs.added;
         replies = runs.replies;
         all = all;
         short = short;
         named = λ which there. named which there;
-        data_opened = opened.data_store;
-        hash_opened = opened.hash_store;
-        data_read = opens.data_store;
-        hash_read = opens.hash_store;
-        data_stays = data_stays;
-        hash_stays = hash_stays;
-        unread = ap (λ x. data_facts.reads x) data_is ∙ runs.stays.data_reads;
+        chain = subst (λ n. IsChain data_facts hash_facts (take n commands) runs.added opened closed) (sym runs.each) runs.chain;
+        stays = runs.stays;
+        uncommitted = uncommitted;
+        data_store = data_is;
+        hash_store = hash_is;
+        root = root_is;
+        table = if_some left.table _ _ (λ t l. (
+          l.0,
+          subst (λ s. IsLine data_facts hash_facts closed.data_store closed.hash_store s closed.root closed.volume.params.salt t)
+              (begins ∙ sym opens.first) l.1,
+        )) line;
+        unread = unread;
+        data_reads = omega (arith, unread, reads.data_reads);
         stays_front = λ q below. ap (λ x. get_or (hash_facts.content x) q []) hash_is
             ∙ runs.stays.front q (omega (arith, behind, below)) ∙ ap (λ x. get_or x q []) opens.hash_store.content;
         fits = stores_fit;

@@ -1,7 +1,7 @@
 -- Commands under a table line, one after the other.
 use Rattle.std.proofs.Common.{◌≡◌, ◌⊎◌, ℕ, zero, suc, ◌+◌, ◌-◌, ◌<◌, ◌≤◌, false, List, [], ◌∷◌, ◌++◌, length, take, drop, get_or}
 use Rattle.std.proofs.Common.{Bool, inl, inr, ⊎_elim, refl, sym, ap, ◌∙◌, subst, arith, ltb, leb}
-use Rattle.std.proofs.lemmas.Bool.{true≢false, cases_lt, lt-ltb, le-ltb, lt-leb, cond-true, and_left, and_right}
+use Rattle.std.proofs.lemmas.Bool.{cases_Bool, true≢false, cases_lt, lt-ltb, le-ltb, lt-leb, cond-true, and_left, and_right}
 use Rattle.std.proofs.lemmas.List.{ext_get_or, drop-drop, take-append-le, length-append, append-nil, append_assoc, take_more}
 use Rattle.std.proofs.lemmas.List.FromFn.{length-map-range_with_len, get_or-map-range_with_len}
 use Rattle.std.proofs.Math.Seq.{take-append_seam}
@@ -195,6 +195,7 @@ stays_store facts a b c ab bc = record {
   fixed = bc.fixed ∙ ab.fixed;
   gave = goes_on_then (facts.given a) (facts.given b) (facts.given c) ab.gave bc.gave;
   failures = omega (arith, ab.failures, bc.failures);
+  changes = omega (arith, ab.changes, bc.changes);
   room = omega (arith, ab.room, bc.room);
 }
 
@@ -205,6 +206,7 @@ stays_same facts a = record {
   fixed = refl;
   gave = goes_on_same (facts.given a);
   failures = omega arith;
+  changes = omega arith;
   room = omega arith;
 }
 
@@ -218,6 +220,9 @@ stays_then on_data on_hash old now new a b = record {
   data_store = stays_store on_data old.data_store now.data_store new.data_store a.data_store b.data_store;
   hash_store = stays_store on_hash old.hash_store now.hash_store new.hash_store a.hash_store b.hash_store;
   front = λ q below. let first = a.first in b.front q (omega (arith, first, below)) ∙ a.front q below;
+  broken = λ whole broken. let before = a.data_store.changes in let after = b.data_store.changes in
+      ⊎_elim (λ early. let rose = a.broken whole early in omega arith) (λ sound. let rose = b.broken sound broken in omega arith)
+      (cases_Bool now.broken);
 }
 
 -- one command more
@@ -259,6 +264,7 @@ answered_none on_data on_hash commands e replies = record {
     data_store = stays_same on_data e.data_store;
     hash_store = stays_same on_hash e.hash_store;
     front = λ q below. refl;
+    broken = λ whole broken. absurd (true≢false (sym broken ∙ whole));
   };
   right = λ mark low image at. inl at;
 }

@@ -1,9 +1,7 @@
 -- What is known of an editor that was closed. The facts of a store of the type S are S.BlockStore.
-use Rattle.std.specs.Prelude.{◌≡◌, ℕ, true, false, List, length, IfSome, Result, Some, Ok}
+use Rattle.std.specs.Prelude.{◌≡◌, ℕ, true, false, List, IfSome, Result, Some, Ok}
 use Rattle.std.specs.declared.alloc.AllocError.{AllocError}
-use Rattle.verity_profile.specs.Profile.{AllSized}
 use Rattle.verity_store.specs.declared.store.BlockStore as store
-use Rattle.verity_superblock.specs.Line.{TableLine, algorithm_of}
 use Rattle.verity_edit.specs.Editing.{Editing, FitsStores, Stands}
 use Rattle.nbd_hub.specs.declared.fault.ServeFault.{ServeFault}
 use Rattle.nbd_hub.specs.Stream.{Ends}
@@ -13,27 +11,18 @@ use Rattle.verity_check.specs.Verifier.{Verifying, IsOnlyReading}
 use Rattle.verity_hub.specs.Verdicts.{HoldsFor, SaysRight, SaysExact}
 use Rattle.verity_promise.specs.declared.edited.Edited.{Edited}
 use Rattle.verity_promise.specs.Answers.{IsMadeOver}
+use Rattle.verity_promise.specs.Lines.{IsLine}
 use Rattle.verity_promise.specs.Delivery.{Serves}
 
 module _ {D H : Type 0} (on_data : store.Ghosts D) (on_hash : store.Ghosts H) where
-  -- the table line has the sizes and the count of the stores, and these values
-  pub record IsLine (d : D) (h : H) (start : ℕ) (digest salt : List ℕ) (t : TableLine) : Type 0 where
-    pub data_block_size : t.data_block_size ≡ on_data.size d
-    pub hash_block_size : t.hash_block_size ≡ on_hash.size h
-    pub data_blocks : t.data_blocks ≡ length (on_data.content d)
-    pub sized : AllSized (on_data.size d) (on_data.content d)
-    pub hash_start_block : t.hash_start_block ≡ start
-    pub algorithm : t.algorithm ≡ algorithm_of digest
-    pub root_is : t.root ≡ digest
-    pub salt_is : t.salt ≡ salt
-
   -- the editor's stores and root are left, and a table line of them unless it was broken
   pub record IsClosed {A : Type 0} (e : Editing D H) (start : ℕ) (done : Result (Unit {0}) AllocError) (left : Edited D H A) : Type 0 where
     pub data_store : left.data_store ≡ e.data_store
     pub hash_store : left.hash_store ≡ e.hash_store
     pub root : left.root ≡ e.root
     pub done_is : left.done ≡ done
-    pub table : IfSome left.table (λ t. (e.broken ≡ false) × IsLine e.data_store e.hash_store start e.root e.volume.params.salt t)
+    pub table : IfSome left.table (λ t. (e.broken ≡ false)
+        × IsLine on_data on_hash e.data_store e.hash_store start e.root e.volume.params.salt t)
     pub fits : e.broken ≡ false → FitsStores on_data on_hash e
     pub stands : e.broken ≡ false → on_data.tells e.data_store ≡ true → on_hash.tells e.hash_store ≡ true →
         Stands on_data on_hash e

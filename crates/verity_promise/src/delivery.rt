@@ -2,6 +2,7 @@
 
 ghost use Rattle.std.specs.Prelude.{◌≡◌, Ok, IfOk, IfErr, IfSome, OnErr, Some};
 ghost use Rattle.verity_check.specs.Verifier.{AreStoresOf};
+ghost use Rattle.nbd_hub.specs.Failures.{FailsToRead, FailsToWrite};
 ghost use Rattle.verity_promise.specs.Delivery.{Delivers, ExplainsUnserved, ExplainsUnmade, ends_of};
 ghost use Rattle.verity_promise.specs.Closing.{IsServed};
 
@@ -9,10 +10,9 @@ use crate::edited::Edited;
 use crate::scratch::edit_from_scratch;
 use nbd_session::ExportName;
 use std::alloc::{Allocator, Global};
-use std::io::{Read, Write};
 use verity_check::{CheckFault, Verifier};
 use verity_edit::{Command, OpenRefused, Reply};
-use verity_hub::{Hub, ServeFault, serve_stream};
+use verity_hub::{Hub, Input, Output, ServeFault, serve_stream};
 use verity_store::BlockStore;
 
 /// How many checked hash blocks are kept.
@@ -34,7 +34,7 @@ pub enum Unserved<D, H, A: Allocator = Global> {
 /// # Errors
 ///
 /// [`Unserved`], where no client was served; a [`ServeFault`] where one was and the stream was left before its end.
-pub fn edit_and_serve<D: BlockStore + Drop, H: BlockStore + Drop, R: Read, W: Write>(
+pub fn edit_and_serve<D: BlockStore + Drop, H: BlockStore + Drop, R: Input, W: Output>(
     alloc: Global,
     data_store: D,
     hash_store: H,
@@ -51,6 +51,8 @@ pub fn edit_and_serve<D: BlockStore + Drop, H: BlockStore + Drop, R: Read, W: Wr
         Global data_store hash_store offset commands.now replies.old.items replies.new.items) }
     ensures refused { IfErr result (ExplainsUnserved D.BlockStore H.BlockStore data_store hash_store offset commands.now
         replies.old.items replies.new.items) }
+    ensures read_failed { IfOk result (λ served. FailsToRead (R.failures reader.old) (R.failures reader.new) served) }
+    ensures write_failed { IfOk result (λ served. FailsToWrite (W.failures writer.old) (W.failures writer.new) served) }
     ensures unread { OnErr result (R.remaining reader.new ≡ R.remaining reader.old) }
     ensures unwritten { OnErr result (W.contents writer.new ≡ W.contents writer.old) }
 {
@@ -61,7 +63,7 @@ pub fn edit_and_serve<D: BlockStore + Drop, H: BlockStore + Drop, R: Read, W: Wr
 }
 
 /// Serves one client over the stores of an edited volume.
-pub fn serve_edited<D: BlockStore + Drop, H: BlockStore + Drop, R: Read, W: Write>(
+pub fn serve_edited<D: BlockStore + Drop, H: BlockStore + Drop, R: Input, W: Output>(
     alloc: Global,
     edited: Edited<D, H>,
     name: ExportName,
@@ -73,6 +75,8 @@ pub fn serve_edited<D: BlockStore + Drop, H: BlockStore + Drop, R: Read, W: Writ
     ensures served { IfOk result (λ served. IsServed D.BlockStore H.BlockStore name
         (ends_of (R.remaining reader.old) (R.remaining reader.new) (W.contents writer.old) (W.contents writer.new)) limit served edited) }
     ensures refused { IfErr result (ExplainsUnmade edited) }
+    ensures read_failed { IfOk result (λ served. FailsToRead (R.failures reader.old) (R.failures reader.new) served) }
+    ensures write_failed { IfOk result (λ served. FailsToWrite (W.failures writer.old) (W.failures writer.new) served) }
     ensures unread { OnErr result (R.remaining reader.new ≡ R.remaining reader.old) }
     ensures unwritten { OnErr result (W.contents writer.new ≡ W.contents writer.old) }
 {

@@ -3,7 +3,8 @@
 ghost use Rattle.std.specs.Prelude.{◌≡◌, false, IfOk, IfErr, IfSome, OnErr};
 ghost use Rattle.verity_superblock.specs.Image.{CanBegin, start_behind};
 ghost use Rattle.verity_profile.specs.Profile.{IsBlockSize};
-ghost use Rattle.verity_promise.specs.Closing.{IsClosed, IsLine};
+ghost use Rattle.verity_promise.specs.Closing.{IsClosed};
+ghost use Rattle.verity_promise.specs.Lines.{IsLine};
 ghost use Rattle.verity_promise.specs.Scratch.{IsEdited, IsRefused};
 
 use crate::edited::Edited;
@@ -14,7 +15,8 @@ use verity_store::BlockStore;
 use verity_superblock::{Table, tree_start};
 
 /// Opens the volume whose superblock stands at a byte offset of the hash store, does the commands in order with one reply
-/// each, and closes it.
+/// each, and closes it. The opening reads each data block at most once, and nothing after it reads a data block. Where no commit
+/// was answered and the editor isn't broken, both contents and the root are those that were opened.
 ///
 /// # Errors
 ///
@@ -38,7 +40,8 @@ pub fn edit_from_scratch<D: BlockStore, H: BlockStore, A: Allocator + Copy>(
         Err(refused) => return Err(refused),
     };
     let done = editor.run(commands, replies);
-    Ok(close(alloc, editor, start, done))
+    let edited = close(alloc, editor, start, done);
+    Ok(edited)
 }
 
 // Where the tree begins behind a superblock at the offset, if one can stand there.

@@ -1,6 +1,7 @@
 //! Edits under a trusted table line, and what is then served under the new one.
 
 ghost use Rattle.std.specs.Prelude.{◌≡◌, ◌<◌, ◌+◌, ◌-◌, false, length, vec_len, IfOk, IfErr, IfSome, OnErr, OnOk};
+ghost use Rattle.nbd_hub.specs.Failures.{FailsToRead, FailsToWrite};
 ghost use Rattle.verity_promise.specs.Delivery.{ends_of};
 ghost use Rattle.verity_promise.specs.OnTheWay.{AreAnsweredUnder, IsClosedUnder};
 ghost use Rattle.verity_promise.specs.Under.{DeliversUnder, ExplainsUnservedUnder, IsEditedUnder, IsRefusedUnder};
@@ -9,9 +10,8 @@ use crate::delivery::{Unserved, serve_edited};
 use crate::edited::Edited;
 use nbd_session::ExportName;
 use std::alloc::{AllocError, Allocator, Global};
-use std::io::{Read, Write};
 use verity_edit::{Command, OpenRefused, Reply};
-use verity_hub::ServeFault;
+use verity_hub::{Input, Output, ServeFault};
 use verity_line::LineEditor;
 use verity_store::BlockStore;
 use verity_superblock::Table;
@@ -49,7 +49,7 @@ pub fn edit_under_line<D: BlockStore, H: BlockStore, A: Allocator + Copy + Drop>
 /// # Errors
 ///
 /// [`Unserved`], where no client was served; a [`ServeFault`] where one was and the stream was left before its end.
-pub fn edit_and_serve_under_line<D: BlockStore + Drop, H: BlockStore + Drop, R: Read, W: Write>(
+pub fn edit_and_serve_under_line<D: BlockStore + Drop, H: BlockStore + Drop, R: Input, W: Output>(
     alloc: Global,
     data_store: D,
     hash_store: H,
@@ -66,6 +66,8 @@ pub fn edit_and_serve_under_line<D: BlockStore + Drop, H: BlockStore + Drop, R: 
         (ends_of (R.remaining reader.old) (R.remaining reader.new) (W.contents writer.old) (W.contents writer.new)) limit) }
     ensures refused { IfErr result (ExplainsUnservedUnder D.BlockStore H.BlockStore data_store hash_store table commands.now
         replies.old.items replies.new.items) }
+    ensures read_failed { IfOk result (λ served. FailsToRead (R.failures reader.old) (R.failures reader.new) served) }
+    ensures write_failed { IfOk result (λ served. FailsToWrite (W.failures writer.old) (W.failures writer.new) served) }
     ensures unread { OnErr result (R.remaining reader.new ≡ R.remaining reader.old) }
     ensures unwritten { OnErr result (W.contents writer.new ≡ W.contents writer.old) }
 {

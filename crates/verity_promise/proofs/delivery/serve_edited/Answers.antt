@@ -24,10 +24,10 @@ returns-clause-served g c =
     let hub : HubState × Verifying g.row.D.Denot g.row.H.Denot = c.new-hub.result in
     let hub' : HubState × Verifying g.row.D.Denot g.row.H.Denot = c.serve_stream.new.hub in
     let e : Ends = record {
-      reader = g.R.Read.remaining c.args.reader.now;
-      reader' = g.R.Read.remaining c.serve_stream.new.reader;
-      writer = g.W.Write.contents c.args.writer.now;
-      writer' = g.W.Write.contents c.serve_stream.new.writer;
+      reader = g.R.Input.remaining c.args.reader.now;
+      reader' = g.R.Input.remaining c.serve_stream.new.reader;
+      writer = g.W.Output.contents c.args.writer.now;
+      writer' = g.W.Output.contents c.serve_stream.new.writer;
     } in
     served_by D H left c.args.name e c.args.limit c.serve_stream.result
     (done_ok left.done (sym c.is_err.ensures.value ∙ c.if-is_err.false)) c.in-Some.table c.in-Some.is v hub hub' over

@@ -23,15 +23,15 @@ returns-clause-edited g c =
     let is : vec_len c.run-done.new.replies ≡ length c.run-done.new.replies.items = search rules in
     let grown : length c.run-done.new.replies.items ≡ length c.args.replies.now.items + length runs.added =
     ap length runs.replies ∙ length-append c.args.replies.now.items runs.added in
-    let shut : IsClosed D H closed c.start_of-start.result c.run-done.result c.close.result = c.close.ensures in
+    let shut : IsClosed D H closed c.start_of-start.result c.run-done.result c.close-edited.result = c.close-edited.ensures in
     let size : c.block_size.result ≡ H.size h = c.block_size.ensures.value in
     let begins : c.start_of-start.result ≡ start_behind c.args.offset (H.size h) =
     subst (λ n. CanBegin c.args.offset n → c.start_of-start.result ≡ start_behind c.args.offset n) size c.start_of-start.ensures
     opens.can_begin in
-    edited_by D H d h c.args.offset commands _ c.start_of-start.result _ _ opened closed opens runs c.close.result shut.data_store
-    shut.hash_store shut.root shut.fits shut.stands begins shut.table
-    (on_ok c.run-done.result c.close.result.done _ _ shut.done_is (λ e. omega (arith, e, runs.each)) c.run-done.ensures.all)
-    (on_err c.run-done.result c.close.result.done _ _ shut.done_is (λ e. omega (arith, e, runs.each, grown, was, is))
+    edited_by D H d h c.args.offset commands _ c.start_of-start.result _ _ opened closed opens c.in-Ok.ensures.reads runs
+    c.close-edited.result shut.data_store shut.hash_store shut.root shut.fits shut.stands begins shut.table
+    (on_ok c.run-done.result c.close-edited.result.done _ _ shut.done_is (λ e. omega (arith, e, runs.each)) c.run-done.ensures.all)
+    (on_err c.run-done.result c.close-edited.result.done _ _ shut.done_is (λ e. omega (arith, e, runs.each, grown, was, is))
     c.run-done.ensures.short)
 
 pub returns-in-Err-clause-refused : goal.returns-in-Err-clause-refused
