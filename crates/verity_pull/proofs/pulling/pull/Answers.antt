@@ -1,25 +1,25 @@
-use Rattle.std.proofs.Common.{rules, Err, inl, inr, ⊎_elim, suc, ℕ, ◌<◌, ◌≤◌, ◌≡◌, true, List, [], length, get_or, refl, sym, ap, subst, ◌∙◌, arith}
-use Rattle.std.proofs.lemmas.Result.{err_from_is_err_and}
+use Rattle.std.proofs.Common.{Err, inl, inr, ⊎_elim, suc, ℕ, ◌+◌, ◌≤◌, ◌≡◌, [], length, take, replicate, get_or, refl, sym, ap, subst, ◌∙◌, arith}
+use Rattle.verity_store.specs.Blocks.{resized}
 use Rattle.verity_store.specs.Stores.{IsLater}
 use Rattle.verity_store.proofs.StoreLemmas.{later_same, only_read_same}
-use Rattle.verity_chain.specs.Table.{hash_place}
-use Rattle.verity_chain.specs.Chain.{Given}
+use Rattle.std.proofs.lemmas.List.{take-replicate}
+use Rattle.verity_profile.specs.Profile.{zero_block}
+use Rattle.verity_chain.specs.Table.{Table, tree_len, hash_place}
+use Rattle.verity_chain.specs.Stores.{hash_given}
 use Rattle.verity_chain.proofs.ChainLemmas.{Grows, ok_here}
-use Rattle.verity_pull.specs.Pull.{Marks, pull_given}
+use Rattle.verity_pull.specs.declared.fault.Role.TheVariants as role
+use Rattle.verity_pull.specs.Pull.{Marks, marks_at, pull_given, Suits, laid}
 use Rattle.verity_pull.specs.Walk.{IsVouched}
-use Rattle.verity_pull.proofs.StepLemmas.{err_here}
-use Rattle.verity_pull.proofs.VouchLemmas.{vouched_stays, pull_grows}
+use Rattle.verity_pull.proofs.StepLemmas.{err_fact, err_back, err_here, wrong_weaker, wrong_memory, wrong_never, unsuited_is}
+use Rattle.verity_pull.proofs.VouchLemmas.{vouched_stays, hash_into, pull_grows}
+use Rattle.verity_pull.proofs.WalkLemmas.{vouched_grows}
+use Rattle.verity_pull.proofs.LayLemmas.{place_low, place_from}
 use Rattle.verity_pull.proofs.pulling.pull.Goals as goal
-
-pub returns-clause-local_unfailed : goal.returns-clause-local_unfailed
-returns-clause-local_unfailed g c =
-    ok_here c.sync.result _ c.sync.ensures.unfailed c.if-is_err.ensures.value ∙ c.in_ok-fetched.ensures.local_unfailed
-    ∙ c.in_ok-lay_out.ensures.data_unfailed
 
 pub returns-clause-hash_unfailed : goal.returns-clause-hash_unfailed
 returns-clause-hash_unfailed g c =
     ok_here c.sync-2.result _ c.sync-2.ensures.unfailed c.if-is_err-2.ensures.value ∙ c.in_ok-fetched.ensures.hash_unfailed
-    ∙ c.in_ok-lay_out.ensures.hash_unfailed
+    ∙ c.in_ok-lay_out.ensures.hash_unfailed ∙ c.in_ok-make_room.ensures.hash_unfailed
 
 pub returns-clause-data_synced : goal.returns-clause-data_synced
 returns-clause-data_synced g c = ok_here c.sync.result _ c.sync.ensures.synced c.if-is_err.ensures.value
@@ -34,12 +34,16 @@ returns-clause-pulled g c =
     let S = g.S.BlockStore in
     let H = g.H.BlockStore in
     let t = c.args.tree.now in
-    let laid = c.in_ok-lay_out.ensures in
+    let lay = c.in_ok-lay_out.ensures in
     let e = c.in_ok-fetched.ensures in
     let l0 = c.args.local_data.now in
     let l1 = c.lay_out.new.local_data in
     let l2 = c.go_through.new.local_data in
     let l3 = c.sync.new.self in
+    let k0 = c.args.local_hash.now in
+    let k1 = c.make_room.new.local_hash in
+    let superblock = c.args.superblock.now in
+    let end : ℕ = t.hash_start_block + tree_len t in
     let k2 = c.go_through.new.local_hash in
     let k3 = c.sync-2.new.self in
     let s0 = c.args.source_data.now in
@@ -49,7 +53,9 @@ returns-clause-pulled g c =
     let marks : ℕ → Marks = λ m. record { of_local = m; of_data = length (S.given s0); of_hash = length (H.given h0) } in
     let before = pull_given L S H t (marks (length (L.given l1))) l2 s2 h2 in
     let after = pull_given L S H t (marks (length (L.given l0))) l3 s2 h2 in
-    let same : length (L.given c.lay_out.new.local_data) ≡ length (L.given c.args.local_data.now) = ap length laid.data_given in
+    let made = c.in_ok-make_room.ensures in
+    let same : length (L.given c.lay_out.new.local_data) ≡ length (L.given c.args.local_data.now) =
+    ap length lay.data_given ∙ ap length made.data_given in
     let y = c.sync.ensures in
     let z = c.sync-2.ensures in
     let later : IsLater L c.go_through.new.local_data c.sync.new.self =
@@ -67,23 +73,27 @@ returns-clause-pulled g c =
     subst (λ m. Grows before (pull_given L S H t (marks m) l3 s2 h2)) same
     (pull_grows L S H t (marks (length (L.given l1))) l2 l3 s2 s2 h2 h2 later (later_same S s2) (only_read_same H h2)) in
     record {
-      data_len = ap length y.content ∙ e.data_len ∙ laid.data_len;
+      data_len = ap length y.content ∙ e.data_len ∙ lay.data_len;
       data_blocks = λ n lt. vouched_stays L t before after grows 0 n n l2 l3 y.tells (ap (λ blocks. get_or blocks n []) y.content)
           (e.data_blocks n lt);
-      hash_len = ap length z.content ∙ e.front.0 ∙ laid.hash_len;
+      hash_len = ap length z.content ∙ e.front.0 ∙ lay.hash_len;
       hash_blocks = λ v i low lt. vouched_stays K t before after grows (suc v) i (hash_place t v i) k2 k3 z.tells
           (ap (λ blocks. get_or blocks (hash_place t v i) []) z.content) (e.hash_blocks v i low lt);
       hash_front = λ told q lt.
           ap (λ blocks. get_or blocks q []) z.content ∙ e.front.1 q lt
           ∙ ap (λ blocks. get_or blocks q [])
-          (laid.front (sym laid.hash_keeps.later.tells ∙ (sym e.hash_keeps.later.tells ∙ (sym z.tells ∙ told))));
+          (lay.front (sym lay.hash_keeps.later.tells ∙ (sym e.hash_keeps.later.tells ∙ (sym z.tells ∙ told))))
+          ∙ ap (λ size. get_or (laid t.hash_start_block superblock (resized size end (K.content k1))) q []) made.hash_kept.later.size
+          ∙ ap (λ content. get_or (laid t.hash_start_block superblock (resized (K.size k0) end content)) q []) made.hash_kept.content;
     }
 
 pub returns-in_err-lay_out-clause-mixed : goal.returns-in_err-lay_out-clause-mixed
 returns-in_err-lay_out-clause-mixed g c =
-    let back : c.from_residual-in_err-lay_out.result ≡ Err c.in_err-lay_out.field-0.0 = search rules in
+    let back = err_back c.from_residual-in_err-lay_out.result c.in_err-lay_out.field-0.0 c.from_residual-in_err-lay_out.ensures.1 in
     err_here c.from_residual-in_err-lay_out.result c.in_err-lay_out.field-0.0 _ back (λ isnt n low below.
-    inl (c.in_err-lay_out.ensures.kept n low below))
+    let made = c.in_ok-make_room.ensures in
+    inl (c.in_err-lay_out.ensures.kept n (omega (arith, low, ap length made.data_kept.content)) below
+    ∙ ap (λ blocks. get_or blocks n []) made.data_kept.content))
 
 pub returns-in_err-fetched-clause-mixed : goal.returns-in_err-fetched-clause-mixed
 returns-in_err-fetched-clause-mixed g c =
@@ -91,7 +101,7 @@ returns-in_err-fetched-clause-mixed g c =
     let S = g.S.BlockStore in
     let H = g.H.BlockStore in
     let t = c.args.tree.now in
-    let laid = c.in_ok-lay_out.ensures in
+    let lay = c.in_ok-lay_out.ensures in
     let e = c.in_err-fetched.ensures in
     let s0 = c.args.source_data.now in
     let h0 = c.args.source_hash.now in
@@ -99,11 +109,14 @@ returns-in_err-fetched-clause-mixed g c =
     let s2 = c.go_through.new.source_data in
     let h2 = c.go_through.new.source_hash in
     let marks : ℕ → Marks = λ m. record { of_local = m; of_data = length (S.given s0); of_hash = length (H.given h0) } in
-    let same : length (L.given c.lay_out.new.local_data) ≡ length (L.given c.args.local_data.now) = ap length laid.data_given in
-    let p = err_from_is_err_and c.from_residual-in_err-fetched.result c.from_residual-in_err-fetched.ensures.1 in
-    err_here c.from_residual-in_err-fetched.result c.in_err-fetched.field-0.0 _ (p.1 ∙ ap (λ why. Err why) p.2) (λ isnt n low below.
+    let made = c.in_ok-make_room.ensures in
+    let same : length (L.given c.lay_out.new.local_data) ≡ length (L.given c.args.local_data.now) =
+    ap length lay.data_given ∙ ap length made.data_given in
+    let back = err_back c.from_residual-in_err-fetched.result c.in_err-fetched.field-0.0 c.from_residual-in_err-fetched.ensures.1 in
+    err_here c.from_residual-in_err-fetched.result c.in_err-fetched.field-0.0 _ back (λ isnt n low below.
     ⊎_elim
-    (λ stays. inl (stays ∙ laid.kept n low below))
+    (λ stays. inl (stays ∙ lay.kept n (omega (arith, low, ap length made.data_kept.content)) below
+    ∙ ap (λ blocks. get_or blocks n []) made.data_kept.content))
     (λ v. inr (subst (λ m. IsVouched L t (pull_given L S H t (marks m) l2 s2 h2) 0 n n l2) same v))
     (e.mixed isnt n))
 
@@ -113,7 +126,7 @@ returns-then-is_err-2-clause-mixed g c = λ isnt n low below.
     let S = g.S.BlockStore in
     let H = g.H.BlockStore in
     let t = c.args.tree.now in
-    let laid = c.in_ok-lay_out.ensures in
+    let lay = c.in_ok-lay_out.ensures in
     let e = c.in_ok-fetched.ensures in
     let l0 = c.args.local_data.now in
     let l1 = c.lay_out.new.local_data in
@@ -126,7 +139,9 @@ returns-then-is_err-2-clause-mixed g c = λ isnt n low below.
     let marks : ℕ → Marks = λ m. record { of_local = m; of_data = length (S.given s0); of_hash = length (H.given h0) } in
     let before = pull_given L S H t (marks (length (L.given l1))) l2 s2 h2 in
     let after = pull_given L S H t (marks (length (L.given l0))) l3 s2 h2 in
-    let same : length (L.given c.lay_out.new.local_data) ≡ length (L.given c.args.local_data.now) = ap length laid.data_given in
+    let made = c.in_ok-make_room.ensures in
+    let same : length (L.given c.lay_out.new.local_data) ≡ length (L.given c.args.local_data.now) =
+    ap length lay.data_given ∙ ap length made.data_given in
     let y = c.sync.ensures in
     let later : IsLater L c.go_through.new.local_data c.sync.new.self =
     record {
@@ -146,18 +161,194 @@ returns-then-is_err-2-clause-mixed g c = λ isnt n low below.
 
 pub returns-clause-sized : goal.returns-clause-sized
 returns-clause-sized g c =
-    let suit = c.in_ok-check_stores.ensures.suit in
-    let laid = c.in_ok-lay_out.ensures in
+    let suit = c.in-None.ensures in
+    let made = c.in_ok-make_room.ensures in
+    let lay = c.in_ok-lay_out.ensures in
     let e = c.in_ok-fetched.ensures in (
-      c.sync.ensures.size ∙ e.local_keeps.size ∙ laid.data_keeps.later.size ∙ suit.data_size,
-      e.source_keeps.later.size ∙ suit.source_size,
-      e.source_hash_keeps.later.size ∙ suit.source_tree.size,
+      c.sync.ensures.size ∙ e.local_keeps.size ∙ lay.data_keeps.later.size ∙ made.data_kept.later.size ∙ (suit role.LocalData).0,
+      e.source_keeps.later.size ∙ (suit role.SourceData).0,
+      e.source_hash_keeps.later.size ∙ (suit role.SourceHash).0,
     )
 
 pub returns-clause-told : goal.returns-clause-told
 returns-clause-told g c =
-    let laid = c.in_ok-lay_out.ensures in
+    let made = c.in_ok-make_room.ensures in
+    let lay = c.in_ok-lay_out.ensures in
     let e = c.in_ok-fetched.ensures in (
-      c.sync.ensures.tells ∙ e.local_keeps.tells ∙ laid.data_keeps.later.tells,
-      c.sync-2.ensures.tells ∙ e.hash_keeps.later.tells ∙ laid.hash_keeps.later.tells,
+      c.sync.ensures.tells ∙ e.local_keeps.tells ∙ lay.data_keeps.later.tells ∙ made.data_kept.later.tells,
+      c.sync-2.ensures.tells ∙ e.hash_keeps.later.tells ∙ lay.hash_keeps.later.tells ∙ made.hash_kept.later.tells,
+    )
+
+pub returns-in_err-lay_out-clause-hash_mixed : goal.returns-in_err-lay_out-clause-hash_mixed
+returns-in_err-lay_out-clause-hash_mixed g c =
+    let K = g.K.BlockStore in
+    let t = c.args.tree.now in
+    let back = err_back c.from_residual-in_err-lay_out.result c.in_err-lay_out.field-0.0 c.from_residual-in_err-lay_out.ensures.1 in
+    err_here c.from_residual-in_err-lay_out.result c.in_err-lay_out.field-0.0 _ back (λ isnt v i low lt there.
+    let made = c.in_ok-make_room.ensures in
+    let q : ℕ = hash_place t v i in
+    inl (c.in_err-lay_out.ensures.hash_kept q (place_from t v i) (place_low t v i low lt)
+    (omega (arith, there, ap length made.hash_kept.content))
+    ∙ ap (λ blocks. get_or blocks q []) made.hash_kept.content))
+
+pub returns-in_err-fetched-clause-hash_mixed : goal.returns-in_err-fetched-clause-hash_mixed
+returns-in_err-fetched-clause-hash_mixed g c =
+    let L = g.L.BlockStore in
+    let K = g.K.BlockStore in
+    let S = g.S.BlockStore in
+    let H = g.H.BlockStore in
+    let t = c.args.tree.now in
+    let made = c.in_ok-make_room.ensures in
+    let lay = c.in_ok-lay_out.ensures in
+    let e = c.in_err-fetched.ensures in
+    let l2 = c.go_through.new.local_data in
+    let k2 = c.go_through.new.local_hash in
+    let s2 = c.go_through.new.source_data in
+    let h2 = c.go_through.new.source_hash in
+    let marks = marks_at L S H c.args.local_data.now c.args.source_data.now c.args.source_hash.now in
+    let back = err_back c.from_residual-in_err-fetched.result c.in_err-fetched.field-0.0 c.from_residual-in_err-fetched.ensures.1 in
+    err_here c.from_residual-in_err-fetched.result c.in_err-fetched.field-0.0 _ back (λ isnt v i low lt there.
+    let q : ℕ = hash_place t v i in
+    ⊎_elim
+    (λ stays. inl (stays ∙ lay.hash_kept q (place_from t v i) (place_low t v i low lt)
+    (omega (arith, there, ap length made.hash_kept.content))
+    ∙ ap (λ blocks. get_or blocks q []) made.hash_kept.content))
+    (λ vouched. inr (vouched_grows K t (hash_given H t marks.of_hash h2) (pull_given L S H t marks l2 s2 h2)
+    (hash_into L S H t marks l2 s2 h2) (suc v) i q k2 vouched))
+    (e.hash_mixed isnt v i low lt))
+
+pub returns-in_err-fetched-clause-wrong : goal.returns-in_err-fetched-clause-wrong
+returns-in_err-fetched-clause-wrong g c =
+    let S = g.S.BlockStore in
+    let H = g.H.BlockStore in
+    let t = c.args.tree.now in
+    let back = err_back c.from_residual-in_err-fetched.result c.in_err-fetched.field-0.0 c.from_residual-in_err-fetched.ensures.1 in
+    err_here c.from_residual-in_err-fetched.result c.in_err-fetched.field-0.0 _ back
+    (wrong_weaker c.in_err-fetched.field-0.0 _ _ (λ here w. w) c.in_err-fetched.ensures.wrong)
+
+pub returns-in_err-lay_out-clause-wrong : goal.returns-in_err-lay_out-clause-wrong
+returns-in_err-lay_out-clause-wrong g c =
+    let back = err_back c.from_residual-in_err-lay_out.result c.in_err-lay_out.field-0.0 c.from_residual-in_err-lay_out.ensures.1 in
+    err_here c.from_residual-in_err-lay_out.result c.in_err-lay_out.field-0.0 _ back
+    (wrong_never c.in_err-lay_out.field-0.0 _ (λ here is. c.in_err-lay_out.ensures.not_wrong here (ap (λ why. Err why) is)))
+
+pub returns-in_err-make_room-clause-wrong : goal.returns-in_err-make_room-clause-wrong
+returns-in_err-make_room-clause-wrong g c =
+    let back = err_back c.from_residual-in_err-make_room.result c.in_err-make_room.field-0.0 c.from_residual-in_err-make_room.ensures.1 in
+    err_here c.from_residual-in_err-make_room.result c.in_err-make_room.field-0.0 _ back
+    (wrong_memory c.in_err-make_room.field-0.0 _ c.in_err-make_room.ensures.only)
+
+pub returns-then-is_err-clause-hash_mixed : goal.returns-then-is_err-clause-hash_mixed
+returns-then-is_err-clause-hash_mixed g c = λ isnt v i low lt there.
+    let L = g.L.BlockStore in
+    let K = g.K.BlockStore in
+    let S = g.S.BlockStore in
+    let H = g.H.BlockStore in
+    let t = c.args.tree.now in
+    let made = c.in_ok-make_room.ensures in
+    let lay = c.in_ok-lay_out.ensures in
+    let e = c.in_ok-fetched.ensures in
+    let l0 = c.args.local_data.now in
+    let l1 = c.lay_out.new.local_data in
+    let l2 = c.go_through.new.local_data in
+    let l3 = c.sync.new.self in
+    let k2 = c.go_through.new.local_hash in
+    let s0 = c.args.source_data.now in
+    let s2 = c.go_through.new.source_data in
+    let h0 = c.args.source_hash.now in
+    let h2 = c.go_through.new.source_hash in
+    let marks : ℕ → Marks = λ m. record { of_local = m; of_data = length (S.given s0); of_hash = length (H.given h0) } in
+    let before = pull_given L S H t (marks (length (L.given l1))) l2 s2 h2 in
+    let after = pull_given L S H t (marks (length (L.given l0))) l3 s2 h2 in
+    let same : length (L.given c.lay_out.new.local_data) ≡ length (L.given c.args.local_data.now) =
+    ap length lay.data_given ∙ ap length made.data_given in
+    let y = c.sync.ensures in
+    let later : IsLater L c.go_through.new.local_data c.sync.new.self =
+    record {
+      tells = y.tells;
+      size = y.size;
+      fixed = y.fixed;
+      gave = y.gave;
+      failures = y.failures;
+      reads = omega (arith, y.reads);
+      changes = omega (arith, y.changes);
+      room = omega (arith, y.room);
+    } in
+    let grows : Grows before after =
+    subst (λ m. Grows before (pull_given L S H t (marks m) l3 s2 h2)) same
+    (pull_grows L S H t (marks (length (L.given l1))) l2 l3 s2 s2 h2 h2 later (later_same S s2) (only_read_same H h2)) in
+    inr (vouched_grows K t before after grows (suc v) i (hash_place t v i) k2 (e.hash_blocks v i low lt))
+
+pub returns-in-Some-clause-unsuited : goal.returns-in-Some-clause-unsuited
+returns-in-Some-clause-unsuited g c = λ role is.
+    let L = g.L.BlockStore in
+    let K = g.K.BlockStore in
+    let S = g.S.BlockStore in
+    let H = g.H.BlockStore in
+    let t = c.args.tree.now in
+    let l = c.args.local_data.now in
+    let k = c.args.local_hash.now in
+    let s = c.args.source_data.now in
+    let h = c.args.source_hash.now in
+    subst (λ r. Suits L K S H t l k s h r → ⊥) (unsuited_is _ c.in-Some.role role refl is) c.in-Some.ensures
+
+pub lay_out-requires-clause-size : goal.lay_out-requires-clause-size
+lay_out-requires-clause-size g c = c.in_ok-make_room.ensures.hash_kept.later.size ∙ (c.in-None.ensures role.LocalHash).0
+
+pub go_through-requires-clause-blank : goal.go_through-requires-clause-blank
+go_through-requires-clause-blank g c = λ q from below.
+    let L = g.L.BlockStore in
+    let made = c.in_ok-make_room.ensures in
+    let blocks : c.data_blocks-blocks.result ≡ c.args.tree.now.data_blocks =
+    c.data_blocks-blocks.ensures.value ∙ ap (λ (x : Table). x.data_blocks) c.table-3.ensures.value in
+    let behind : length (L.content c.make_room.new.local_data) ≤ q =
+    omega (arith, from, below, blocks, c.min-have.ensures, c.len.ensures, ap length made.data_kept.content) in
+    c.in_ok-lay_out.ensures.blank q behind below
+    ∙ ap zero_block (made.data_kept.later.size ∙ (c.in-None.ensures role.LocalData).0)
+
+pub go_through-requires-clause-data_size : goal.go_through-requires-clause-data_size
+go_through-requires-clause-data_size g c =
+    c.in_ok-lay_out.ensures.data_keeps.later.size ∙ c.in_ok-make_room.ensures.data_kept.later.size ∙ (c.in-None.ensures role.LocalData).0
+
+pub go_through-requires-clause-hash_size : goal.go_through-requires-clause-hash_size
+go_through-requires-clause-hash_size g c =
+    c.in_ok-lay_out.ensures.hash_keeps.later.size ∙ c.in_ok-make_room.ensures.hash_kept.later.size ∙ (c.in-None.ensures role.LocalHash).0
+
+pub go_through-requires-clause-source_size : goal.go_through-requires-clause-source_size
+go_through-requires-clause-source_size g c = (c.in-None.ensures role.SourceData).0
+
+pub go_through-requires-clause-source_there : goal.go_through-requires-clause-source_there
+go_through-requires-clause-source_there g c = (c.in-None.ensures role.SourceData).1
+
+pub go_through-requires-clause-source_hash : goal.go_through-requires-clause-source_hash
+go_through-requires-clause-source_hash g c =
+    let suit = c.in-None.ensures role.SourceHash in record { size = suit.0; tree = λ some. suit.1 }
+
+pub go_through-requires-clause-zeroed : goal.go_through-requires-clause-zeroed
+go_through-requires-clause-zeroed g c =
+    let size : c.data_block_size-size.result ≡ c.args.tree.now.data_block_size =
+    c.data_block_size-size.ensures.value ∙ ap (λ (x : Table). x.data_block_size) c.table.ensures.value in
+    let blank : c.deref_mut.result.now ≡ replicate c.max.result 0 =
+    c.deref_mut.ensures.value ∙ c.in_ok-room.ensures.items_if_clones_equal (λ y same. same) in
+    ap (take c.args.tree.now.data_block_size) blank
+    ∙ take-replicate c.args.tree.now.data_block_size c.max.result 0 (omega (arith, size, c.longest_run.ensures.one, c.max.ensures))
+
+pub returns-then-is_err-clause-local_failed : goal.returns-then-is_err-clause-local_failed
+returns-then-is_err-clause-local_failed g c = λ is.
+    omega (
+      arith,
+      err_fact c.sync.result _ c.sync.ensures.failed (sym c.if-is_err.true ∙ c.is_err.ensures.value),
+      c.in_ok-fetched.ensures.local_keeps.failures,
+      c.in_ok-lay_out.ensures.data_keeps.later.failures,
+      c.in_ok-make_room.ensures.data_kept.later.failures,
+    )
+
+pub returns-then-is_err-2-clause-hash_failed : goal.returns-then-is_err-2-clause-hash_failed
+returns-then-is_err-2-clause-hash_failed g c = λ is.
+    omega (
+      arith,
+      err_fact c.sync-2.result _ c.sync-2.ensures.failed (sym c.if-is_err-2.true ∙ c.is_err-2.ensures.value),
+      c.in_ok-fetched.ensures.hash_keeps.later.failures,
+      c.in_ok-lay_out.ensures.hash_keeps.later.failures,
+      c.in_ok-make_room.ensures.hash_kept.later.failures,
     )
