@@ -10,7 +10,7 @@ use Rattle.verity_chain.proofs.ChainLemmas.{Grows, ok_here}
 use Rattle.verity_pull.specs.declared.fault.Role.TheVariants as role
 use Rattle.verity_pull.specs.Pull.{Marks, marks_at, pull_given, Suits, laid}
 use Rattle.verity_pull.specs.Walk.{IsVouched}
-use Rattle.verity_pull.proofs.StepLemmas.{err_fact, err_back, err_here, wrong_weaker, wrong_memory, wrong_never, unsuited_is}
+use Rattle.verity_pull.proofs.StepLemmas.{err_back, err_here, wrong_weaker, wrong_store, wrong_memory, wrong_never, unsuited_is}
 use Rattle.verity_pull.proofs.VouchLemmas.{vouched_stays, hash_into, pull_grows}
 use Rattle.verity_pull.proofs.WalkLemmas.{vouched_grows}
 use Rattle.verity_pull.proofs.LayLemmas.{place_low, place_from}
@@ -18,14 +18,8 @@ use Rattle.verity_pull.proofs.pulling.pull.Goals as goal
 
 pub returns-clause-hash_unfailed : goal.returns-clause-hash_unfailed
 returns-clause-hash_unfailed g c =
-    ok_here c.sync-2.result _ c.sync-2.ensures.unfailed c.if-is_err-2.ensures.value ∙ c.in_ok-fetched.ensures.hash_unfailed
+    c.in_ok-keep-2.ensures.unfailed ∙ c.in_ok-fetched.ensures.hash_unfailed
     ∙ c.in_ok-lay_out.ensures.hash_unfailed ∙ c.in_ok-make_room.ensures.hash_unfailed
-
-pub returns-clause-data_synced : goal.returns-clause-data_synced
-returns-clause-data_synced g c = ok_here c.sync.result _ c.sync.ensures.synced c.if-is_err.ensures.value
-
-pub returns-clause-hash_synced : goal.returns-clause-hash_synced
-returns-clause-hash_synced g c = ok_here c.sync-2.result _ c.sync-2.ensures.synced c.if-is_err-2.ensures.value
 
 pub returns-clause-pulled : goal.returns-clause-pulled
 returns-clause-pulled g c =
@@ -39,13 +33,13 @@ returns-clause-pulled g c =
     let l0 = c.args.local_data.now in
     let l1 = c.lay_out.new.local_data in
     let l2 = c.go_through.new.local_data in
-    let l3 = c.sync.new.self in
+    let l3 = c.keep.new.store in
     let k0 = c.args.local_hash.now in
     let k1 = c.make_room.new.local_hash in
     let superblock = c.args.superblock.now in
     let end : ℕ = t.hash_start_block + tree_len t in
     let k2 = c.go_through.new.local_hash in
-    let k3 = c.sync-2.new.self in
+    let k3 = c.keep-2.new.store in
     let s0 = c.args.source_data.now in
     let s2 = c.go_through.new.source_data in
     let h0 = c.args.source_hash.now in
@@ -56,33 +50,23 @@ returns-clause-pulled g c =
     let made = c.in_ok-make_room.ensures in
     let same : length (L.given c.lay_out.new.local_data) ≡ length (L.given c.args.local_data.now) =
     ap length lay.data_given ∙ ap length made.data_given in
-    let y = c.sync.ensures in
-    let z = c.sync-2.ensures in
-    let later : IsLater L c.go_through.new.local_data c.sync.new.self =
-    record {
-      tells = y.tells;
-      size = y.size;
-      fixed = y.fixed;
-      gave = y.gave;
-      failures = y.failures;
-      reads = omega (arith, y.reads);
-      changes = omega (arith, y.changes);
-      room = omega (arith, y.room);
-    } in
+    let y = c.in_ok-keep.ensures.keeps in
+    let z = c.in_ok-keep-2.ensures.keeps in
+    let later = y.later in
     let grows : Grows before after =
     subst (λ m. Grows before (pull_given L S H t (marks m) l3 s2 h2)) same
     (pull_grows L S H t (marks (length (L.given l1))) l2 l3 s2 s2 h2 h2 later (later_same S s2) (only_read_same H h2)) in
     record {
       data_len = ap length y.content ∙ e.data_len ∙ lay.data_len;
-      data_blocks = λ n lt. vouched_stays L t before after grows 0 n n l2 l3 y.tells (ap (λ blocks. get_or blocks n []) y.content)
+      data_blocks = λ n lt. vouched_stays L t before after grows 0 n n l2 l3 y.later.tells (ap (λ blocks. get_or blocks n []) y.content)
           (e.data_blocks n lt);
       hash_len = ap length z.content ∙ e.front.0 ∙ lay.hash_len;
-      hash_blocks = λ v i low lt. vouched_stays K t before after grows (suc v) i (hash_place t v i) k2 k3 z.tells
+      hash_blocks = λ v i low lt. vouched_stays K t before after grows (suc v) i (hash_place t v i) k2 k3 z.later.tells
           (ap (λ blocks. get_or blocks (hash_place t v i) []) z.content) (e.hash_blocks v i low lt);
       hash_front = λ told q lt.
           ap (λ blocks. get_or blocks q []) z.content ∙ e.front.1 q lt
           ∙ ap (λ blocks. get_or blocks q [])
-          (lay.front (sym lay.hash_keeps.later.tells ∙ (sym e.hash_keeps.later.tells ∙ (sym z.tells ∙ told))))
+          (lay.front (sym lay.hash_keeps.later.tells ∙ (sym e.hash_keeps.later.tells ∙ (sym z.later.tells ∙ told))))
           ∙ ap (λ size. get_or (laid t.hash_start_block superblock (resized size end (K.content k1))) q []) made.hash_kept.later.size
           ∙ ap (λ content. get_or (laid t.hash_start_block superblock (resized (K.size k0) end content)) q []) made.hash_kept.content;
     }
@@ -120,8 +104,8 @@ returns-in_err-fetched-clause-mixed g c =
     (λ v. inr (subst (λ m. IsVouched L t (pull_given L S H t (marks m) l2 s2 h2) 0 n n l2) same v))
     (e.mixed isnt n))
 
-pub returns-then-is_err-2-clause-mixed : goal.returns-then-is_err-2-clause-mixed
-returns-then-is_err-2-clause-mixed g c = λ isnt n low below.
+pub returns-in_err-keep-2-clause-mixed : goal.returns-in_err-keep-2-clause-mixed
+returns-in_err-keep-2-clause-mixed g c =
     let L = g.L.BlockStore in
     let S = g.S.BlockStore in
     let H = g.H.BlockStore in
@@ -131,7 +115,7 @@ returns-then-is_err-2-clause-mixed g c = λ isnt n low below.
     let l0 = c.args.local_data.now in
     let l1 = c.lay_out.new.local_data in
     let l2 = c.go_through.new.local_data in
-    let l3 = c.sync.new.self in
+    let l3 = c.keep.new.store in
     let s0 = c.args.source_data.now in
     let s2 = c.go_through.new.source_data in
     let h0 = c.args.source_hash.now in
@@ -142,22 +126,14 @@ returns-then-is_err-2-clause-mixed g c = λ isnt n low below.
     let made = c.in_ok-make_room.ensures in
     let same : length (L.given c.lay_out.new.local_data) ≡ length (L.given c.args.local_data.now) =
     ap length lay.data_given ∙ ap length made.data_given in
-    let y = c.sync.ensures in
-    let later : IsLater L c.go_through.new.local_data c.sync.new.self =
-    record {
-      tells = y.tells;
-      size = y.size;
-      fixed = y.fixed;
-      gave = y.gave;
-      failures = y.failures;
-      reads = omega (arith, y.reads);
-      changes = omega (arith, y.changes);
-      room = omega (arith, y.room);
-    } in
+    let y = c.in_ok-keep.ensures.keeps in
+    let later = y.later in
     let grows : Grows before after =
     subst (λ m. Grows before (pull_given L S H t (marks m) l3 s2 h2)) same
     (pull_grows L S H t (marks (length (L.given l1))) l2 l3 s2 s2 h2 h2 later (later_same S s2) (only_read_same H h2)) in
-    inr (vouched_stays L t before after grows 0 n n l2 l3 y.tells (ap (λ blocks. get_or blocks n []) y.content) (e.data_blocks n below))
+    let back = err_back c.from_residual-in_err-keep-2.result c.in_err-keep-2.field-0.0 c.from_residual-in_err-keep-2.ensures.1 in
+    err_here c.from_residual-in_err-keep-2.result c.in_err-keep-2.field-0.0 _ back (λ isnt n low below.
+    inr (vouched_stays L t before after grows 0 n n l2 l3 y.later.tells (ap (λ blocks. get_or blocks n []) y.content) (e.data_blocks n below)))
 
 pub returns-clause-sized : goal.returns-clause-sized
 returns-clause-sized g c =
@@ -165,7 +141,7 @@ returns-clause-sized g c =
     let made = c.in_ok-make_room.ensures in
     let lay = c.in_ok-lay_out.ensures in
     let e = c.in_ok-fetched.ensures in (
-      c.sync.ensures.size ∙ e.local_keeps.size ∙ lay.data_keeps.later.size ∙ made.data_kept.later.size ∙ (suit role.LocalData).0,
+      c.in_ok-keep.ensures.keeps.later.size ∙ e.local_keeps.size ∙ lay.data_keeps.later.size ∙ made.data_kept.later.size ∙ (suit role.LocalData).0,
       e.source_keeps.later.size ∙ (suit role.SourceData).0,
       e.source_hash_keeps.later.size ∙ (suit role.SourceHash).0,
     )
@@ -175,8 +151,8 @@ returns-clause-told g c =
     let made = c.in_ok-make_room.ensures in
     let lay = c.in_ok-lay_out.ensures in
     let e = c.in_ok-fetched.ensures in (
-      c.sync.ensures.tells ∙ e.local_keeps.tells ∙ lay.data_keeps.later.tells ∙ made.data_kept.later.tells,
-      c.sync-2.ensures.tells ∙ e.hash_keeps.later.tells ∙ lay.hash_keeps.later.tells ∙ made.hash_kept.later.tells,
+      c.in_ok-keep.ensures.keeps.later.tells ∙ e.local_keeps.tells ∙ lay.data_keeps.later.tells ∙ made.data_kept.later.tells,
+      c.in_ok-keep-2.ensures.keeps.later.tells ∙ e.hash_keeps.later.tells ∙ lay.hash_keeps.later.tells ∙ made.hash_kept.later.tells,
     )
 
 pub returns-in_err-lay_out-clause-hash_mixed : goal.returns-in_err-lay_out-clause-hash_mixed
@@ -238,8 +214,8 @@ returns-in_err-make_room-clause-wrong g c =
     err_here c.from_residual-in_err-make_room.result c.in_err-make_room.field-0.0 _ back
     (wrong_memory c.in_err-make_room.field-0.0 _ c.in_err-make_room.ensures.only)
 
-pub returns-then-is_err-clause-hash_mixed : goal.returns-then-is_err-clause-hash_mixed
-returns-then-is_err-clause-hash_mixed g c = λ isnt v i low lt there.
+pub returns-in_err-keep-clause-hash_mixed : goal.returns-in_err-keep-clause-hash_mixed
+returns-in_err-keep-clause-hash_mixed g c =
     let L = g.L.BlockStore in
     let K = g.K.BlockStore in
     let S = g.S.BlockStore in
@@ -251,7 +227,7 @@ returns-then-is_err-clause-hash_mixed g c = λ isnt v i low lt there.
     let l0 = c.args.local_data.now in
     let l1 = c.lay_out.new.local_data in
     let l2 = c.go_through.new.local_data in
-    let l3 = c.sync.new.self in
+    let l3 = c.keep.new.store in
     let k2 = c.go_through.new.local_hash in
     let s0 = c.args.source_data.now in
     let s2 = c.go_through.new.source_data in
@@ -262,22 +238,14 @@ returns-then-is_err-clause-hash_mixed g c = λ isnt v i low lt there.
     let after = pull_given L S H t (marks (length (L.given l0))) l3 s2 h2 in
     let same : length (L.given c.lay_out.new.local_data) ≡ length (L.given c.args.local_data.now) =
     ap length lay.data_given ∙ ap length made.data_given in
-    let y = c.sync.ensures in
-    let later : IsLater L c.go_through.new.local_data c.sync.new.self =
-    record {
-      tells = y.tells;
-      size = y.size;
-      fixed = y.fixed;
-      gave = y.gave;
-      failures = y.failures;
-      reads = omega (arith, y.reads);
-      changes = omega (arith, y.changes);
-      room = omega (arith, y.room);
-    } in
+    let y = c.in_err-keep.ensures.keeps in
+    let later = y.later in
     let grows : Grows before after =
     subst (λ m. Grows before (pull_given L S H t (marks m) l3 s2 h2)) same
     (pull_grows L S H t (marks (length (L.given l1))) l2 l3 s2 s2 h2 h2 later (later_same S s2) (only_read_same H h2)) in
-    inr (vouched_grows K t before after grows (suc v) i (hash_place t v i) k2 (e.hash_blocks v i low lt))
+    let back = err_back c.from_residual-in_err-keep.result c.in_err-keep.field-0.0 c.from_residual-in_err-keep.ensures.1 in
+    err_here c.from_residual-in_err-keep.result c.in_err-keep.field-0.0 _ back (λ isnt v i low lt there.
+    inr (vouched_grows K t before after grows (suc v) i (hash_place t v i) k2 (e.hash_blocks v i low lt)))
 
 pub returns-in-Some-clause-unsuited : goal.returns-in-Some-clause-unsuited
 returns-in-Some-clause-unsuited g c = λ role is.
@@ -333,22 +301,24 @@ go_through-requires-clause-zeroed g c =
     ap (take c.args.tree.now.data_block_size) blank
     ∙ take-replicate c.args.tree.now.data_block_size c.max.result 0 (omega (arith, size, c.longest_run.ensures.one, c.max.ensures))
 
-pub returns-then-is_err-clause-local_failed : goal.returns-then-is_err-clause-local_failed
-returns-then-is_err-clause-local_failed g c = λ is.
-    omega (
-      arith,
-      err_fact c.sync.result _ c.sync.ensures.failed (sym c.if-is_err.true ∙ c.is_err.ensures.value),
-      c.in_ok-fetched.ensures.local_keeps.failures,
-      c.in_ok-lay_out.ensures.data_keeps.later.failures,
-      c.in_ok-make_room.ensures.data_kept.later.failures,
-    )
+pub returns-in_err-keep-clause-mixed : goal.returns-in_err-keep-clause-mixed
+returns-in_err-keep-clause-mixed g c =
+    let back = err_back c.from_residual-in_err-keep.result c.in_err-keep.field-0.0 c.from_residual-in_err-keep.ensures.1 in
+    err_here c.from_residual-in_err-keep.result c.in_err-keep.field-0.0 _ back (λ isnt. absurd (isnt c.in_err-keep.ensures.only))
 
-pub returns-then-is_err-2-clause-hash_failed : goal.returns-then-is_err-2-clause-hash_failed
-returns-then-is_err-2-clause-hash_failed g c = λ is.
-    omega (
-      arith,
-      err_fact c.sync-2.result _ c.sync-2.ensures.failed (sym c.if-is_err-2.true ∙ c.is_err-2.ensures.value),
-      c.in_ok-fetched.ensures.hash_keeps.later.failures,
-      c.in_ok-lay_out.ensures.hash_keeps.later.failures,
-      c.in_ok-make_room.ensures.hash_kept.later.failures,
-    )
+pub returns-in_err-keep-2-clause-hash_mixed : goal.returns-in_err-keep-2-clause-hash_mixed
+returns-in_err-keep-2-clause-hash_mixed g c =
+    let back = err_back c.from_residual-in_err-keep-2.result c.in_err-keep-2.field-0.0 c.from_residual-in_err-keep-2.ensures.1 in
+    err_here c.from_residual-in_err-keep-2.result c.in_err-keep-2.field-0.0 _ back (λ isnt. absurd (isnt c.in_err-keep-2.ensures.only))
+
+pub returns-in_err-keep-clause-wrong : goal.returns-in_err-keep-clause-wrong
+returns-in_err-keep-clause-wrong g c =
+    let back = err_back c.from_residual-in_err-keep.result c.in_err-keep.field-0.0 c.from_residual-in_err-keep.ensures.1 in
+    err_here c.from_residual-in_err-keep.result c.in_err-keep.field-0.0 _ back
+    (wrong_store c.in_err-keep.field-0.0 role.LocalData _ c.in_err-keep.ensures.only)
+
+pub returns-in_err-keep-2-clause-wrong : goal.returns-in_err-keep-2-clause-wrong
+returns-in_err-keep-2-clause-wrong g c =
+    let back = err_back c.from_residual-in_err-keep-2.result c.in_err-keep-2.field-0.0 c.from_residual-in_err-keep-2.ensures.1 in
+    err_here c.from_residual-in_err-keep-2.result c.in_err-keep-2.field-0.0 _ back
+    (wrong_store c.in_err-keep-2.field-0.0 role.LocalHash _ c.in_err-keep-2.ensures.only)
