@@ -45,7 +45,8 @@ returns-clause-written g c =
     let out : List ℕ = c.read_run.new.out in
     let size : c.data_block_size-size.result ≡ c.args.tree.now.data_block_size =
     c.data_block_size-size.ensures.value ∙ ap (λ (x : Table). x.data_block_size) c.table.ensures.value in
-    ok_weaker c.write_run.result _ _ (λ written told j lt. written told j lt ∙ ap (λ m. slice_chunk out m j) size) c.write_run.ensures.written
+    ok_weaker c.write_run.result _ _ (λ written told j lt. written told j lt ∙ ap (λ m. slice_chunk out m j) size)
+    c.write_run.ensures.written
 
 pub returns-clause-untouched : goal.returns-clause-untouched
 returns-clause-untouched g c = err_weaker c.write_run.result _ _ (λ why is isnt. absurd (isnt is)) c.write_run.ensures.store

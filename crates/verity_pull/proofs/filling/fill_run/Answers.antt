@@ -39,7 +39,8 @@ returns-in_err-fetch_run-clause-wrong g c =
     let filled : ℕ = c.others_ahead-filled.result in
     let names : List (List ℕ) = c.args.names.now in
     let most = c.others_ahead-filled.ensures.most in
-    let len : length (take c.others_ahead-filled.result c.args.names.now) ≡ c.others_ahead-filled.result = length-take-le filled names most in
+    let len : length (take c.others_ahead-filled.result c.args.names.now) ≡ c.others_ahead-filled.result = length-take-le filled
+    names most in
     let back = err_back c.from_residual.result c.in_err-fetch_run.field-0.0 c.from_residual.ensures.1 in
     err_here c.from_residual.result c.in_err-fetch_run.field-0.0 _ back
     (wrong_weaker c.in_err-fetch_run.field-0.0 _ _ (λ here w mark marked rows named.

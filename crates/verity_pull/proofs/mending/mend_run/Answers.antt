@@ -41,7 +41,11 @@ returns-then-read-count-clause-taken g c = λ local_mark source_mark local_marke
     let looked : (local_mark : ℕ) → local_mark ≤ length (L.given l0) → (j : ℕ) → j < length digests
     → IsRead L t local_mark l (n + j) (get_or digests j []) (slice_chunk out (L.size l0) j) = λ local_mark local_marked j lt.
     read_there L t local_mark n count read s l0 l out digests size whole ahead.most ahead.read (ahead.given local_mark local_marked)
-    ahead.right (λ k below. c.digest_run.ensures.digests k (omega (arith, below, made, c.digest_run.auto.out))) j (omega (arith, lt, made)) in
+    ahead.right (λ k below. c.digest_run.ensures.digests k (omega (arith, below, made, c.digest_run.auto.out))) j (omega (
+      arith,
+      lt,
+      made,
+    )) in
     let each = subst (λ (x : Table). (blocks : ℕ → List ℕ) (local_mark source_mark : ℕ) → source_mark ≤ length (S.given c.args.source.now)
     → ((j : ℕ) → j < length digests → IsRead L x local_mark l (n + j) (get_or digests j []) (blocks j))
     → AreTaken L S x local_mark source_mark l' s' rows n (length digests)) c.digest_run.ensures.same c.in_ok-mend_each.ensures.taken in
@@ -75,7 +79,11 @@ returns-clause-taken g c = λ local_mark source_mark local_marked marked k upto.
     let looked : (local_mark : ℕ) → local_mark ≤ length (L.given l0) → (j : ℕ) → j < length digests
     → IsRead L t local_mark l (n + j) (get_or digests j []) (slice_chunk out (L.size l0) j) = λ local_mark local_marked j lt.
     read_there L t local_mark n count read s l0 l out digests size whole ahead.most ahead.read (ahead.given local_mark local_marked)
-    ahead.right (λ k below. c.digest_run.ensures.digests k (omega (arith, below, made, c.digest_run.auto.out))) j (omega (arith, lt, made)) in
+    ahead.right (λ k below. c.digest_run.ensures.digests k (omega (arith, below, made, c.digest_run.auto.out))) j (omega (
+      arith,
+      lt,
+      made,
+    )) in
     let each = subst (λ (x : Table). (blocks : ℕ → List ℕ) (local_mark source_mark : ℕ) → source_mark ≤ length (S.given c.args.source.now)
     → ((j : ℕ) → j < length digests → IsRead L x local_mark l (n + j) (get_or digests j []) (blocks j))
     → AreTaken L S x local_mark source_mark l' s' rows n (length digests)) c.digest_run.ensures.same c.in_ok-mend_each.ensures.taken in
@@ -123,7 +131,11 @@ returns-in_err-mend_each-clause-mixed g c =
     let looked : (local_mark : ℕ) → local_mark ≤ length (L.given l0) → (j : ℕ) → j < length digests
     → IsRead L t local_mark l (n + j) (get_or digests j []) (slice_chunk out (L.size l0) j) = λ local_mark local_marked j lt.
     read_there L t local_mark n count read s l0 l out digests size whole ahead.most ahead.read (ahead.given local_mark local_marked)
-    ahead.right (λ k below. c.digest_run.ensures.digests k (omega (arith, below, made, c.digest_run.auto.out))) j (omega (arith, lt, made)) in
+    ahead.right (λ k below. c.digest_run.ensures.digests k (omega (arith, below, made, c.digest_run.auto.out))) j (omega (
+      arith,
+      lt,
+      made,
+    )) in
     let why = c.in_err-mend_each.field-0.0 in
     let mixed = subst (λ (x : Table). why ≢ fault.Store role.LocalData → (blocks : ℕ → List ℕ) (local_mark source_mark : ℕ)
     → source_mark ≤ length (S.given c.args.source.now)
@@ -162,7 +174,11 @@ returns-in_err-take-clause-mixed g c =
     let looked : (local_mark : ℕ) → local_mark ≤ length (L.given l0) → (j : ℕ) → j < length digests
     → IsRead L t local_mark l (n + j) (get_or digests j []) (slice_chunk out (L.size l0) j) = λ local_mark local_marked j lt.
     read_there L t local_mark n count read s l0 l out digests size whole ahead.most ahead.read (ahead.given local_mark local_marked)
-    ahead.right (λ k below. c.digest_run.ensures.digests k (omega (arith, below, made, c.digest_run.auto.out))) j (omega (arith, lt, made)) in
+    ahead.right (λ k below. c.digest_run.ensures.digests k (omega (arith, below, made, c.digest_run.auto.out))) j (omega (
+      arith,
+      lt,
+      made,
+    )) in
     let each = subst (λ (x : Table). (blocks : ℕ → List ℕ) (local_mark source_mark : ℕ) → source_mark ≤ length (S.given c.args.source.now)
     → ((j : ℕ) → j < length digests → IsRead L x local_mark l (n + j) (get_or digests j []) (blocks j))
     → AreTaken L S x local_mark source_mark l' s' rows n (length digests)) c.digest_run.ensures.same c.in_ok-mend_each.ensures.taken in
@@ -311,7 +327,8 @@ returns-clause-others g c =
     let within : ChangesWithin c.args.n c.read_ahead-read.result (L.content c.args.local.now) (L.content c.mend_each.new.local) =
     subst (λ m. ChangesWithin n m (L.content l0) (L.content l')) made
     (subst (λ blocks. ChangesWithin n (length digests) blocks (L.content l')) ahead.read.content c.in_ok-mend_each.ensures.others) in
-    within_wider n read count (L.content l0) (L.content l') (L.content l'') (omega (arith, ahead.most, c.if-read-count.false)) within c.in_ok-take.ensures.others
+    within_wider n read count (L.content l0) (L.content l') (L.content l'') (omega (arith, ahead.most, c.if-read-count.false)) within
+    c.in_ok-take.ensures.others
 
 pub returns-in_err-take-clause-others : goal.returns-in_err-take-clause-others
 returns-in_err-take-clause-others g c =
@@ -333,7 +350,8 @@ returns-in_err-take-clause-others g c =
     let within : ChangesWithin c.args.n c.read_ahead-read.result (L.content c.args.local.now) (L.content c.mend_each.new.local) =
     subst (λ m. ChangesWithin n m (L.content l0) (L.content l')) made
     (subst (λ blocks. ChangesWithin n (length digests) blocks (L.content l')) ahead.read.content c.in_ok-mend_each.ensures.others) in
-    within_wider n read count (L.content l0) (L.content l') (L.content l'') (omega (arith, ahead.most, c.if-read-count.false)) within c.in_err-take.ensures.others
+    within_wider n read count (L.content l0) (L.content l') (L.content l'') (omega (arith, ahead.most, c.if-read-count.false)) within
+    c.in_err-take.ensures.others
 
 pub returns-clause-behind : goal.returns-clause-behind
 returns-clause-behind g c =

@@ -1,4 +1,5 @@
-use Rattle.std.proofs.Common.{Err, inl, inr, ⊎_elim, suc, ℕ, ◌+◌, ◌≤◌, ◌≡◌, [], length, take, replicate, get_or, refl, sym, ap, subst, ◌∙◌, arith}
+use Rattle.std.proofs.Common.{Err, inl, inr, ⊎_elim, suc, ℕ, ◌+◌, ◌≤◌, ◌≡◌, []}
+use Rattle.std.proofs.Common.{length, take, replicate, get_or, refl, sym, ap, subst, ◌∙◌, arith}
 use Rattle.verity_store.specs.Blocks.{resized}
 use Rattle.verity_store.specs.Stores.{IsLater}
 use Rattle.verity_store.proofs.StoreLemmas.{later_same, only_read_same}
@@ -133,7 +134,8 @@ returns-in_err-keep-2-clause-mixed g c =
     (pull_grows L S H t (marks (length (L.given l1))) l2 l3 s2 s2 h2 h2 later (later_same S s2) (only_read_same H h2)) in
     let back = err_back c.from_residual-in_err-keep-2.result c.in_err-keep-2.field-0.0 c.from_residual-in_err-keep-2.ensures.1 in
     err_here c.from_residual-in_err-keep-2.result c.in_err-keep-2.field-0.0 _ back (λ isnt n low below.
-    inr (vouched_stays L t before after grows 0 n n l2 l3 y.later.tells (ap (λ blocks. get_or blocks n []) y.content) (e.data_blocks n below)))
+    inr (vouched_stays L t before after grows 0 n n l2 l3 y.later.tells (ap (λ blocks. get_or blocks n []) y.content) (e.data_blocks
+    n below)))
 
 pub returns-clause-sized : goal.returns-clause-sized
 returns-clause-sized g c =
@@ -141,7 +143,8 @@ returns-clause-sized g c =
     let made = c.in_ok-make_room.ensures in
     let lay = c.in_ok-lay_out.ensures in
     let e = c.in_ok-fetched.ensures in (
-      c.in_ok-keep.ensures.keeps.later.size ∙ e.local_keeps.size ∙ lay.data_keeps.later.size ∙ made.data_kept.later.size ∙ (suit role.LocalData).0,
+      c.in_ok-keep.ensures.keeps.later.size ∙ e.local_keeps.size ∙ lay.data_keeps.later.size ∙ made.data_kept.later.size ∙ (suit
+          role.LocalData).0,
       e.source_keeps.later.size ∙ (suit role.SourceData).0,
       e.source_hash_keeps.later.size ∙ (suit role.SourceHash).0,
     )
