@@ -58,6 +58,7 @@ fn write_run<L: BlockStore>(
     ensures written { OnOk result (L.tells local.old ≡ true
         → (j : ℕ) → j < count → slice_index_or (L.content local.new) (n + j) [] ≡ slice_chunk run.now size j) }
     ensures others { ChangesWithin n count (L.content local.old) (L.content local.new) }
+    ensures writes { OnOk result (L.changes local.new ≡ L.changes local.old + count) }
     ensures failed { OnErr result (L.failures local.old < L.failures local.new) }
     ensures asked { OnErr result (L.changes local.old < L.changes local.new) }
     ensures store { IfErr result (λ fault. fault ≡ PullFault.Store Role.LocalData) }
@@ -101,6 +102,7 @@ fn fetch_run<L: BlockStore, S: BlockStore, A: Allocator>(
         → (rows : List Known)
         → ((j : ℕ) → j < length names.now → IsName tree.old 0 (n + j) rows (slice_index_or names.now j []))
         → IsWrongIn S.BlockStore tree.old mark source.new rows n (length names.now) place)) }
+    ensures writes { OnOk result (L.changes local.new ≡ L.changes local.old + length names.now) }
     ensures reads { OnOk result (S.reads source.new ≡ S.reads source.old + length names.now) }
     ensures all { S.reads source.new ≤ S.reads source.old + length names.now }
     ensures local_failed { result ≡ Err (PullFault.Store Role.LocalData) → L.failures local.old < L.failures local.new }
@@ -169,6 +171,7 @@ pub(crate) fn fill_run<L: BlockStore, S: BlockStore, A: Allocator>(
     ensures behind { IfOk result (λ filled. ChangesWithin n filled (L.content local.old) (L.content local.new)) }
     ensures spared { slice_index_or names.now 0 [] ≡ zeros.now
         → (S.reads source.new ≡ S.reads source.old) × (L.changes local.new ≡ L.changes local.old) }
+    ensures writes { OnOk result (L.changes local.new + fetched.old ≡ L.changes local.old + fetched.new) }
     ensures reads { OnOk result (S.reads source.new + fetched.old ≡ S.reads source.old + fetched.new) }
     ensures all { S.reads source.new ≤ S.reads source.old + length names.now }
     ensures most { IfOk result (λ filled. fetched.new ≤ fetched.old + filled) }

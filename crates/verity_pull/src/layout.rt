@@ -1,5 +1,5 @@
 //! The local stores' lengths, and what stands in front of the tree.
-ghost use Rattle.std.specs.Prelude.{◌≡◌, ◌≢◌, ℕ, ◌+◌, ◌^◌, ◌<◌, ◌≤◌, true, [], length, slice_index_or, OnOk, OnErr, IfErr};
+ghost use Rattle.std.specs.Prelude.{◌≡◌, ◌≢◌, ℕ, ◌+◌, ◌^◌, ◌<◌, ◌≤◌, min, true, [], length, slice_index_or, OnOk, OnErr, IfErr};
 ghost use Rattle.verity_profile.specs.Profile.{zero_block};
 ghost use Rattle.verity_store.specs.Blocks.{resized};
 ghost use Rattle.verity_store.specs.Stores.{IsKept, IsOnlyWritten};
@@ -49,6 +49,7 @@ fn set_len<S: BlockStore>(store: &mut S, blocks: u64, role: Role) -> Result<(), 
         → slice_index_or (S.content store.new) n [] ≡ zero_block (S.size store.old)) }
     ensures failed { OnErr result (S.failures store.old < S.failures store.new) }
     ensures only { IfErr result (λ fault. fault ≡ PullFault.Store role) }
+    ensures changes { S.changes store.new ≡ S.changes store.old + 1 }
     ensures unfailed { OnOk result (S.failures store.new ≡ S.failures store.old) }
     ensures given { S.given store.new ≡ S.given store.old }
     ensures keeps { IsOnlyWritten S.BlockStore store.old store.new }
@@ -77,6 +78,7 @@ fn put_superblock<K: BlockStore>(
     ensures len { length (K.content local_hash.new) ≡ length (K.content local_hash.old) }
     ensures failed { OnErr result (K.failures local_hash.old < K.failures local_hash.new) }
     ensures store { IfErr result (λ fault. fault ≡ PullFault.Store Role.LocalHash) }
+    ensures changes { K.changes local_hash.new ≡ K.changes local_hash.old + min start 1 }
     ensures unfailed { OnOk result (K.failures local_hash.new ≡ K.failures local_hash.old) }
     ensures given { K.given local_hash.new ≡ K.given local_hash.old }
     ensures keeps { IsOnlyWritten K.BlockStore local_hash.old local_hash.new }
@@ -120,6 +122,9 @@ pub(crate) fn lay_out<L: BlockStore, K: BlockStore, A: Allocator>(
     ensures not_memory { result ≢ Err PullFault.NoMemory }
     ensures not_unsuited { (role : Role) → result ≢ Err (PullFault.Unsuited role) }
     ensures not_wrong { (place : Place) → result ≢ Err (PullFault.Wrong place) }
+    ensures data_changes { OnOk result (L.changes local_data.new ≡ L.changes local_data.old + 1) }
+    ensures hash_changes { OnOk result (K.changes local_hash.new
+        ≡ K.changes local_hash.old + (1 + min tree.now.hash_start_block 1)) }
     ensures data_unfailed { OnOk result (L.failures local_data.new ≡ L.failures local_data.old) }
     ensures hash_unfailed { OnOk result (K.failures local_hash.new ≡ K.failures local_hash.old) }
     ensures data_given { L.given local_data.new ≡ L.given local_data.old }

@@ -43,6 +43,7 @@ fn mend_each<L: BlockStore, S: BlockStore, A: Allocator>(
     ensures wrong { IfErr result (λ fault. OfWrong fault (λ place. (mark : ℕ) → mark ≤ length (S.given source.old)
         → IsWrongIn S.BlockStore tree.old mark source.new rows.now n (length digests.now) place)) }
     ensures others { ChangesWithin n (length digests.now) (L.content local.old) (L.content local.new) }
+    ensures writes { OnOk result (L.changes local.new + fetched.old ≡ L.changes local.old + fetched.new) }
     ensures reads { OnOk result (S.reads source.new + fetched.old ≡ S.reads source.old + fetched.new) }
     ensures each { S.reads source.new ≤ S.reads source.old + length digests.now }
     ensures most { fetched.new ≤ fetched.old + length digests.now }
@@ -110,6 +111,7 @@ pub(crate) fn mend_run<L: BlockStore, S: BlockStore, A: Allocator>(
         → IsWrongIn S.BlockStore tree.old mark source.new rows.now n count place)) }
     ensures others { ChangesWithin n count (L.content local.old) (L.content local.new) }
     ensures behind { IfOk result (λ looked. ChangesWithin n looked (L.content local.old) (L.content local.new)) }
+    ensures writes { OnOk result (L.changes local.new + fetched.old ≡ L.changes local.old + fetched.new) }
     ensures reads { OnOk result (S.reads source.new + fetched.old ≡ S.reads source.old + fetched.new) }
     ensures all { S.reads source.new ≤ S.reads source.old + count }
     ensures most { IfOk result (λ looked. fetched.new ≤ fetched.old + looked) }

@@ -46,6 +46,7 @@ each-preserved g c =
             ∙ get_or-set_same (L.content l) (n + j) (take (j * size + size - j * size) (drop (j * size) run)) [] there
             ∙ ap (λ m. take m (drop (j * size) run)) width)
       ];
+      writes = omega (arith, inv.writes, e.counted);
       others = within_more n j (L.content c.args.local.now) (L.content l) (L.content l') inv.others e.others;
       keeps = only_written_then L _ _ _ inv.keeps kept;
     }

@@ -9,6 +9,7 @@ invariant-each g l =
     let L = g.L.BlockStore in
     record {
       written : L.tells l.fn.local ≡ true → (k : ℕ) → k < l.j → get_or (L.content l.local) (l.n + k) [] ≡ slice_chunk l.run l.size k;
+      writes : L.changes l.local ≡ L.changes l.fn.local + l.j;
       others : ChangesWithin l.n l.j (L.content l.fn.local) (L.content l.local);
       keeps : IsOnlyWritten L l.fn.local l.local;
     }

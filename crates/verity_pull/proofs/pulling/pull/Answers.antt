@@ -1,13 +1,12 @@
 use Rattle.std.proofs.Common.{Err, inl, inr, ⊎_elim, suc, ℕ, ◌+◌, ◌≤◌, ◌≡◌, []}
 use Rattle.std.proofs.Common.{length, take, replicate, get_or, refl, sym, ap, subst, ◌∙◌, arith}
 use Rattle.verity_store.specs.Blocks.{resized}
-use Rattle.verity_store.specs.Stores.{IsLater}
 use Rattle.verity_store.proofs.StoreLemmas.{later_same, only_read_same}
 use Rattle.std.proofs.lemmas.List.{take-replicate}
 use Rattle.verity_profile.specs.Profile.{zero_block}
 use Rattle.verity_chain.specs.Table.{Table, tree_len, hash_place}
 use Rattle.verity_chain.specs.Stores.{hash_given}
-use Rattle.verity_chain.proofs.ChainLemmas.{Grows, ok_here}
+use Rattle.verity_chain.proofs.ChainLemmas.{Grows}
 use Rattle.verity_pull.specs.declared.fault.Role.TheVariants as role
 use Rattle.verity_pull.specs.Pull.{Marks, marks_at, pull_given, Suits, laid}
 use Rattle.verity_pull.specs.Walk.{IsVouched}
