@@ -1,3 +1,4 @@
 pub mod Decimals
 pub mod Uuids
 pub mod Whole
+pub mod Counts

@@ -7,3 +7,5 @@ pub mod Misread
 pub mod VolumeFiles
 pub mod Words
 pub mod Opening
+pub mod Parts
+pub mod Reached

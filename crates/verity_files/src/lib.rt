@@ -6,13 +6,17 @@ mod asked;
 mod command;
 mod failure;
 mod fault;
+mod host;
 mod identity;
 mod locks;
 mod opening;
+mod part;
 mod paths;
+mod read_only;
 mod reading;
 mod status;
 mod stores;
+mod system;
 mod values;
 mod volume_file;
 
@@ -20,15 +24,19 @@ pub use asked::Asked;
 pub use command::{Command, Lock};
 pub use failure::{Failure, Word, print_failure, status_after};
 pub use fault::Fault;
+pub use host::Host;
 pub use identity::{Identity, check_apart, file_identity};
 pub use opening::{Opened, fault_of, open_locked, open_there};
+pub use part::Part;
 pub use paths::Paths;
+pub use read_only::open_to_read;
 pub use reading::read_script;
 pub use status::{DONE, NO_MEMORY, NOT_UNDERSTOOD, REFUSED};
 pub use stores::{
     AskedStore, VolumeStore, asked_store, check_block_size, len_by_now, len_of_most, new_store,
     room_of, store_of_first, store_of_most, whole_file, whole_store,
 };
+pub use system::System;
 pub use values::{
     algorithm, block_size, check_paths, memory, number, salt, salt_bytes, sessions, uuid,
 };

@@ -82,6 +82,7 @@ pub fn store_of_first(opened: Opened, size: usize, blocks: u64) -> Result<Volume
     ensures lies { IfOk result (λ s. IsPart opened.file opened.len (blocks * size) s.file) }
     ensures size { IfOk result (λ s. ⟦<VolumeStore as BlockStore>⟧.size s ≡ size) }
     ensures enough { OnOk result (blocks ≤ opened.len / size) }
+    ensures count { IfOk result (λ s. length (⟦<VolumeStore as BlockStore>⟧.content s) ≡ blocks) }
     ensures wrong_size { (result ≡ Err StoreFault.BlockSize) ↔ ¬ IsBlockSize size }
     ensures memory { result ≢ Err StoreFault.NoMemory }
     ensures short { result ≡ Err StoreFault.Device → opened.len / size < blocks }

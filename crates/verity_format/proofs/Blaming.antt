@@ -10,11 +10,11 @@ use Rattle.verity_files.specs.declared.failure.Failure.{Failure}
 use Rattle.verity_files.specs.declared.failure.Failure.TheVariants as failure
 use Rattle.verity_files.specs.declared.failure.Word.{Word}
 use Rattle.verity_files.specs.declared.failure.Word.TheVariants as word
-use Rattle.verity_files.specs.declared.paths.Paths.{Ghosts}
+use Rattle.verity_files.specs.declared.system.System.{Ghosts}
 use Rattle.verity_gate.specs.Refusals.{BlamesAtMost}
-use Rattle.verity_volume.specs.Opening.{IsOneFile}
 use Rattle.verity_words.specs.declared.words.format.FormatWords.{FormatWords}
 use Rattle.verity_format.specs.Blamed.{FormatBlames, Misreads}
+use Rattle.verity_format.specs.Formatting.{IsOneFile}
 
 only : (read : Bool) (n : ℕ) (known e : Failure) → (if read then Ok n else Err known) ≡ Err e → e ≡ known
 only true n known e is = absurd (cc is)
@@ -52,32 +52,32 @@ never_s1 (Ok done) text e is was = tt
 never_s1 (Err other) text e is was = λ at. cc (sym (unread (parsed text) (failure.Word word.Uuid) e was) ∙ (sym is ∙ at))
 
 -- what isn't understood is blamed
-pub of_misread : {P : Type 0} (facts : Ghosts P) (p : P) (words : FormatWords) (e : Failure) → Misreads words e
-    → FormatBlames facts p words e
-of_misread facts p words (failure.Word word.Data) is_misread = absurd is_misread
-of_misread facts p words (failure.Word word.Hash) is_misread = absurd is_misread
-of_misread facts p words (failure.Word word.Salt) is_misread = is_misread
-of_misread facts p words (failure.Word word.Uuid) is_misread = is_misread
-of_misread facts p words (failure.Word word.DataBlocks) is_misread = is_misread
-of_misread facts p words (failure.Word word.DataBlockSize) is_misread = is_misread
-of_misread facts p words (failure.Word word.HashBlockSize) is_misread = is_misread
-of_misread facts p words (failure.Word word.Algorithm) is_misread = is_misread
-of_misread facts p words (failure.Word word.HashOffset) is_misread = is_misread
-of_misread facts p words (failure.Word word.New) is_misread = is_misread
-of_misread facts p words (failure.Word word.Journal) is_misread = is_misread
-of_misread facts p words (failure.Word word.Cache) is_misread = is_misread
-of_misread facts p words (failure.Word word.Sessions) is_misread = is_misread
-of_misread facts p words (failure.Word word.Memory) is_misread = is_misread
-of_misread facts p words (failure.Word word.Idle) is_misread = is_misread
-of_misread facts p words (failure.Refused fault) is_misread = is_misread
-of_misread facts p words failure.NoMemory is_misread = is_misread
-of_misread facts p words failure.Output is_misread = is_misread
+pub of_misread : {S F D : Type 0} (facts : Ghosts S F D) (s : S) (words : FormatWords) (e : Failure) → Misreads words e
+    → FormatBlames facts s words e
+of_misread facts s words (failure.Word word.Data) is_misread = absurd is_misread
+of_misread facts s words (failure.Word word.Hash) is_misread = absurd is_misread
+of_misread facts s words (failure.Word word.Salt) is_misread = is_misread
+of_misread facts s words (failure.Word word.Uuid) is_misread = is_misread
+of_misread facts s words (failure.Word word.DataBlocks) is_misread = is_misread
+of_misread facts s words (failure.Word word.DataBlockSize) is_misread = is_misread
+of_misread facts s words (failure.Word word.HashBlockSize) is_misread = is_misread
+of_misread facts s words (failure.Word word.Algorithm) is_misread = is_misread
+of_misread facts s words (failure.Word word.HashOffset) is_misread = is_misread
+of_misread facts s words (failure.Word word.New) is_misread = is_misread
+of_misread facts s words (failure.Word word.Journal) is_misread = is_misread
+of_misread facts s words (failure.Word word.Cache) is_misread = is_misread
+of_misread facts s words (failure.Word word.Sessions) is_misread = is_misread
+of_misread facts s words (failure.Word word.Memory) is_misread = is_misread
+of_misread facts s words (failure.Word word.Idle) is_misread = is_misread
+of_misread facts s words (failure.Refused fault) is_misread = is_misread
+of_misread facts s words failure.NoMemory is_misread = is_misread
+of_misread facts s words failure.Output is_misread = is_misread
 
 -- HASH is blamed where one file was opened at both paths
-pub of_hash : {P : Type 0} (facts : Ghosts P) (p : P) (words : FormatWords) (e : Failure) → BlamesAtMost word.Hash e
-    → (e ≡ failure.Word word.Hash → IsOneFile facts p words.data_path.now words.hash_path.now) → FormatBlames facts p words e
-of_hash facts p words (failure.Word other) most is_one = subst (λ w. FormatBlames facts p words (failure.Word w)) (sym most)
+pub of_hash : {S F D : Type 0} (facts : Ghosts S F D) (s : S) (words : FormatWords) (e : Failure) → BlamesAtMost word.Hash e
+    → (e ≡ failure.Word word.Hash → IsOneFile facts s words.data_path.now words.hash_path.now) → FormatBlames facts s words e
+of_hash facts s words (failure.Word other) most is_one = subst (λ w. FormatBlames facts s words (failure.Word w)) (sym most)
     (inr (is_one (ap failure.Word most)))
-of_hash facts p words (failure.Refused fault) most is_one = tt
-of_hash facts p words failure.NoMemory most is_one = tt
-of_hash facts p words failure.Output most is_one = tt
+of_hash facts s words (failure.Refused fault) most is_one = tt
+of_hash facts s words failure.NoMemory most is_one = tt
+of_hash facts s words failure.Output most is_one = tt

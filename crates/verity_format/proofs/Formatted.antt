@@ -2,6 +2,7 @@
 use Rattle.std.proofs.Common.{◌≡◌, ◌<◌, ◌≤◌, ◌++◌, ℕ, List, Option, Some, length, refl, sym, ap, ◌∙◌, subst, arith}
 use Rattle.std.specs.Prelude.{All}
 use Rattle.std.specs.Io.KnownBytes.{Appends}
+use Rattle.verity_profile.specs.Profile.{AllSized}
 use Rattle.verity_profile.proofs.Bounds.{block_count_low, block_size_low}
 use Rattle.verity_digest.specs.Hash.{Salted, hashing, name_of, size_of}
 use Rattle.verity_digest.specs.Rows.{block_at}
@@ -17,7 +18,7 @@ use Rattle.verity_files.specs.Faults.{line}
 use Rattle.verity_files.specs.Words.{salt_of}
 use Rattle.verity_words.specs.declared.words.format.FormatWords.{FormatWords}
 use Rattle.verity_format.specs.Formatting.{IsAsked, line_made}
-use Rattle.verity_format.specs.Made.{IsMadeOf}
+use Rattle.verity_format.specs.Made.{device_of, IsMadeOf}
 use Rattle.verity_format.specs.Printed.{IsFormatted}
 use Rattle.verity_format.specs.declared.formatting.Made.{Made}
 use Rattle.verity_format.specs.declared.formatting.Shape.{Shape}
@@ -33,26 +34,38 @@ root_len s size image low some =
 
 module _ {D : Type 0} (facts : store.Ghosts D) where
   -- what was made of a store was made of one of which more holds
-  pub moved : (lies lies' : D → Type 0) (h h' : Hashing) (size size' blocks : ℕ) (digest : List ℕ) → ((s : D) → lies s → lies' s) → h ≡ h'
-      → size ≡ size' → IsMadeOf facts lies h size blocks digest → IsMadeOf facts lies' h' size' blocks digest
-  moved lies lies' h h' size size' blocks digest more same sized m = record {
-    image = m.image;
-    image' = m.image';
-    there = more m.image m.there;
+  pub moved : (lies lies' : D → Type 0) (leaves leaves' : D → D → Type 0) (h h' : Hashing)
+      (made made' : List (List ℕ) → List (List ℕ) → List (List ℕ)) (size size' blocks : ℕ) (digest : List ℕ) → ((s : D) → lies s → lies' s)
+      → ((s s' : D) → leaves s s' → leaves' s s') → h ≡ h' → made ≡ made' → size ≡ size'
+      → IsMadeOf facts lies leaves h made size blocks digest
+      → IsMadeOf facts lies' leaves' h' made' size' blocks digest
+  moved lies lies' leaves leaves' h h' made made' size size' blocks digest more leaving same made_as sized m = record {
+    source = m.source;
+    source' = m.source';
+    target = m.target;
+    target' = m.target';
+    there = more m.source m.there;
+    left = leaving m.target m.target' m.left;
     block_size = m.block_size ∙ sized;
+    sized = subst (λ n. AllSized n (facts.content m.source)) sized m.sized;
     read = m.read;
     count = m.count;
     root = (m.root.0, m.root.1, m.root.2 ∙ ap (λ h. root h m.root.0) same);
+    told = λ tells. m.told tells ∙ ap (λ h. root h (facts.content m.source)) same;
+    later = m.later;
+    written = λ tells keeps. m.written tells keeps
+        ∙ ap (λ made. made (facts.content m.source) (facts.content m.target)) made_as;
+    synced = m.synced;
   }
 
-  pub formatted : (lies : Shape → D → Type 0) (words : FormatWords) (shape : Shape) (made : Made) (salt : List ℕ)
-      (old new : Option (List ℕ)) → IsAsked words shape → salt_of words.salt.now ≡ Some salt
+  pub formatted : (lies : Shape → D → Type 0) (leaves : Shape → D → D → Type 0) (words : FormatWords) (shape : Shape) (made : Made)
+      (salt : List ℕ) (old new : Option (List ℕ)) → IsAsked words shape → salt_of words.salt.now ≡ Some salt
       → made.hash_start_block ≡ start_behind shape.hash_offset shape.hash_block_size
       → IsTableLine (line_made words shape made salt) → Appends old new (line (canonical (line_made words shape made salt)))
-      → IsMadeOf facts (lies shape) (hashing (record { algorithm = shape.algorithm; salt = salt }) shape.hash_block_size)
-      shape.data_block_size made.data_blocks made.root
-      → IsFormatted facts lies words old new
-  formatted lies words shape made salt old new asked salted start profile printed m =
+      → IsMadeOf facts (lies shape) (leaves shape) (hashing (record { algorithm = shape.algorithm; salt = salt }) shape.hash_block_size)
+      (device_of shape salt) shape.data_block_size made.data_blocks made.root
+      → IsFormatted facts lies leaves words old new
+  formatted lies leaves words shape made salt old new asked salted start profile printed m =
       let s : Salted = record { algorithm = shape.algorithm; salt = salt } in
       let image : List (List ℕ) = m.root.0 in
       let given = m.root.1 in
@@ -66,8 +79,10 @@ module _ {D : Type 0} (facts : store.Ghosts D) where
         offset = shape.hash_offset;
         shape = shape;
         image = image;
-        source = m.image;
-        source' = m.image';
+        source = m.source;
+        source' = m.source';
+        target = m.target;
+        target' = m.target';
         profile = profile;
         dev = refl;
         hash_dev = refl;
@@ -81,10 +96,20 @@ module _ {D : Type 0} (facts : store.Ghosts D) where
         there = m.there;
         read = m.read;
         given = given.given;
+        told = λ tells. record {
+          blocks = sym m.count;
+          sized = m.sized;
+          root = ap (λ a. root (hashing (record { algorithm = a; salt = salt }) shape.hash_block_size) (facts.content m.source)) same
+              ∙ sym (m.told tells);
+        };
         fits = record {
           blocks = count;
           sized = subst (λ z. All (λ block. length block ≡ z) image) m.block_size given.given.sized;
           root = ap (λ a. root (hashing (record { algorithm = a; salt = salt }) shape.hash_block_size) image) same ∙ sym m.root.2;
         };
+        left = m.left;
+        later = m.later;
+        written = m.written;
+        synced = m.synced;
         printed = printed;
       }

@@ -1,13 +1,13 @@
 -- Which words `format` blames, and when.
-use Rattle.std.specs.Prelude.{◌≡◌, Some, ⊤, IfSome}
+use Rattle.std.specs.Prelude.{◌≡◌, ◌⊎◌, Some, ⊤, IfSome}
 use Rattle.verity_files.specs.Words.{paths_refusal}
 use Rattle.verity_files.specs.declared.failure.Failure.{Failure}
 use Rattle.verity_files.specs.declared.failure.Failure.TheVariants as failure
 use Rattle.verity_files.specs.declared.failure.Word.TheVariants as word
-use Rattle.verity_files.specs.declared.paths.Paths.{Ghosts}
-use Rattle.verity_volume.specs.Opening.{MisnamesHash}
+use Rattle.verity_files.specs.declared.system.System.{Ghosts}
 use Rattle.verity_words.specs.declared.words.format.FormatWords.{FormatWords}
 use Rattle.verity_files.specs.Misread.{IsMisread}
+use Rattle.verity_format.specs.Formatting.{IsOneFile}
 
 -- no word is blamed but one that isn't understood
 abbrev pub Misreads : FormatWords → Failure → Type 0
@@ -21,8 +21,10 @@ Misreads words (failure.Word word.HashOffset) = IsMisread word.HashOffset words.
 Misreads words (failure.Word _) = ⊥
 Misreads words _ = ⊤
 
--- or DATA's path or HASH's isn't right, over a system of paths
-abbrev pub FormatBlames : {P : Type 0} → Ghosts P → P → FormatWords → Failure → Type 0
-FormatBlames facts p words (failure.Word word.Data) = paths_refusal words.data_path.now words.hash_path.now ≡ Some (failure.Word word.Data)
-FormatBlames facts p words (failure.Word word.Hash) = MisnamesHash facts p words.data_path.now words.hash_path.now
-FormatBlames facts p words e = Misreads words e
+-- or DATA's path or HASH's isn't right: it doesn't fit beside the other, or one file was opened at both
+abbrev pub FormatBlames : {S F D : Type 0} → Ghosts S F D → S → FormatWords → Failure → Type 0
+FormatBlames facts s words (failure.Word word.Data) = paths_refusal words.data_path.now words.hash_path.now ≡ Some (failure.Word word.Data)
+FormatBlames facts s words (failure.Word word.Hash) =
+    (paths_refusal words.data_path.now words.hash_path.now ≡ Some (failure.Word word.Hash))
+    ⊎ IsOneFile facts s words.data_path.now words.hash_path.now
+FormatBlames facts s words e = Misreads words e

@@ -1,16 +1,17 @@
 -- What `format` was asked for, and the line of what it made.
-use Rattle.std.specs.Prelude.{◌≡◌, ◌≢◌, ◌<◌, ◌/◌, ℕ, List, Option, Some, None, Result, Ok, Err, IfSome, MatchOption}
+use Rattle.std.specs.Prelude.{◌≡◌, ◌≢◌, ℕ, List, Option, Some, None, Result, Ok, Err, IfSome}
 use Rattle.verity_superblock.specs.Line.{TableLine, algorithm_of}
 use Rattle.verity_digest.specs.Hash.{name_of}
 use Rattle.verity_files.specs.Commands.{lock_of}
+use Rattle.verity_files.specs.Parts.{HasFewer}
 use Rattle.verity_files.specs.Words.{number_in, uuid_in}
 use Rattle.verity_files.specs.declared.command.Command.TheVariants.{Format}
 use Rattle.verity_files.specs.declared.failure.Failure.{Failure}
 use Rattle.verity_files.specs.declared.failure.Word.TheVariants as word
-use Rattle.verity_files.specs.declared.opening.Opened.{Opened}
-use Rattle.verity_files.specs.declared.paths.Paths.{Ghosts}
-use Rattle.verity_gate.specs.Journals.{IsShut}
+use Rattle.verity_files.specs.declared.system.System.{Ghosts}
+use Rattle.verity_gate.specs.Shut.{IsShutBeside}
 use Rattle.verity_words.specs.declared.words.format.FormatWords.{FormatWords}
+use Rattle.verity_format.specs.Made.{data_part}
 use Rattle.verity_format.specs.declared.formatting.Made.{Made}
 use Rattle.verity_format.specs.declared.formatting.Shape.{Shape}
 
@@ -29,17 +30,14 @@ pub record IsAsked (words : FormatWords) (shape : Shape) : Type 0 where
   pub algorithm : words.algorithm.now ≡ name_of shape.algorithm
   pub uuid : uuid_in words.uuid.now ≡ Ok shape.uuid
 
--- what was opened as DATA has fewer blocks than were asked for
-abbrev pub HasFewer : Opened → Shape → Type 0
-HasFewer image shape = MatchOption shape.data_blocks ⊥ (λ blocks. image.len / shape.data_block_size < blocks)
-
--- what was opened at a path does
-abbrev pub IsShort : {P : Type 0} → Ghosts P → P → List ℕ → Shape → Type 0
-IsShort facts p path shape = (image : Opened) × facts.opens p path image × HasFewer image shape
+-- what was opened at a path has fewer blocks than were asked for
+abbrev pub IsShort : {S F D : Type 0} → Ghosts S F D → S → List ℕ → Shape → Type 0
+IsShort facts s path shape = (image : _) × facts.opens s path image
+    × HasFewer (data_part shape.data_blocks) (facts.len image) shape.data_block_size
 
 -- what was opened at DATA's path has fewer blocks than the words ask for
-abbrev pub FallsShort : {P : Type 0} → Ghosts P → P → FormatWords → Type 0
-FallsShort facts p words = (shape : Shape) × IsAsked words shape × IsShort facts p words.data_path.now shape
+abbrev pub FallsShort : {S F D : Type 0} → Ghosts S F D → S → FormatWords → Type 0
+FallsShort facts s words = (shape : Shape) × IsAsked words shape × IsShort facts s words.data_path.now shape
 
 -- the table line of a device that was made
 abbrev pub line_made : FormatWords → Shape → Made → List ℕ → TableLine
@@ -56,12 +54,18 @@ line_made words shape made salt = record {
 }
 
 -- what `format` works on: two files that were opened at its paths and locked; no gate is open beside the hash device
-pub record AreTaken {P : Type 0} (facts : Ghosts P) (p : P) (words : FormatWords) : Type 0 where
-  pub image : Opened
-  pub device : Opened
-  pub data_opened : facts.opens p words.data_path.now image
-  pub hash_opened : facts.opens p words.hash_path.now device
-  pub apart : image.identity ≢ device.identity
-  pub data_locked : facts.locks p image (lock_of Format)
-  pub hash_locked : facts.locks p device (lock_of Format)
-  pub shut : IsShut facts p words.hash_path.now
+pub record AreTaken {S F D : Type 0} (facts : Ghosts S F D) (s : S) (words : FormatWords) : Type 0 where
+  pub image : F
+  pub device : F
+  pub between : S
+  pub data_opened : facts.opens s words.data_path.now image
+  pub hash_opened : facts.opens_to_write s words.hash_path.now device between
+  pub apart : facts.identity image ≢ facts.identity device
+  pub data_locked : facts.locks s image (lock_of Format)
+  pub hash_locked : facts.locks between device (lock_of Format)
+  pub shut : IsShutBeside facts s words.hash_path.now
+
+-- one file was opened at both paths
+abbrev pub IsOneFile : {S F D : Type 0} → Ghosts S F D → S → (data_path hash_path : List ℕ) → Type 0
+IsOneFile facts s data_path hash_path = (image : _) × (device : _) × (between : _) × facts.opens s data_path image
+    × facts.opens_to_write s hash_path device between × (facts.identity image ≡ facts.identity device)

@@ -2,3 +2,4 @@ pub mod Blamed
 pub mod Formatting
 pub mod Printed
 pub mod Made
+pub mod Opening

@@ -1,8 +1,8 @@
 -- What `format` prints.
-use Rattle.std.specs.Prelude.{◌≡◌, ℕ, List, Option, Some, Ok}
+use Rattle.std.specs.Prelude.{◌≡◌, ℕ, true, List, Option, Some, Ok}
 use Rattle.std.specs.Io.KnownBytes.{Appends}
 use Rattle.verity_digest.specs.Hash.{name_of}
-use Rattle.verity_store.specs.Stores.{IsOnlyRead}
+use Rattle.verity_store.specs.Stores.{IsLater, IsOnlyRead}
 use Rattle.verity_store.specs.declared.store.BlockStore as store
 use Rattle.verity_superblock.specs.Image.{start_behind}
 use Rattle.verity_superblock.specs.Line.{TableLine, IsTableLine, canonical}
@@ -13,18 +13,22 @@ use Rattle.verity_files.specs.Words.{number_in, salt_of}
 use Rattle.verity_files.specs.declared.failure.Word.TheVariants as word
 use Rattle.verity_words.specs.declared.words.format.FormatWords.{FormatWords}
 use Rattle.verity_format.specs.Formatting.{IsAsked}
+use Rattle.verity_format.specs.Made.{device_of}
 use Rattle.verity_format.specs.declared.formatting.Shape.{Shape}
 
--- what `format` prints: one table line of the profile, with the paths, the block sizes, the algorithm and the salt that were asked for, of
--- a tree that begins behind the superblock; it fits an image of which each block was read of a store of which this holds
-pub record IsFormatted {D : Type 0} (facts : store.Ghosts D) (lies : Shape → D → Type 0) (words : FormatWords)
-    (old new : Option (List ℕ)) : Type 0 where
+-- What `format` prints: one table line of the profile, with the paths, the block sizes, the algorithm and the salt that were asked for, of
+-- a tree that begins behind the superblock. It fits an image of which each block was read of a store of which the one holds; where that
+-- tells, the image that it holds. The other store, of which `leaves` holds, was left as the hash device of that image, where both tell.
+pub record IsFormatted {D : Type 0} (facts : store.Ghosts D) (lies : Shape → D → Type 0) (leaves : Shape → D → D → Type 0)
+    (words : FormatWords) (old new : Option (List ℕ)) : Type 0 where
   pub table : TableLine
   pub offset : ℕ
   pub shape : Shape
   pub image : List (List ℕ)
   pub source : D
   pub source' : D
+  pub target : D
+  pub target' : D
   pub profile : IsTableLine table
   pub dev : table.dev ≡ words.data_path.now
   pub hash_dev : table.hash_dev ≡ words.hash_path.now
@@ -38,5 +42,11 @@ pub record IsFormatted {D : Type 0} (facts : store.Ghosts D) (lies : Shape → D
   pub there : lies shape source
   pub read : IsOnlyRead facts source source'
   pub given : AreGiven facts source source' image
+  pub told : facts.tells source ≡ true → Fits table (facts.content source)
   pub fits : Fits table image
+  pub left : leaves shape target target'
+  pub later : IsLater facts target target'
+  pub written : facts.tells source ≡ true → facts.tells target ≡ true
+      → facts.content target' ≡ device_of shape table.salt (facts.content source) (facts.content target)
+  pub synced : facts.synced target' ≡ true
   pub printed : Appends old new (line (canonical table))

@@ -2,22 +2,22 @@
 
 ghost use Rattle.std.specs.Prelude.{◌≡◌, ◌≢◌, ◌⊎◌, true, None, Ok, Err, IfSome, IfOk, IfErr, OnOk, string_bytes};
 ghost use Rattle.verity_digest.specs.Hash.{hashing};
-ghost use Rattle.verity_build.specs.Parameters.{salted_by};
+ghost use Rattle.verity_build.specs.Parameters.{front, salted_by, volume};
 ghost use Rattle.verity_files.specs.Commands.{lock_of};
+ghost use Rattle.verity_files.specs.Errors.{IsOfLock, IsS1For};
+ghost use Rattle.verity_files.specs.Misread.{IsMisread};
+ghost use Rattle.verity_files.specs.Parts.{HasFewer};
 ghost use Rattle.verity_files.specs.Words.{number_in};
 ghost use Rattle.verity_files.specs.declared.failure.Failure.TheVariants as failure;
 ghost use Rattle.verity_files.specs.declared.failure.Word.TheVariants as word;
-ghost use Rattle.verity_files.specs.declared.opening.Opened.{Opened};
 ghost use Rattle.verity_superblock.specs.Line.{IsTableLine, canonical};
-ghost use Rattle.verity_superblock.specs.Image.{start_behind};
+ghost use Rattle.verity_superblock.specs.Image.{hash_blocks, start_behind};
 ghost use Rattle.verity_volume.specs.Lines.{IsOfLine};
-ghost use Rattle.verity_files.specs.Errors.{IsOfLock, IsS1For};
 ghost use Rattle.verity_gate.specs.Refusals.{BlamesAtMost};
-ghost use Rattle.verity_files.specs.Misread.{IsMisread};
-ghost use Rattle.verity_volume.specs.Opening.{IsOneFile};
 ghost use Rattle.verity_format.specs.Blamed.{FormatBlames, Misreads};
-ghost use Rattle.verity_format.specs.Formatting.{line_made, some_blocks, AreTaken, FallsShort, HasFewer, IsAsked, IsShort};
-ghost use Rattle.verity_format.specs.Made.{IsMadeOf, LiesAs, LiesAsked};
+ghost use Rattle.verity_format.specs.Formatting.{line_made, some_blocks, AreTaken, FallsShort, IsAsked, IsOneFile, IsShort};
+ghost use Rattle.verity_format.specs.Made.{data_part, device_of, hash_part, IsLeft, IsMadeOf, LiesAsked};
+ghost use Rattle.verity_format.specs.Opening.{IsOpenedAnew, IsOpenedAsked};
 ghost use Rattle.verity_format.specs.Printed.{IsFormatted};
 
 use std::alloc::Global;
@@ -27,9 +27,8 @@ use uuid::Uuid;
 use verity_build::{BuildFault, BuildParameters, build_at};
 use verity_digest::{Algorithm, Digest};
 use verity_files::{
-    Command, Failure, Fault, Identity, Opened, Paths, VolumeStore, Word, algorithm, block_size,
-    check_apart, check_block_size, check_paths, new_store, number, open_locked, open_there, salt,
-    salt_bytes, store_of_first, store_of_most, uuid, whole_store,
+    Command, Failure, Fault, Identity, Part, System, Word, algorithm, block_size, check_apart,
+    check_block_size, check_paths, number, open_to_read, salt, salt_bytes, uuid,
 };
 use verity_gate::check_gate;
 use verity_store::{BlockStore, StoreFault, Which};
@@ -62,29 +61,28 @@ struct Made {
 /// The words are read first, then the salt is made, DATA opened and locked, HASH opened or created, told apart from DATA and
 /// locked, and the device built. What stands in HASH stays until the first block is written. A HASH that was created is
 /// removed where none was. Where `errors` is a terminal, it shows how much of DATA was read.
-pub fn format<R: Paths + Clock + Eprint + AllocGlobal, W: Write, E: IsTerminal>(
+///
+/// Over a system whose stores tell, HASH is left as the hash device of DATA's blocks, and the line is theirs.
+pub fn format<R: Clock + Eprint + AllocGlobal, S: System, W: Write, E: IsTerminal>(
     rt: &R,
+    system: &mut S,
     words: &FormatWords<'_>,
     output: &mut W,
     errors: &E,
 ) -> Result<(), Failure>
-    ensures printed { OnOk result (IsFormatted ⟦<VolumeStore as BlockStore>⟧
-        (λ shape source. LiesAsked R.Paths rt.now words.now.data_path.now shape source.file)
+    ensures printed { OnOk result (IsFormatted S.Store.BlockStore
+        (LiesAsked S.System S.Store.BlockStore system.old words.now.data_path.now)
+        (IsLeft S.System system.old system.new words.now.hash_path.now)
         words.now (W.contents output.old) (W.contents output.new)) }
-    ensures taken { OnOk result (AreTaken R.Paths rt.now words.now) }
-    ensures blames { IfErr result (FormatBlames R.Paths rt.now words.now) }
-    ensures system { IfErr result (IsS1For ((R.refuses rt.now ≡ true) ⊎ FallsShort R.Paths rt.now words.now)) }
+    ensures taken { OnOk result (AreTaken S.System system.old words.now) }
+    ensures blames { IfErr result (FormatBlames S.System system.old words.now) }
+    ensures system { IfErr result (IsS1For ((S.refuses system.old ≡ true) ⊎ FallsShort S.System system.old words.now)) }
 {
     check_paths(words.data_path, words.hash_path)?;
     let shape = read_shape(words)?;
     let bytes = salt_bytes(rt.alloc(), words.salt)?;
-    let made = make(
-        rt,
-        words,
-        &shape,
-        &bytes,
-        is_watched(words.is_quiet, errors.is_terminal()),
-    )?;
+    let is_watched = is_watched(words.is_quiet, errors.is_terminal());
+    let made = make(rt, system, words, &shape, &bytes, is_watched)?;
     let line = made_line(rt.alloc(), words, &shape, &made, &bytes)?;
     writeln!(output, "{line}")?;
     Ok(())
@@ -130,46 +128,48 @@ fn read_shape(words: &FormatWords<'_>) -> Result<Shape, Failure>
     })
 }
 
-fn make<R: Paths + Clock + Eprint + AllocGlobal>(
+/// Opens both files, and makes the device.
+fn make<R: Clock + Eprint + AllocGlobal, S: System>(
     rt: &R,
+    system: &mut S,
     words: &FormatWords<'_>,
     shape: &Shape,
     salt_bytes: &[u8],
     is_watched: bool,
 ) -> Result<Made, Failure>
-    ensures taken { OnOk result (AreTaken R.Paths rt.now words.now) }
-    ensures built { IfOk result (λ made. IsMadeOf ⟦<VolumeStore as BlockStore>⟧
-        (λ source. LiesAsked R.Paths rt.now words.now.data_path.now shape.now source.file)
+    ensures taken { OnOk result (AreTaken S.System system.old words.now) }
+    ensures built { IfOk result (λ made. IsMadeOf S.Store.BlockStore
+        (LiesAsked S.System S.Store.BlockStore system.old words.now.data_path.now shape.now)
+        (IsLeft S.System system.old system.new words.now.hash_path.now shape.now)
         (hashing (record { algorithm = shape.now.algorithm; salt = salt_bytes.now }) shape.now.hash_block_size)
-        shape.now.data_block_size made.data_blocks made.root) }
+        (device_of shape.now salt_bytes.now) shape.now.data_block_size made.data_blocks made.root) }
     ensures start { IfOk result (λ made. made.hash_start_block ≡ start_behind shape.now.hash_offset shape.now.hash_block_size) }
     ensures one { IfErr result (λ e. e ≡ Failure.Word word.Hash
-        → IsOneFile R.Paths rt.now words.now.data_path.now words.now.hash_path.now) }
+        → IsOneFile S.System system.old words.now.data_path.now words.now.hash_path.now) }
     ensures blames { IfErr result (BlamesAtMost word.Hash) }
-    ensures system { IfErr result (IsS1For ((R.refuses rt.now ≡ true) ⊎ IsShort R.Paths rt.now words.now.data_path.now shape.now)) }
+    ensures system { IfErr result (IsS1For ((S.refuses system.old ≡ true)
+        ⊎ IsShort S.System system.old words.now.data_path.now shape.now)) }
 {
     let params = BuildParameters::new(salt(rt.alloc(), salt_bytes)?, shape.uuid, shape.algorithm);
-    let (data_store, data) = open_data(rt, words.data_path, shape)?;
-    check_gate(rt, words.hash_path)?;
-    let (hash_store, is_new) = open_hash(rt, words.hash_path, shape, data)?;
+    let (data_store, data) = open_data(system, words.data_path, shape)?;
+    check_gate(system, words.hash_path)?;
+    let (hash_store, is_new) = open_hash(system, words.hash_path, shape, data)?;
     let hash_size = hash_store.block_size();
-    let built = build_watched(
-        rt,
-        is_watched,
-        data_store,
-        hash_store,
-        &params,
-        shape.hash_offset,
-    );
-    match built {
-        Ok(image) => Ok(Made {
-            data_blocks: image.0,
-            hash_start_block: tree_start(shape.hash_offset, hash_size)?,
-            root: image.1,
-        }),
+    let mut hash_store = hash_store;
+    let offset = shape.hash_offset;
+    match build_watched(rt, is_watched, data_store, &mut hash_store, &params, offset) {
+        Ok(built) => {
+            system.close(words.hash_path, hash_store)?;
+            Ok(Made {
+                data_blocks: built.0,
+                hash_start_block: tree_start(offset, hash_size)?,
+                root: built.1,
+            })
+        }
         Err(fault) => {
+            drop(hash_store);
             if is_new {
-                rt.unmake(rt.alloc(), words.hash_path);
+                system.unmake(words.hash_path);
             }
             Err(fault.into())
         }
@@ -178,22 +178,25 @@ fn make<R: Paths + Clock + Eprint + AllocGlobal>(
 
 /// Builds the hash device of the image in a store, which is shown where someone looks on, and answers how many data blocks the image
 /// has, and the root hash.
-fn build_watched<R: Clock + Eprint + AllocGlobal>(
+fn build_watched<R: Clock + Eprint + AllocGlobal, D: BlockStore + Drop>(
     rt: &R,
     is_watched: bool,
-    data_store: VolumeStore,
-    hash_store: VolumeStore,
+    data_store: D,
+    hash_store: &mut D,
     params: &BuildParameters,
     offset: u64,
 ) -> Result<(u64, Digest), BuildFault>
-    ensures { IfOk result (λ built. IsMadeOf ⟦<VolumeStore as BlockStore>⟧ (λ source. source ≡ data_store)
-        (hashing (salted_by params.now) (⟦<VolumeStore as BlockStore>⟧.size hash_store))
-        (⟦<VolumeStore as BlockStore>⟧.size data_store) built.0 built.1) }
+    ensures { IfOk result (λ built. IsMadeOf D.BlockStore (λ source. source ≡ data_store)
+        (λ target target'. (target ≡ hash_store.old) × (target' ≡ hash_store.new))
+        (hashing (salted_by params.now) (D.size hash_store.old))
+        (λ image there. hash_blocks (volume params.now (D.size data_store) (D.size hash_store.old)) image
+        (front offset (D.size hash_store.old) there))
+        (D.size data_store) built.0 built.1) }
 {
     let progress = progress_of(rt, is_watched, &data_store);
+    let _each_has_the_size = data_store.block_size();
     let mut data_store = Watched::new(data_store, progress.as_ref());
-    let mut hash_store = hash_store;
-    let built = build_at(rt.alloc(), &mut data_store, &mut hash_store, params, offset);
+    let built = build_at(rt.alloc(), &mut data_store, hash_store, params, offset);
     end_progress(progress.as_ref());
     Ok((data_store.len(), built?))
 }
@@ -210,80 +213,74 @@ fn data_blocks(asked: Option<&str>) -> Result<Option<u64>, Failure>
     }
 }
 
-/// DATA, and which file it is.
-fn open_data<R: Paths>(rt: &R, path: &str, shape: &Shape) -> Result<(VolumeStore, Identity), Fault>
-    ensures opened { IfOk result (λ opened. (image : Opened) × R.opens rt.now path.now image × (image.identity ≡ opened.1)
-        × R.locks rt.now image (lock_of Command.Format)) }
-    ensures lies { IfOk result (λ opened. LiesAsked R.Paths rt.now path.now shape.now opened.0.file) }
-    ensures size { IfOk result (λ opened. ⟦<VolumeStore as BlockStore>⟧.size opened.0 ≡ shape.now.data_block_size) }
+/// A store over all of DATA, or over as many blocks as were asked for, and which file it is.
+fn open_data<S: System>(
+    system: &S,
+    path: &str,
+    shape: &Shape,
+) -> Result<(S::Store, Identity), Fault>
+    ensures opened { IfOk result (λ opened. IsOpenedAsked S.System system.now path.now shape.now opened.0 opened.1) }
+    ensures size { IfOk result (λ opened. S.Store.size opened.0 ≡ shape.now.data_block_size) }
+    ensures lies { IfOk result (λ opened. LiesAsked S.System S.Store.BlockStore system.now path.now shape.now opened.0) }
     ensures system { IfErr result (λ e. e ≡ Fault.Store StoreFault.Device
-        → (R.refuses rt.now ≡ true) ⊎ IsShort R.Paths rt.now path.now shape.now) }
+        → (S.refuses system.now ≡ true) ⊎ IsShort S.System system.now path.now shape.now) }
 {
     check_block_size(shape.data_block_size)?;
-    let data = open_locked(rt, path, Command::Format, Which::Data)?;
-    let identity = data.identity;
-    Ok((image_store(rt, data, shape)?, identity))
+    let data = open_to_read(system, path, Command::Format, Which::Data)?;
+    let identity = system.identity_of(&data);
+    let part = match shape.data_blocks {
+        Some(blocks) => Part::First(blocks),
+        None => Part::All,
+    };
+    Ok((system.store(data, part, shape.data_block_size)?, identity))
 }
 
-/// A store over all of DATA, or over as many blocks as were asked for.
-fn image_store<R: Paths>(rt: &R, data: Opened, shape: &Shape) -> Result<VolumeStore, StoreFault>
-    ensures lies { IfOk result (λ store. LiesAs shape.now «data» store.file) }
-    ensures size { IfOk result (λ store. ⟦<VolumeStore as BlockStore>⟧.size store ≡ shape.now.data_block_size) }
-    ensures short { result ≡ Err StoreFault.Device → (R.refuses rt.now ≡ true) ⊎ HasFewer «data» shape.now }
-{
-    match shape.data_blocks {
-        Some(blocks) => store_of_first(data, shape.data_block_size, blocks),
-        None => whole_store(rt, data, shape.data_block_size),
-    }
-}
-
-/// HASH, which is another file than DATA, and whether it was created. It is, and what stands in it counts for nothing,
+/// A store over HASH, which is another file than DATA, and whether it was created. It is, and what stands in it counts for nothing,
 /// where the superblock stands at its beginning.
-fn open_hash<R: Paths + AllocGlobal>(
-    rt: &R,
+fn open_hash<S: System>(
+    system: &mut S,
     path: &str,
     shape: &Shape,
     data: Identity,
-) -> Result<(VolumeStore, bool), Failure>
-    ensures size { IfOk result (λ opened. ⟦<VolumeStore as BlockStore>⟧.size opened.0 ≡ shape.now.hash_block_size) }
-    ensures opened { OnOk result ((device : Opened) × R.opens rt.now path.now device × («data» ≢ device.identity)
-        × R.locks rt.now device (lock_of Command.Format)) }
+) -> Result<(S::Store, bool), Failure>
+    ensures size { IfOk result (λ opened. S.Store.size opened.0 ≡ shape.now.hash_block_size) }
+    ensures opened { IfOk result (λ opened. IsOpenedAnew S.System system.old path.now shape.now «data» opened.0 system.new) }
+    ensures same { S.refuses system.new ≡ S.refuses system.old }
     ensures one { IfErr result (λ e. e ≡ Failure.Word word.Hash
-        → (device : Opened) × R.opens rt.now path.now device × («data» ≡ device.identity)) }
+        → (device : S.File) × (between : S) × S.opens_to_write system.old path.now device between × («data» ≡ S.identity device)) }
     ensures blames { IfErr result (BlamesAtMost word.Hash) }
-    ensures system { IfErr result (IsS1For (R.refuses rt.now ≡ true)) }
+    ensures system { IfErr result (IsS1For (S.refuses system.old ≡ true)) }
 {
     check_block_size(shape.hash_block_size)?;
-    if shape.hash_offset == 0 {
-        let (hash, is_new) = rt.open_or_make(rt.alloc(), path)?;
-        check_apart(data, hash.identity)?;
-        lock_or_unmake(rt, path, &hash, is_new)?;
-        Ok((new_store(hash, shape.hash_block_size)?, is_new))
+    let is_whole = shape.hash_offset == 0;
+    let (hash, is_new) = system.open_to_write(path, is_whole)?;
+    check_apart(data, system.identity_of(&hash))?;
+    lock_or_unmake(system, path, &hash, is_new)?;
+    let part = if is_whole {
+        Part::New
     } else {
-        let hash = open_there(rt, path, Command::Format, Which::Hash)?;
-        check_apart(data, hash.identity)?;
-        rt.lock(&hash, Command::Format.lock(), Which::Hash)?;
-        Ok((
-            store_of_most(rt, hash, shape.hash_block_size, u64::MAX)?,
-            false,
-        ))
-    }
+        Part::AtMost(u64::MAX)
+    };
+    Ok((system.store(hash, part, shape.hash_block_size)?, is_new))
 }
 
 /// Takes the lock on HASH. A file that was created is removed where the system gives none; one that another program has by
 /// now is left to it.
-fn lock_or_unmake<R: Paths + AllocGlobal>(
-    rt: &R,
+fn lock_or_unmake<S: System>(
+    system: &mut S,
     path: &str,
-    hash: &Opened,
+    hash: &S::File,
     is_new: bool,
 ) -> Result<(), Fault>
-    ensures locked { OnOk result (R.locks rt.now hash.now (lock_of Command.Format)) }
-    ensures refused { IfErr result (IsOfLock (R.refuses rt.now ≡ true) (R.shuts_out rt.now hash.now (lock_of Command.Format)) Which.Hash) }
+    ensures locked { OnOk result (S.locks system.old hash.now (lock_of Command.Format)) }
+    ensures stays { OnOk result (system.new ≡ system.old) }
+    ensures same { S.refuses system.new ≡ S.refuses system.old }
+    ensures refused { IfErr result (IsOfLock (S.refuses system.old ≡ true) (S.shuts_out system.old hash.now (lock_of Command.Format))
+        Which.Hash) }
 {
-    let taken = rt.lock(hash, Command::Format.lock(), Which::Hash);
+    let taken = system.lock(hash, Command::Format.lock(), Which::Hash);
     if is_new && matches!(taken, Err(Fault::Store(_))) {
-        rt.unmake(rt.alloc(), path);
+        system.unmake(path);
     }
     taken
 }

@@ -1,9 +1,11 @@
 //! The command `format`: makes the hash device of a block image, and prints its table line.
 //!
-//! The work is done by the layers below, whose contracts say what it is worth. Over an output whose bytes are known, a clause says what
-//! [`format`] prints, and which words it blames; what it leaves in HASH, and all else that is refused, is shown by tests.
+//! The work is done by the layers below, whose contracts say what it is worth. Over any `System`, and an output whose bytes are known, a
+//! clause says of which blocks the line is that [`format`] prints, what it leaves at HASH's path where the stores tell, and which words it
+//! blames; what it leaves where it isn't done, and all else that is refused, is shown by tests.
 //!
-//! The definitions stand in `specs/`: `Formatting` (what was asked for), `Printed` (what is printed), `Blamed` (which words are blamed).
+//! The definitions stand in `specs/`: `Formatting` (what was asked for), `Opening` and `Made` (what is opened, made and left), `Printed`
+//! (what is printed), `Blamed` (which words are blamed).
 #![tactic(auto)]
 
 mod formatting;

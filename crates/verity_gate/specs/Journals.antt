@@ -14,7 +14,6 @@ use Rattle.verity_files.specs.declared.fault.Fault.TheVariants as fault
 use Rattle.verity_journal.specs.Disks.{Contents}
 use Rattle.verity_journal.specs.Journal.{pair_of, plan_of, recovered, IsJournal, Says}
 use Rattle.verity_journal.specs.declared.head.Gate.{Gate}
-use Rattle.verity_journal.specs.declared.head.Gate.TheVariants as gate
 use Rattle.verity_journal.specs.declared.disks.Device.{Device}
 use Rattle.verity_journal.specs.declared.disks.Device.TheVariants as device
 use Rattle.verity_journal.specs.declared.disks.DiskFault.{DiskFault}
@@ -49,40 +48,6 @@ AreFirst facts p opened first = facts.begins p opened first × (length first ≡
 -- what the first bytes of what was opened say of it
 abbrev pub HasGate : {P : Type 0} → Ghosts P → P → Opened → Gate → Type 0
 HasGate facts p opened gate = (first : List ℕ) × AreFirst facts p opened first × Says first gate
-
--- what was opened has no more than a beginning of a journal's head, maybe no byte, or a closed gate behind one
-abbrev pub HasShutGate : {P : Type 0} → Ghosts P → P → Opened → Type 0
-HasShutGate facts p opened = HasGate facts p opened gate.Begun ⊎ HasGate facts p opened gate.Closed
-
--- no gate is open at a path
-abbrev pub IsShutAt : {P : Type 0} → Ghosts P → P → List ℕ → Type 0
-IsShutAt facts p path = facts.lacks p path ⊎ ((opened : Opened) × facts.opens p path opened × HasShutGate facts p opened)
-
--- no gate is open beside a hash device; a block device has none there
-abbrev pub IsShut : {P : Type 0} → Ghosts P → P → List ℕ → Type 0
-IsShut facts p hash_path = facts.has_device p hash_path
-    ⊎ ((path : List ℕ) × Beside facts p hash_path path × IsShutAt facts p path)
-
--- what was opened begins with a journal's head and an open gate
-abbrev pub HasOpenGate : {P : Type 0} → Ghosts P → P → Opened → Type 0
-HasOpenGate facts p opened = HasGate facts p opened gate.Open
-
--- what was opened is no journal, or one of another version
-abbrev pub HasNoGate : {P : Type 0} → Ghosts P → P → Opened → Type 0
-HasNoGate facts p opened = HasGate facts p opened gate.Foreign
-
--- a gate is open at a path
-abbrev pub IsOpenAt : {P : Type 0} → Ghosts P → P → List ℕ → Type 0
-IsOpenAt facts p path = (opened : Opened) × facts.opens p path opened × HasOpenGate facts p opened
-
--- a gate is open beside a hash device
-abbrev pub IsOpen : {P : Type 0} → Ghosts P → P → List ℕ → Type 0
-IsOpen facts p hash_path = (path : List ℕ) × Beside facts p hash_path path × IsOpenAt facts p path
-
--- or it is the one that is named
-abbrev pub IsOtherShut : {P : Type 0} → Ghosts P → P → List ℕ → List ℕ → Type 0
-IsOtherShut facts p hash_path named = facts.has_device p hash_path
-    ⊎ ((path : List ℕ) × Beside facts p hash_path path × (facts.leads p named path ⊎ IsShutAt facts p path))
 
 -- a regular file's name is the last part of the path of what its path leads to; a device has none
 abbrev pub IsName : {P : Type 0} → Ghosts P → P → Identity → List ℕ → List ℕ → Type 0

@@ -12,7 +12,6 @@ use Rattle.verity_files.specs.declared.fault.Fault.TheVariants as fault
 use Rattle.verity_pending.specs.declared.fault.EditFault.TheVariants as edit
 use Rattle.verity_store.specs.declared.fault.StoreFault.{StoreFault}
 use Rattle.verity_store.specs.declared.fault.StoreFault.TheVariants as store
-use Rattle.verity_gate.specs.Journals.{Beside, HasNoGate}
 
 -- no word of the command is blamed
 abbrev pub BlamesNone : Failure → Type 0
@@ -22,14 +21,6 @@ BlamesNone _ = ⊤
 -- no journal can be opened at a path: the system refused a call, or a block device was opened there
 abbrev pub IsClosedOffAt : {P : Type 0} → Ghosts P → P → List ℕ → Type 0
 IsClosedOffAt facts p path = (facts.refuses p ≡ true) ⊎ ((opened : Opened) × facts.opens p path opened × IsDevice opened.identity)
-
--- no journal can be used at a path: none can be opened there, or what was opened is none
-abbrev pub IsUnusableAt : {P : Type 0} → Ghosts P → P → List ℕ → Type 0
-IsUnusableAt facts p path = IsClosedOffAt facts p path ⊎ ((opened : Opened) × facts.opens p path opened × HasNoGate facts p opened)
-
--- nor beside a hash device
-abbrev pub IsUnusable : {P : Type 0} → Ghosts P → P → List ℕ → Type 0
-IsUnusable facts p hash_path = (path : List ℕ) × Beside facts p hash_path path × IsUnusableAt facts p path
 
 -- of a journal S3 for want of memory, S7 for all else
 abbrev pub journal_fault_of : StoreFault → Fault

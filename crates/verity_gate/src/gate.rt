@@ -1,72 +1,12 @@
 //! The gate of a journal, and what stands at a journal's path.
-ghost use Rattle.std.specs.Prelude.{◌≡◌, ◌⊎◌, true, length, IfOk, IfErr, OnOk};
+ghost use Rattle.std.specs.Prelude.{◌≡◌, true, length, IfOk, IfErr};
 ghost use Rattle.verity_files.specs.Identities.{IsDevice};
-ghost use Rattle.verity_gate.specs.Journals.{HasGate, HasNoGate, HasOpenGate, HasShutGate, IsFound, IsOpen, IsOpenAt, IsOtherShut};
-ghost use Rattle.verity_gate.specs.Journals.{IsShut, IsShutAt};
-ghost use Rattle.verity_gate.specs.Refusals.{IsClosedOffAt, IsUnopened, IsUnread, IsUnshut, IsUnusable, IsUnusableAt, journal_fault_of};
+ghost use Rattle.verity_gate.specs.Journals.{HasGate, IsFound};
+ghost use Rattle.verity_gate.specs.Refusals.{IsClosedOffAt, IsUnopened, IsUnread, journal_fault_of};
 
-use crate::places::path_beside;
 use verity_files::{Command, Failure, Fault, Identity, Opened, Paths, open_there};
 use verity_journal::{GATE_END, Gate, gate_of};
 use verity_store::{StoreFault, Which};
-
-/// That no commit of a hash device is under way, as the journal beside it says: S6 where its gate is open, S7 where it is no regular file,
-/// is no journal, or the system refuses to open or read it. Of a device, which has none beside it, nothing is known. It reads 13 bytes.
-pub fn check_gate<P: Paths + AllocGlobal>(rt: &P, hash_path: &str) -> Result<(), Failure>
-    ensures shut { OnOk result (IsShut P.Paths rt.now hash_path.now) }
-    ensures refused { IfErr result (IsUnshut (IsOpen P.Paths rt.now hash_path.now) (IsUnusable P.Paths rt.now hash_path.now)) }
-{
-    if rt.is_device(hash_path) {
-        return Ok(());
-    }
-    let beside = path_beside(rt, hash_path)?;
-    check_gate_at(rt, &beside)
-}
-
-/// The same, where another journal than the one beside the hash device is named, or none.
-pub fn check_other_gate<P: Paths + AllocGlobal>(
-    rt: &P,
-    hash_path: &str,
-    named: &str,
-) -> Result<(), Failure>
-    ensures shut { OnOk result (IsOtherShut P.Paths rt.now hash_path.now named.now) }
-    ensures refused { IfErr result (IsUnshut (IsOpen P.Paths rt.now hash_path.now) (IsUnusable P.Paths rt.now hash_path.now)) }
-{
-    if rt.is_device(hash_path) {
-        return Ok(());
-    }
-    let path = path_beside(rt, hash_path)?;
-    let named = rt.real_path(rt.alloc(), named)?;
-    if path == named {
-        Ok(())
-    } else {
-        check_gate_at(rt, &path)
-    }
-}
-
-/// That the gate of a journal is closed, or there is none. S6, S7.
-fn check_gate_at<P: Paths + AllocGlobal>(rt: &P, path: &str) -> Result<(), Failure>
-    ensures shut { OnOk result (IsShutAt P.Paths rt.now path.now) }
-    ensures refused { IfErr result (IsUnshut (IsOpenAt P.Paths rt.now path.now) (IsUnusableAt P.Paths rt.now path.now)) }
-{
-    let Some(opened) = open_journal(rt, path, Command::Verify)? else {
-        return Ok(());
-    };
-    check_first_bytes(rt, opened)
-}
-
-/// That what was opened is no more than a beginning of a journal's head, or a journal whose gate is closed. S6, S7.
-fn check_first_bytes<P: Paths + AllocGlobal>(rt: &P, opened: Opened) -> Result<(), Failure>
-    ensures shut { OnOk result (HasShutGate P.Paths rt.now opened) }
-    ensures refused { IfErr result (IsUnshut (HasOpenGate P.Paths rt.now opened)
-        ((P.refuses rt.now ≡ true) ⊎ HasNoGate P.Paths rt.now opened)) }
-{
-    match gate_at_front(rt, opened)? {
-        Gate::Begun | Gate::Closed => Ok(()),
-        Gate::Open => Err(Fault::UnderWay.into()),
-        Gate::Foreign => Err(Fault::Journal.into()),
-    }
-}
 
 /// What the first 13 bytes of what was opened say of it, or all where it has fewer. S7 where the system refuses to read them.
 pub(crate) fn gate_at_front<P: Paths + AllocGlobal>(rt: &P, opened: Opened) -> Result<Gate, Failure>

@@ -12,27 +12,27 @@ use Rattle.verity_files.specs.declared.fault.Fault.TheVariants as fault
 use Rattle.verity_store.specs.declared.fault.Which.TheVariants as which
 use Rattle.verity_superblock.specs.Line.{TableLine, Line}
 use Rattle.verity_files.specs.declared.command.Command.{Command}
-use Rattle.verity_files.specs.declared.paths.Paths.{Ghosts}
-use Rattle.verity_gate.specs.Journals.{IsOpen}
-use Rattle.verity_gate.specs.Refusals.{IsUnshut, IsUnusable}
+use Rattle.verity_files.specs.declared.system.System.{Ghosts}
+use Rattle.verity_gate.specs.Refusals.{IsUnshut}
+use Rattle.verity_gate.specs.Shut.{IsOpenBeside, IsUnusableBeside}
 use Rattle.verity_opening.specs.Opening.{OpensNone, OpensNoHub}
 
-module _ {P : Type 0} (facts : Ghosts P) (p : P) (command : Command) where
+module _ {S F D : Type 0} (facts : Ghosts S F D) (s : S) (command : Command) where
   -- a verifier isn't made for one of three reasons
   pub unmade : (line name : List ℕ) (cache : ℕ) (e : CheckFault) → (e ≡ check.CacheSize → ¬ IsCacheSize cache)
       → (e ≡ check.Lengths) ⊎ (e ≡ check.CacheSize) ⊎ (e ≡ check.NoMemory)
-      → OpensNoHub facts p line name cache command (failure_of (fault.Check e))
+      → OpensNoHub facts s line name cache command (failure_of (fault.Check e))
   unmade line name cache e size (inl is) =
-      subst (λ e. OpensNoHub facts p line name cache command (failure_of (fault.Check e))) (sym is) tt
+      subst (λ e. OpensNoHub facts s line name cache command (failure_of (fault.Check e))) (sym is) tt
   unmade line name cache e size (inr (inl is)) =
-      subst (λ e. OpensNoHub facts p line name cache command (failure_of (fault.Check e))) (sym is) (size is)
+      subst (λ e. OpensNoHub facts s line name cache command (failure_of (fault.Check e))) (sym is) (size is)
   unmade line name cache e size (inr (inr is)) =
-      subst (λ e. OpensNoHub facts p line name cache command (failure_of (fault.Check e))) (sym is) tt
+      subst (λ e. OpensNoHub facts s line name cache command (failure_of (fault.Check e))) (sym is) tt
 
   module _ (table : TableLine) where
     -- nor where its files aren't opened
-    pub unopened : (line name : List ℕ) (cache : ℕ) (e : Failure) → Line line table → OpensNone facts p table command e
-        → OpensNoHub facts p line name cache command e
+    pub unopened : (line name : List ℕ) (cache : ℕ) (e : Failure) → Line line table → OpensNone facts s table command e
+        → OpensNoHub facts s line name cache command e
     unopened line name cache failure.NoMemory parsed is = tt
     unopened line name cache (failure.Refused (fault.Store f)) parsed is = (table, parsed, is)
     unopened line name cache (failure.Refused (fault.InUse which.Data)) parsed is = (table, parsed, is)
@@ -52,8 +52,8 @@ module _ {P : Type 0} (facts : Ghosts P) (p : P) (command : Command) where
     unopened line name cache failure.Output parsed is = elim is [ ]
 
     -- the gate beside the hash device isn't shut
-    pub unshut : (e : Failure) → IsUnshut (IsOpen facts p table.hash_dev) (IsUnusable facts p table.hash_dev) e
-        → OpensNone facts p table command e
+    pub unshut : (e : Failure) → IsUnshut (IsOpenBeside facts s table.hash_dev) (IsUnusableBeside facts s table.hash_dev) e
+        → OpensNone facts s table command e
     unshut failure.NoMemory is = tt
     unshut (failure.Refused fault.UnderWay) is = is
     unshut (failure.Refused fault.Journal) is = is

@@ -21,9 +21,11 @@ use std::net::{Net, TcpListener, TcpStream};
 use std::os::unix::net::UnixListener;
 use std::rt::Files;
 use std::time::{Clock, Duration};
-use verity_files::{Command, DONE, Failure, Fault, Paths, REFUSED, Word, memory, number, sessions};
+use verity_files::{
+    Command, DONE, Failure, Fault, REFUSED, System, Word, memory, number, sessions,
+};
 use verity_hub::{Hub, serve_clients};
-use verity_opening::{FileHub, open_hub};
+use verity_opening::open_hub;
 use verity_store::BlockStore;
 use verity_words::ServeWords;
 
@@ -38,34 +40,29 @@ const MEBIBYTE: u64 = 1 << 20;
 /// Faults are found in this order: the words, the line, the name, the two files (data first), the verifier, the listener.
 /// The file of a Unix socket, which is made here, is removed at the end.
 pub fn serve<
-    R: Paths
-        + Files<File = File>
-        + Net<Stream = TcpStream, Listener = TcpListener>
-        + Clock
-        + AllocGlobal,
+    R: Files<File = File> + Net<Stream = TcpStream, Listener = TcpListener> + Clock + AllocGlobal,
+    S: System,
     W: Write,
->(rt: &R, words: &ServeWords<'_>, output: &mut W) -> Result<u8, Failure>
+>(rt: &R, system: &S, words: &ServeWords<'_>, output: &mut W) -> Result<u8, Failure>
     ensures done { result ≡ Ok 0
         → IsServedAsAsked words.now.sessions.now (W.contents output.old) (W.contents output.new) }
     ensures blames { IfErr result (ServeBlames words.now) }
-    ensures system { IfErr result (IsS1For (R.refuses rt.now ≡ true)) }
+    ensures system { IfErr result (IsS1For (S.refuses system.now ≡ true)) }
 {
     let cache = number(Word::Cache, words.cache)? as usize;
     let count = sessions(words.sessions)?;
     let limits = limits(words)?;
-    serve_over(rt, words, cache, limits, count, output)
+    serve_over(rt, system, words, cache, limits, count, output)
 }
 
 /// Opens the volume, and serves it at the address.
 fn serve_over<
-    R: Paths
-        + Files<File = File>
-        + Net<Stream = TcpStream, Listener = TcpListener>
-        + Clock
-        + AllocGlobal,
+    R: Files<File = File> + Net<Stream = TcpStream, Listener = TcpListener> + Clock + AllocGlobal,
+    S: System,
     W: Write,
 >(
     rt: &R,
+    system: &S,
     words: &ServeWords<'_>,
     cache: usize,
     limits: Limits,
@@ -74,19 +71,21 @@ fn serve_over<
 ) -> Result<u8, Failure>
     ensures done { result ≡ Ok 0 → IsServed (W.contents output.old) (W.contents output.new) count true }
     ensures blames { IfErr result BlamesNone }
-    ensures system { IfErr result (IsS1For (R.refuses rt.now ≡ true)) }
+    ensures system { IfErr result (IsS1For (S.refuses system.now ≡ true)) }
 {
-    let mut hub = open_hub(rt, words.table, words.name, cache, Command::Serve)?;
+    let mut hub = open_hub(system, words.table, words.name, cache, Command::Serve)?;
     listen(rt, &mut hub, words.listen, limits, count, output)
 }
 
 /// Serves at an address.
 fn listen<
     R: Files<File = File> + Net<Stream = TcpStream, Listener = TcpListener> + Clock + AllocGlobal,
+    D: BlockStore,
+    H: BlockStore,
     W: Write,
 >(
     rt: &R,
-    hub: &mut FileHub,
+    hub: &mut Hub<D, H>,
     address: &str,
     limits: Limits,
     count: u64,

@@ -6,10 +6,9 @@ ghost use Rattle.verity_files.specs.Errors.{IsS1For};
 ghost use Rattle.verity_serving.specs.Blamed.{TalkBlames};
 ghost use Rattle.verity_serving.specs.Serving.{IsTalked, status_of_session};
 
-use verity_files::{Command, DONE, Failure, NO_MEMORY, Paths, REFUSED, VolumeStore, Word, number};
+use verity_files::{Command, DONE, Failure, NO_MEMORY, REFUSED, System, Word, number};
 use verity_hub::{HubFault, Input, Output, ServeFault, serve_stream};
 use verity_opening::open_hub;
-use verity_store::BlockStore;
 use verity_words::TalkWords;
 
 /// How many turns the session may take.
@@ -19,14 +18,14 @@ const TURNS: u64 = 1 << 40;
 /// are started for one connection. Nothing but the session's bytes is written once the greeting has begun.
 ///
 /// Faults are found in this order: the words, the line, the name, the two files (data first), the verifier.
-pub fn talk<R: Paths + AllocGlobal, I: Input, W: Output>(
-    rt: &R,
+pub fn talk<S: System, I: Input, W: Output>(
+    system: &S,
     words: &TalkWords<'_>,
     input: &mut I,
     output: &mut W,
 ) -> Result<u8, Failure>
     ensures ended { IfOk result (λ status. (ended : _) × (status ≡ status_of_session ended)
-        × IsTalked ⟦<VolumeStore as BlockStore>⟧ ⟦<VolumeStore as BlockStore>⟧ words.now (record {
+        × IsTalked S.Store.BlockStore S.Store.BlockStore words.now (record {
           reader = I.remaining input.old;
           reader' = I.remaining input.new;
           writer = W.contents output.old;
@@ -35,10 +34,10 @@ pub fn talk<R: Paths + AllocGlobal, I: Input, W: Output>(
         × FailsToRead (I.failures input.old) (I.failures input.new) ended
         × FailsToWrite (W.failures output.old) (W.failures output.new) ended) }
     ensures blames { IfErr result (TalkBlames words.now) }
-    ensures system { IfErr result (IsS1For (R.refuses rt.now ≡ true)) }
+    ensures system { IfErr result (IsS1For (S.refuses system.now ≡ true)) }
 {
     let cache = number(Word::Cache, words.cache)? as usize;
-    let mut hub = open_hub(rt, words.table, words.name, cache, Command::Talk)?;
+    let mut hub = open_hub(system, words.table, words.name, cache, Command::Talk)?;
     let served = serve_stream(&mut hub, input, output, TURNS);
     ended(served)
 }

@@ -12,7 +12,7 @@ use std::alloc::Global;
 use std::io::{Eprint, IsTerminal, Write};
 use std::time::Clock;
 use verity_check::{Place, Report, Verdict, Verifier};
-use verity_files::{Command, DONE, Failure, Paths, REFUSED, VolumeStore};
+use verity_files::{Command, DONE, Failure, REFUSED, System};
 use verity_opening::open_stores;
 use verity_store::BlockStore;
 use verity_superblock::Table;
@@ -25,37 +25,39 @@ const CACHE: usize = 1024;
 
 /// Reads each block of the volume that a table line names, and prints which are bad or can't be read. Where `errors` is a
 /// terminal, it shows how much of the data device was read.
-pub fn verify<R: Paths + Clock + Eprint + AllocGlobal, W: Write, E: IsTerminal>(
+pub fn verify<R: Clock + Eprint + AllocGlobal, S: System, W: Write, E: IsTerminal>(
     rt: &R,
+    system: &S,
     words: &VerifyWords<'_>,
     output: &mut W,
     errors: &E,
 ) -> Result<u8, Failure>
-    ensures reported { IfOk result (λ status. IsReported ⟦<VolumeStore as BlockStore>⟧ ⟦<VolumeStore as BlockStore>⟧ words.now.table.now
-        (λ table image device. LiesAt R.Paths rt.now table.dev table.data_blocks table.data_block_size image.file
-        × LiesAt R.Paths rt.now table.hash_dev (2 ^ 64 - 1) table.hash_block_size device.file)
+    ensures reported { IfOk result (λ status. IsReported S.Store.BlockStore S.Store.BlockStore words.now.table.now
+        (λ table image device. LiesAt S.System system.now table.dev table.data_blocks image
+        × LiesAt S.System system.now table.hash_dev (2 ^ 64 - 1) device)
         status (W.contents output.old) (W.contents output.new)) }
     ensures blames { IfErr result BlamesNone }
-    ensures system { IfErr result (IsS1For (R.refuses rt.now ≡ true)) }
+    ensures system { IfErr result (IsS1For (S.refuses system.now ≡ true)) }
 {
-    let report = report_of(rt, words, errors)?;
+    let report = report_of(rt, system, words, errors)?;
     print_report(&report, output)
 }
 
-fn report_of<R: Paths + Clock + Eprint + AllocGlobal, E: IsTerminal>(
+fn report_of<R: Clock + Eprint + AllocGlobal, S: System, E: IsTerminal>(
     rt: &R,
+    system: &S,
     words: &VerifyWords<'_>,
     errors: &E,
 ) -> Result<Report, Failure>
-    ensures found { IfOk result (λ report. IsFound ⟦<VolumeStore as BlockStore>⟧ ⟦<VolumeStore as BlockStore>⟧ words.now.table.now
-        (λ table image device. LiesAt R.Paths rt.now table.dev table.data_blocks table.data_block_size image.file
-        × LiesAt R.Paths rt.now table.hash_dev (2 ^ 64 - 1) table.hash_block_size device.file)
+    ensures found { IfOk result (λ report. IsFound S.Store.BlockStore S.Store.BlockStore words.now.table.now
+        (λ table image device. LiesAt S.System system.now table.dev table.data_blocks image
+        × LiesAt S.System system.now table.hash_dev (2 ^ 64 - 1) device)
         report.faults report.unchecked) }
     ensures blames { IfErr result BlamesNone }
-    ensures system { IfErr result (IsS1For (R.refuses rt.now ≡ true)) }
+    ensures system { IfErr result (IsS1For (S.refuses system.now ≡ true)) }
 {
     let table = Table::parse(rt.alloc(), words.table)?;
-    let (data_store, hash_store) = open_stores(rt, &table, Command::Verify)?;
+    let (data_store, hash_store) = open_stores(system, &table, Command::Verify)?;
     let progress = progress_of(
         rt,
         is_watched(words.is_quiet, errors.is_terminal()),

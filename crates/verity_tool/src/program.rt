@@ -11,7 +11,7 @@ use std::net::{Net, TcpListener, TcpStream};
 use std::rt::Files;
 use std::time::Clock;
 use verity_changes::{edit, scratch, update};
-use verity_files::{DONE, Failure, NOT_UNDERSTOOD, REFUSED};
+use verity_files::{DONE, Failure, Host, NOT_UNDERSTOOD, REFUSED};
 use verity_format::format;
 use verity_serving::{CountedReader, CountedWriter, fail, serve, talk, verify};
 use verity_words::{Request, explain, explain_corrupt, explain_usage, explain_words, read_words};
@@ -81,13 +81,20 @@ fn answer<
 ) -> Result<u8, Failure> {
     match request {
         Request::Scratch => scratch(rt, input, output, errors),
-        Request::Format(words) => format(rt, &words, output, errors).map(|()| DONE),
+        Request::Format(words) => {
+            format(rt, &mut Host::new(rt), &words, output, errors).map(|()| DONE)
+        },
         Request::Dump(words) => dump(rt, &words, output).map(|()| DONE),
         Request::Edit(words) => edit(rt, &words, output, errors),
-        Request::Verify(words) => verify(rt, &words, output, errors),
-        Request::Serve(words) => serve(rt, &words, &mut Told::new(output, errors, words.listen)),
-        Request::Talk(words) => talk(
+        Request::Verify(words) => verify(rt, &Host::new(rt), &words, output, errors),
+        Request::Serve(words) => serve(
             rt,
+            &Host::new(rt),
+            &words,
+            &mut Told::new(output, errors, words.listen),
+        ),
+        Request::Talk(words) => talk(
+            &Host::new(rt),
             &words,
             &mut CountedReader::new(input),
             &mut CountedWriter::new(output),

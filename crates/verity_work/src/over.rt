@@ -11,7 +11,7 @@ use crate::ways::{Given, do_in_place, do_staged};
 use crate::work::{Words, Work};
 use std::io::{Eprint, Write};
 use std::time::Clock;
-use verity_files::{Failure, Opened, Paths};
+use verity_files::{Failure, Host, Opened, Paths};
 use verity_gate::{FileKeeper, check_other_gate, journal_path, recover_files, volume_names};
 use verity_store::StoreFault;
 use verity_superblock::Table;
@@ -84,7 +84,7 @@ fn journal_of<R: Paths + AllocGlobal>(
     ensures system { IfErr result (IsS1For ⊥) }
 {
     if let Some(named) = words.journal {
-        check_other_gate(rt, words.hash_path, named)?;
+        check_other_gate(&Host::new(rt), words.hash_path, named)?;
     }
     journal_path(rt, words.journal, hash.identity, words.hash_path)
 }

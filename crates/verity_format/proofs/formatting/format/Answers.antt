@@ -4,6 +4,7 @@ use Rattle.verity_digest.specs.Hash.{hashing}
 use Rattle.verity_superblock.specs.Line.{canonical}
 use Rattle.verity_files.specs.Faults.{line}
 use Rattle.verity_format.specs.Formatting.{line_made}
+use Rattle.verity_format.specs.Made.{device_of}
 use Rattle.verity_format.proofs.Formatted.{formatted, moved}
 use Rattle.verity_format.proofs.formatting.format.Goals as goal
 
@@ -19,8 +20,8 @@ returns-clause-printed g c =
     let printed : Appends (g.W.Write.contents c.args.output.now) (g.W.Write.contents c.writeln.new.self) (line (canonical table)) =
     subst (λ text. Appends (g.W.Write.contents c.args.output.now) (g.W.Write.contents c.writeln.new.self) (line text)) line_is.1
     (search rules) in
-    formatted _ _ words shape made salt _ _ c.in_ok-shape.ensures.asked
+    formatted _ _ _ words shape made salt _ _ c.in_ok-shape.ensures.asked
     (c.in_ok-bytes.ensures.value ∙ ap Some (sym c.deref-2.ensures.value)) c.in_ok-made.ensures.start line_is.0 printed
-    (moved _ _ _ _ _ _ _ _ _ (λ s there. there)
-    (ap (λ x. hashing (record { algorithm = shape.algorithm; salt = x }) shape.hash_block_size) same) (λ i. shape.data_block_size)
-    c.in_ok-made.ensures.built)
+    (moved _ _ _ _ _ _ _ _ _ _ _ _ _ (λ s there. there) (λ s s' left. left)
+    (ap (λ x. hashing (record { algorithm = shape.algorithm; salt = x }) shape.hash_block_size) same) (ap (device_of shape) same)
+    (λ i. shape.data_block_size) c.in_ok-made.ensures.built)

@@ -1,12 +1,12 @@
 use Rattle.std.proofs.Common.{Err, sym, ap, ◌∙◌, subst}
 use Rattle.verity_files.specs.Faults.{failure_of}
 use Rattle.verity_files.specs.declared.fault.Fault.TheVariants as fault
-use Rattle.verity_gate.specs.Journals.{IsShut}
+use Rattle.verity_gate.specs.Shut.{IsShutBeside}
 use Rattle.verity_opening.proofs.Unopened.{of_check, of_made, unmade, unopened}
 use Rattle.verity_opening.proofs.opened.open_hub.Goals as goal
 
 pub returns-clause-shut : goal.returns-clause-shut
-returns-clause-shut g c = subst (λ device. IsShut g.R.Paths c.args.rt.now device)
+returns-clause-shut g c = subst (λ device. IsShutBeside g.S.System c.args.system.now device)
     (sym (ap (λ v. v.table.hash_dev) c.new-3.ensures.verifier ∙ ap (λ v. v.table.hash_dev) c.in_ok-verifier.ensures.value))
     c.in_ok-data_store.ensures.shut
 
@@ -14,7 +14,7 @@ pub returns-in_err-verifier-clause-refused : goal.returns-in_err-verifier-clause
 returns-in_err-verifier-clause-refused g c =
     of_made c.from_residual-in_err-verifier.result (failure_of (fault.Check c.in_err-verifier.field-0.0)) _
     c.from_residual-in_err-verifier.ensures.1
-    (unmade g.R.Paths c.args.rt.now c.args.command c.args.line.now c.args.name.now c.args.cache c.in_err-verifier.field-0.0
+    (unmade g.S.System c.args.system.now c.args.command c.args.line.now c.args.name.now c.args.cache c.in_err-verifier.field-0.0
     (λ is. (c.in_err-verifier.ensures.cache_size.0 (ap Err is)).1) c.in_err-verifier.ensures.error)
 
 pub returns-in_err-verifier-clause-system : goal.returns-in_err-verifier-clause-system
@@ -25,5 +25,5 @@ returns-in_err-verifier-clause-system g c =
 pub returns-in_err-data_store-clause-refused : goal.returns-in_err-data_store-clause-refused
 returns-in_err-data_store-clause-refused g c =
     of_made c.from_residual-in_err-data_store.result c.in_err-data_store.field-0.0 _ c.from_residual-in_err-data_store.ensures.1
-    (unopened g.R.Paths c.args.rt.now c.args.command c.in_ok-table.table c.args.line.now c.args.name.now c.args.cache
+    (unopened g.S.System c.args.system.now c.args.command c.in_ok-table.table c.args.line.now c.args.name.now c.args.cache
     c.in_err-data_store.field-0.0 c.in_ok-table.ensures.line c.in_err-data_store.ensures.refused)

@@ -1,0 +1,131 @@
+//! The real system.
+ghost use Rattle.std.specs.Prelude.{◌≡◌};
+
+use crate::command::Lock;
+use crate::failure::Failure;
+use crate::fault::Fault;
+use crate::identity::Identity;
+use crate::opening::Opened;
+use crate::part::Part;
+use crate::paths::Paths;
+use crate::stores::{VolumeStore, new_store, store_of_first, store_of_most, whole_store};
+use crate::system::System;
+use std::alloc::Global;
+use std::io;
+use verity_store::{BlockStore, StoreFault, Which};
+
+/// The real system, whose files are asked for by their paths.
+#[derive(Drop)]
+pub struct Host<'a, P> {
+    paths: &'a P,
+}
+
+impl<'a, P: Paths> Host<'a, P> {
+    /// The system of these paths.
+    pub fn new(paths: &'a P) -> Host<'a, P>
+        ensures { result.paths.now ≡ paths.now }
+    {
+        Host { paths }
+    }
+}
+
+// What was opened at a path is what stands there; a store is over that very file. What became of it when it was closed isn't known.
+impl<'a, P: Paths + AllocGlobal> System for Host<'a, P> {
+    ghost use Rattle.std.specs.Prelude.{◌≡◌, true, false};
+    ghost use Rattle.verity_files.specs.Lengths.{IsLenOf};
+    ghost use Rattle.verity_files.specs.Parts.{LiesAsPart};
+
+    type File = Opened;
+
+    type Store = VolumeStore;
+
+    ghost refuses = { λ host. P.refuses host.paths.now };
+
+    ghost identity = { λ opened. opened.identity };
+
+    ghost len = { λ opened. opened.len };
+
+    ghost opens = { λ host path opened. P.opens host.paths.now path opened × P.permits host.paths.now opened false };
+
+    ghost opens_to_write = { λ old path opened new. (new.paths.now ≡ old.paths.now) × P.opens old.paths.now path opened
+        × P.permits old.paths.now opened true };
+
+    ghost locks = { λ host opened lock. P.locks host.paths.now opened lock };
+
+    ghost shuts_out = { λ host opened lock. P.shuts_out host.paths.now opened lock };
+
+    ghost leads = { λ host path led. P.leads host.paths.now path led };
+
+    ghost lacks = { λ host path. P.lacks host.paths.now path };
+
+    ghost has_device = { λ host path. P.has_device host.paths.now path };
+
+    ghost begins = { λ host opened bytes. P.begins host.paths.now opened bytes };
+
+    ghost has_len = { λ host opened len. IsLenOf P.Paths host.paths.now opened.identity opened.file opened.len len };
+
+    ghost lies = { λ _ opened part store. LiesAsPart opened part store.size store.file };
+
+    ghost closes = { λ old _ _ new. new.paths.now ≡ old.paths.now };
+
+    fn alloc(&self) -> Global {
+        self.paths.alloc()
+    }
+
+    fn identity_of(&self, file: &Opened) -> Identity {
+        file.identity
+    }
+
+    fn len_of(&self, file: &Opened) -> u64 {
+        file.len
+    }
+
+    fn open(&self, path: &str) -> Result<Opened, StoreFault> {
+        self.paths.open(path, false)
+    }
+
+    fn open_to_write(&mut self, path: &str, makes: bool) -> Result<(Opened, bool), StoreFault> {
+        if makes {
+            self.paths.open_or_make(self.paths.alloc(), path)
+        } else {
+            Ok((self.paths.open(path, true)?, false))
+        }
+    }
+
+    fn lock(&self, file: &Opened, lock: Lock, which: Which) -> Result<(), Fault> {
+        self.paths.lock(file, lock, which)
+    }
+
+    fn real_path(&self, path: &str) -> Result<String, Failure> {
+        self.paths.real_path(self.paths.alloc(), path)
+    }
+
+    fn is_there(&self, path: &str) -> Result<bool, StoreFault> {
+        self.paths.is_there(path)
+    }
+
+    fn is_device(&self, path: &str) -> bool {
+        self.paths.is_device(path)
+    }
+
+    fn read_first(&self, file: &mut Opened, out: &mut [u8]) -> io::Result<()> {
+        self.paths.read_first(file, out)
+    }
+
+    fn store(&self, file: Opened, part: Part, size: usize) -> Result<VolumeStore, StoreFault> {
+        match part {
+            Part::All => whole_store(self.paths, file, size),
+            Part::First(blocks) => store_of_first(file, size, blocks),
+            Part::AtMost(blocks) => store_of_most(self.paths, file, size, blocks),
+            Part::New => new_store(file, size),
+        }
+    }
+
+    fn close(&mut self, _path: &str, _store: VolumeStore) -> Result<(), StoreFault> {
+        Ok(())
+    }
+
+    fn unmake(&mut self, path: &str) {
+        self.paths.unmake(self.paths.alloc(), path);
+    }
+}

@@ -1,0 +1,25 @@
+-- What `format` opens.
+use Rattle.std.specs.Prelude.{◌≡◌, ◌≢◌, ℕ, List}
+use Rattle.verity_files.specs.Commands.{lock_of}
+use Rattle.verity_files.specs.declared.command.Command.TheVariants.{Format}
+use Rattle.verity_files.specs.declared.identity.Identity.{Identity}
+use Rattle.verity_files.specs.declared.system.System.{Ghosts}
+use Rattle.verity_format.specs.Made.{hash_part}
+use Rattle.verity_format.specs.declared.formatting.Shape.{Shape}
+
+-- DATA was opened to be read and locked, as this store, and is this file
+pub record IsOpenedAsked {S F D : Type 0} (facts : Ghosts S F D) (s : S) (path : List ℕ) (shape : Shape) (source : D)
+    (identity : Identity) : Type 0 where
+  pub opened : F
+  pub is_opened : facts.opens s path opened
+  pub locked : facts.locks s opened (lock_of Format)
+  pub same : identity ≡ facts.identity opened
+
+-- HASH was opened to be written and locked, as this store, and is another file than this
+pub record IsOpenedAnew {S F D : Type 0} (facts : Ghosts S F D) (old : S) (path : List ℕ) (shape : Shape) (other : Identity)
+    (target : D) (new : S) : Type 0 where
+  pub opened : F
+  pub is_opened : facts.opens_to_write old path opened new
+  pub apart : other ≢ facts.identity opened
+  pub locked : facts.locks new opened (lock_of Format)
+  pub there : facts.lies new opened (hash_part shape.hash_offset) target
