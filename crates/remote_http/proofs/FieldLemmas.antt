@@ -1,0 +1,56 @@
+-- Fields of a head, one more at a time.
+use Rattle.std.proofs.Common.{◌≡◌, ℕ, ◌+◌, ◌<◌, List, length, arith, subst, sym, ap, ◌∙◌, below_more, get_or}
+use Rattle.std.proofs.lemmas.Option.{slice_get-get_or, get_or_from_slice_get, slice_get_within}
+use Rattle.httparse.specs.declared.spans.HeaderSpan.{HeaderSpan}
+use Rattle.httparse.specs.Spans.{span_bytes}
+use Rattle.remote_http.specs.declared.fields.Found.{Found}
+use Rattle.remote_http.specs.declared.fields.Found.TheVariants.{Never, Once, Often}
+use Rattle.remote_http.specs.Fields.{HasField, HasValue, HasNone, IsSameName}
+use Rattle.remote_http.specs.Found.{IsFoundBelow, IsFound}
+
+-- one more field, which hasn't this name
+pub found_same : (buf : List ℕ) (fields : List HeaderSpan) (name : List ℕ) (n : ℕ) (found : Found)
+    → IsFoundBelow buf fields name n found → ¬ (HasField buf fields name n) → IsFoundBelow buf fields name (n + 1) found
+found_same buf fields name n Never before other = below_more _ _ before other
+found_same buf fields name n (Once k) before other =
+    (omega arith, before.1, below_more (λ j. HasField buf fields name j → j ≡ k) n before.2 (λ has. absurd (other has)))
+found_same buf fields name n Often before other = tt
+
+-- one more, which is the first of this name
+pub found_first : (buf : List ℕ) (fields : List HeaderSpan) (name : List ℕ) (n : ℕ)
+    → IsFoundBelow buf fields name n Never → HasField buf fields name n → IsFoundBelow buf fields name (n + 1) (Once n)
+found_first buf fields name n before here =
+    let same : n ≡ n = omega arith in
+    (omega arith, here, below_more (λ j. HasField buf fields name j → j ≡ n) n (λ j below has. absurd (before j below has)) (λ has. same))
+
+-- the field that was looked at has this name,
+pub has_name : (buf : List ℕ) (fields : List HeaderSpan) (name text : List ℕ) (k : ℕ) (d : HeaderSpan) → k < length fields
+    → text ≡ span_bytes buf (get_or fields k d).name → IsSameName text name → HasField buf fields name k
+has_name buf fields name text k d within is same =
+    (get_or fields k d, slice_get-get_or fields k d within, subst (λ t. IsSameName t name) is same)
+
+-- or another
+pub has_other : (buf : List ℕ) (fields : List HeaderSpan) (name text : List ℕ) (k : ℕ) (d : HeaderSpan) → k < length fields
+    → text ≡ span_bytes buf (get_or fields k d).name → ¬ (IsSameName text name) → ¬ (HasField buf fields name k)
+has_other buf fields name text k d within is other (h, at, same) =
+    let this : get_or fields k d ≡ h = get_or_from_slice_get fields k h d at in
+    other (subst (λ t. IsSameName t name) (sym (is ∙ ap (λ (f : HeaderSpan). span_bytes buf f.name) this)) same)
+
+-- the one field that was found has this value
+pub has_value : (buf : List ℕ) (fields : List HeaderSpan) (name text value : List ℕ) (k : ℕ) (d : HeaderSpan)
+    → IsFound buf fields name (Once k) → text ≡ span_bytes buf (get_or fields k d).value → text ≡ value
+    → HasValue buf fields name value
+has_value buf fields name text value k d found is same =
+    let h : HeaderSpan = found.1.0 in
+    let this : get_or fields k d ≡ h = get_or_from_slice_get fields k h d found.1.1 in (
+      k,
+      h,
+      found.1.1,
+      found.1.2,
+      sym (is ∙ ap (λ (f : HeaderSpan). span_bytes buf f.value) this) ∙ same,
+      λ j has. found.2 j (slice_get_within fields j has.0 has.1) has,
+    )
+
+-- none was found
+pub has_none : (buf : List ℕ) (fields : List HeaderSpan) (name : List ℕ) → IsFound buf fields name Never → HasNone buf fields name
+has_none buf fields name found = λ j has. found j (slice_get_within fields j has.0 has.1) has
