@@ -1,0 +1,136 @@
+//! An export of an NBD server.
+
+ghost use Rattle.std.specs.Prelude.{◌≡◌, ◌+◌, ◌<◌, ◌≤◌, ◌^◌, length, OnOk};
+ghost use Rattle.verity_store.specs.RawFile.{HasLength, Reads};
+
+use crate::dial::Dial;
+use crate::fault::RemoteFault;
+use crate::patience::Patience;
+use crate::source::{Miss, Source};
+use remote_nbd::{Answer, MAX_LENGTH, OpenFault, open_export, read_at};
+use std::alloc::Global;
+use std::io::{self, ErrorKind};
+use std::time::Duration;
+
+/// An export of an NBD server, which has as many bytes as it had when it was opened.
+#[derive(Drop)]
+pub struct NbdSource<D: Dial> {
+    alloc: Global,
+    dial: D,
+    name: String,
+    kept: Option<D::Wire>,
+    /// Which request comes next.
+    cookie: u64,
+    len: u64,
+}
+
+impl<D: Dial + Drop> NbdSource<D> {
+    /// Opens an export: one connection.
+    ///
+    /// # Errors
+    ///
+    /// `Unreachable`, `Nbd` and `NoMemory`.
+    pub fn open(
+        alloc: Global,
+        dial: D,
+        name: &str,
+        patience: Patience,
+    ) -> Result<NbdSource<D>, RemoteFault> {
+        let mut source = NbdSource {
+            alloc,
+            dial,
+            name: String::from_str(alloc, name)?,
+            kept: None,
+            cookie: 0,
+            len: 0,
+        };
+        let mut wire = source.connect(patience)?;
+        source.len = source.greet(&mut wire)?;
+        source.kept = Some(wire);
+        Ok(source)
+    }
+
+    /// A new connection; the time of the whole handshake runs from here.
+    fn connect(&self, patience: Patience) -> io::Result<D::Wire> {
+        let until = self.dial.now()?.saturating_add(patience.timeout);
+        self.dial.dial(until)
+    }
+
+    /// The handshake; how many bytes the export has.
+    fn greet(&self, wire: &mut D::Wire) -> Result<u64, OpenFault> {
+        let export = open_export(wire, self.alloc, self.name.as_bytes())?;
+        Ok(export.size)
+    }
+
+    /// A new connection to the same export, of the same length.
+    fn reopen(&self, patience: Patience) -> Result<D::Wire, Miss> {
+        let mut wire = self.connect(patience).map_err(|e| Miss::Lost(e.kind()))?;
+        match self.greet(&mut wire) {
+            Ok(len) if len == self.len => Ok(wire),
+            Ok(_) => Err(Miss::Refused(ErrorKind::InvalidData)),
+            Err(OpenFault::Connection(e)) => Err(Miss::Lost(e.kind())),
+            Err(OpenFault::NoMemory(_)) => Err(Miss::Refused(ErrorKind::OutOfMemory)),
+            Err(_) => Err(Miss::Refused(ErrorKind::Other)),
+        }
+    }
+
+    /// Reads at most as many bytes as one request may ask for over a connection, and keeps that where it is in step and the bytes were given.
+    fn get(
+        &mut self,
+        wire: D::Wire,
+        at: u64,
+        out: &mut [u8],
+        patience: Patience,
+    ) -> Result<(), Miss>
+        requires { length out.old ≤ 33554432 }
+    {
+        let mut wire = wire;
+        let now = self.dial.now().map_err(|e| Miss::Lost(e.kind()))?;
+        self.dial.extend(
+            &mut wire,
+            now.saturating_add(patience.for_request(out.len())),
+        );
+        let cookie = self.cookie;
+        self.cookie = cookie.wrapping_add(1);
+        match read_at(&mut wire, cookie, at, out) {
+            Ok(Answer::Given) => {
+                self.kept = Some(wire);
+                Ok(())
+            }
+            Ok(Answer::Refused(_)) => Err(Miss::Refused(ErrorKind::Other)),
+            Err(e) => Err(lost_or_lied(e)),
+        }
+    }
+}
+
+/// A reply to no request of ours is an answer; every other error is the connection's.
+fn lost_or_lied(error: io::Error) -> Miss {
+    match error.kind() {
+        ErrorKind::InvalidData => Miss::Refused(ErrorKind::InvalidData),
+        kind => Miss::Lost(kind),
+    }
+}
+
+// Nothing is known of the bytes of a server.
+impl<D: Dial + Drop> Source for NbdSource<D> {
+    fn byte_len(&self) -> u64 {
+        self.len
+    }
+
+    fn now(&self) -> io::Result<Duration> {
+        self.dial.now()
+    }
+
+    fn read_once(&mut self, at: u64, out: &mut [u8], patience: Patience) -> Result<(), Miss> {
+        let mut place = at;
+        'pieces: for piece in out.chunks_mut(MAX_LENGTH) {
+            let wire = match self.kept.take() {
+                Some(wire) => wire,
+                None => self.reopen(patience)?,
+            };
+            self.get(wire, place, piece, patience)?;
+            place = place.saturating_add(piece.len() as u64);
+        }
+        Ok(())
+    }
+}
