@@ -1,6 +1,7 @@
 //! A window of a file.
 
-ghost use Rattle.std.specs.Prelude.{◌≡◌, ◌+◌, ◌-◌, ◌<◌, ◌≤◌, true, length, take, drop, OnOk, OnErr, IfOk, IfSome, IsTrue, All, slice_index_or};
+ghost use Rattle.std.specs.Prelude.{◌≡◌, ◌+◌, ◌-◌, ◌<◌, ◌≤◌, true, length, take, drop};
+ghost use Rattle.std.specs.Prelude.{OnOk, OnErr, IfOk, IfSome, IsTrue, All, slice_index_or};
 ghost use Rattle.read_ahead.specs.Held.{Holds, Spans, SpansAt, IsHeld, IsEmpty};
 ghost use Rattle.verity_store.specs.RawFile.{Reads};
 

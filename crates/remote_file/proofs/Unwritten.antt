@@ -1,5 +1,6 @@
 -- Bytes that stay as they are, as bytes that were written over by themselves.
-use Rattle.std.proofs.Common.{refl, ◌≡◌, ℕ, ◌+◌, ◌≤◌, Option, None, Some, List, ◌++◌, length, take, drop, replicate, sym, ap, ◌∙◌, arith, length-take-le, length-drop, take-append-drop}
+use Rattle.std.proofs.Common.{refl, ◌≡◌, ℕ, ◌+◌, ◌≤◌, Option, None, Some, List, ◌++◌, length, take, drop, replicate}
+use Rattle.std.proofs.Common.{sym, ap, ◌∙◌, arith, length-take-le, length-drop, take-append-drop}
 use Rattle.std.proofs.lemmas.List.{drop-drop, length-replicate}
 use Rattle.verity_store.specs.RawFile.{known_len, overwritten, MayWrite}
 

@@ -74,7 +74,7 @@ impl<D: Dial + Drop> NbdSource<D> {
         }
     }
 
-    /// Reads at most as many bytes as one request may ask for over a connection, and keeps that where it is in step and the bytes were given.
+    /// Reads at most as many bytes as one request may ask for over a connection, and keeps that where the bytes were given.
     fn get(
         &mut self,
         wire: D::Wire,

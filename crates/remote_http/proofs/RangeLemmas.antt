@@ -1,5 +1,6 @@
 -- What was checked of spans, as a fact of the head that was read.
-use Rattle.std.proofs.Common.{refl, ◌≡◌, ◌⊎◌, ℕ, ◌+◌, ◌-◌, Option, List, [], ◌++◌, length, take, drop, None, Some, subst, sym, ap, ◌∙◌, map, append_assoc, inl, inr}
+use Rattle.std.proofs.Common.{refl, ◌≡◌, ◌⊎◌, ℕ, ◌+◌, ◌-◌, Option, List, [], ◌++◌, length, take, drop, None, Some}
+use Rattle.std.proofs.Common.{subst, sym, ap, ◌∙◌, map, append_assoc, inl, inr}
 use Rattle.std.specs.List.{slice_get}
 use Rattle.std.specs.Prelude.{codes, option_map}
 use Rattle.std.specs.Io.KnownBytes.{Consumes, Keeps}
@@ -65,7 +66,8 @@ plain buf spans head same found =
     ]
 
 -- the head that was read in pieces, and the body behind it
-pub gives : (a b c : Option (List ℕ)) (said : List ℕ) (headers : List HeaderSpan) (spans : ResponseSpans) (first last total : ℕ) (out rest : List ℕ)
+pub gives : (a b c : Option (List ℕ)) (said : List ℕ) (headers : List HeaderSpan) (spans : ResponseSpans)
+    (first last total : ℕ) (out rest : List ℕ)
     → Consumes a b said → IsResponseOf said headers spans → spans.code ≡ 206
     → HasValue said (take spans.headers headers) (codes "content-range") (content_range first last total)
     → HasValue said (take spans.headers headers) (codes "content-length") (content_length (length out))

@@ -21,7 +21,8 @@ informs_more a b c found after kind info before is now learned =
     record {
       infos = infos ++ info ∷ [];
       gave = subst (Consumes a c)
-          (ap (λ xs. flat_map info_reply infos ++ xs) (sym (append-nil (info_reply info))) ∙ sym (flat_map-append info_reply infos (info ∷ [])))
+          (ap (λ xs. flat_map info_reply infos ++ xs) (sym (append-nil (info_reply info)))
+          ∙ sym (flat_map-append info_reply infos (info ∷ [])))
           (Consumes-trans a b c (flat_map info_reply infos) (info_reply info) before.gave this);
       exports = flat_map-append export_in infos (info ∷ [])
           ∙ ap (λ xs. flat_map export_in infos ++ xs) (append-nil (export_in info))
@@ -90,7 +91,8 @@ asks_by_name a b c d e flags name before asked after again =
     (flags, inr (Appends-trans a d e (go_request flags name) (name_request name) first again))
 
 -- texts that were sent in three parts, and in two
-pub sent_three : (a b c d : Option (List ℕ)) (front head name last : List ℕ) → front ≡ head → Appends a b front → Appends b c name → Appends c d last
+pub sent_three : (a b c d : Option (List ℕ)) (front head name last : List ℕ) → front ≡ head
+    → Appends a b front → Appends b c name → Appends c d last
     → Appends a d ((head ++ name) ++ last)
 sent_three a b c d front head name last is one two three =
     Appends-trans a c d (head ++ name) last (Appends-trans a b c head name (subst (Appends a b) is one) two) three

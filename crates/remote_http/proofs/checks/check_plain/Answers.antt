@@ -9,4 +9,5 @@ returns-in-Never c = inl (has_none _ _ (codes "content-encoding") c.in-Never.ens
 pub returns-else-ne : goal.returns-else-ne
 returns-else-ne c =
     let same : c.of.result.now ≡ c.as_slice.result.now = search rules in
-    inr (has_value _ _ (codes "content-encoding") c.of.result.now _ c.in-Once.k _ c.in-Once.ensures c.of.ensures (same ∙ c.as_slice.ensures))
+    inr (has_value _ _ (codes "content-encoding") c.of.result.now _ c.in-Once.k _ c.in-Once.ensures c.of.ensures
+    (same ∙ c.as_slice.ensures))

@@ -6,4 +6,5 @@ use Rattle.remote_http.proofs.checks.check_range.Goals as goal
 pub returns : goal.returns
 returns c =
     let same : c.of-value.result.now ≡ c.as_slice.result.now = search rules in
-    has_value _ _ (codes "content-range") c.of-value.result.now _ c.in-Once.k _ c.in-Once.ensures c.of-value.ensures (same ∙ c.as_slice.ensures.value ∙ c.in_ok-put_range.ensures)
+    has_value _ _ (codes "content-range") c.of-value.result.now _ c.in-Once.k _ c.in-Once.ensures c.of-value.ensures
+    (same ∙ c.as_slice.ensures.value ∙ c.in_ok-put_range.ensures)
