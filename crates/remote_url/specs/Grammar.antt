@@ -1,5 +1,5 @@
 -- Which texts name a server, and which a path.
-use Rattle.std.specs.Prelude.{◌≡◌, ◌⊎◌, ℕ, ◌<◌, Bool, ◌==◌, ◌||◌, ◌&&◌, not, IsTrue, List, [], ◌∷◌, ◌++◌, length, codes}
+use Rattle.std.specs.Prelude.{◌≡◌, ◌≢◌, ◌⊎◌, ℕ, ◌<◌, ◌^◌, Bool, ◌==◌, ◌||◌, ◌&&◌, not, IsTrue, List, [], ◌∷◌, ◌++◌, length, slice_index, codes}
 use Rattle.std.specs.List.{list_all}
 use Rattle.std.specs.Char.{is_ascii_alphanumeric, is_ascii_graphic, is_ascii_hexdigit}
 use Rattle.std.specs.Str.Parse.{IsNumeral, digits_value}
@@ -20,10 +20,21 @@ IsName host = (0 < length host) × IsTrue (list_all is_name_byte host)
 abbrev pub IsAddress : List ℕ → Type 0
 IsAddress host = (0 < length host) × IsTrue (list_all is_address_byte host)
 
--- [:PORT] behind a text, in decimal digits
+-- the byte isn't in the text
+abbrev pub Lacks : ℕ → List ℕ → Type 0
+Lacks c text = (i : ℕ) → i < length text → slice_index text i ≢ c
+
+-- decimal digits, of a number up to 65535
+abbrev pub IsPort : List ℕ → ℕ → Type 0
+IsPort digits port = IsNumeral 10 digits × (digits_value 10 digits < 2 ^ 16) × (port ≡ digits_value 10 digits)
+
+-- [:PORT]
+abbrev pub Ports : (default : ℕ) (text : List ℕ) (port : ℕ) → Type 0
+Ports default text port = ((text ≡ []) × (port ≡ default)) ⊎ ((digits : List ℕ) × (text ≡ 58 ∷ digits) × IsPort digits port)
+
+-- the same behind a text
 abbrev pub WithPort : (default : ℕ) (host text : List ℕ) (port : ℕ) → Type 0
-WithPort default host text port = ((text ≡ host) × (port ≡ default))
-    ⊎ ((digits : List ℕ) × (text ≡ host ++ (58 ∷ digits)) × IsNumeral 10 digits × (port ≡ digits_value 10 digits))
+WithPort default host text port = (after : List ℕ) × (text ≡ host ++ after) × Ports default after port
 
 -- HOST[:PORT], where HOST is a name, or an address in brackets
 abbrev pub IsAuthority : (default : ℕ) (text host : List ℕ) (port : ℕ) → Type 0
@@ -43,13 +54,19 @@ abbrev pub HasScheme : List ℕ → Type 0
 HasScheme text = (rest : List ℕ)
     × ((text ≡ codes "http://" ++ rest) ⊎ (text ≡ codes "nbd://" ++ rest) ⊎ (text ≡ codes "nbd+unix://" ++ rest))
 
--- the text is this source's
+-- the text is this source's; HOST[:PORT] ends at the first slash, and the name of an export over a Unix socket at the query
 abbrev pub Names : List ℕ → Source → Type 0
 Names text (Path path) = (path.now ≡ text) × ¬ (HasScheme text)
 Names text (Http server path) = (text ≡ codes "http://" ++ (server.text.now ++ (47 ∷ path.now)))
-    × IsAuthority 80 server.text.now server.host.now server.port × IsTrue (list_all is_path_byte path.now)
+    × Lacks 47 server.text.now × IsAuthority 80 server.text.now server.host.now server.port
+    × IsTrue (list_all is_path_byte path.now)
 Names text (Nbd server name) = ((text ≡ codes "nbd://" ++ (server.text.now ++ (47 ∷ name.text.now)))
     ⊎ ((text ≡ codes "nbd://" ++ server.text.now) × (name.text.now ≡ [])))
-    × IsAuthority 10809 server.text.now server.host.now server.port × IsTrue (list_all is_plain_byte name.text.now)
+    × Lacks 47 server.text.now × IsAuthority 10809 server.text.now server.host.now server.port
+    × IsTrue (list_all is_plain_byte name.text.now)
 Names text (NbdUnix socket name) = (text ≡ codes "nbd+unix:///" ++ (name.text.now ++ (codes "?socket=" ++ socket.text.now)))
     × IsTrue (list_all is_plain_byte name.text.now) × IsTrue (list_all is_plain_byte socket.text.now) × (0 < length socket.text.now)
+
+-- the text is no source's
+abbrev pub NamesNone : List ℕ → Type 0
+NamesNone text = (s : Source) → ¬ (Names text s)

@@ -1,9 +1,9 @@
 //! `HOST[:PORT]`.
 
-ghost use Rattle.std.specs.Prelude.{◌≡◌, ◌∷◌, [], ◌++◌, IfOk, OnOk, IsTrue};
+ghost use Rattle.std.specs.Prelude.{◌≡◌, ◌<◌, ◌^◌, ℕ, List, ◌∷◌, [], ◌++◌, IfOk, OnOk, OnErr, IsTrue};
 ghost use Rattle.std.specs.List.{list_all};
 ghost use Rattle.std.specs.Str.Parse.{IsNumeral, digits_value};
-ghost use Rattle.remote_url.specs.Grammar.{IsAuthority, IsName, IsAddress, WithPort, is_name_byte, is_address_byte};
+ghost use Rattle.remote_url.specs.Grammar.{IsAuthority, IsName, IsAddress, IsPort, Ports, WithPort, is_name_byte, is_address_byte};
 
 use crate::cuts::{around, behind};
 use crate::fault::UrlFault;
@@ -24,7 +24,8 @@ pub struct Authority<'a> {
 ///
 /// `NoHost`, `Host` and `Port`.
 pub fn authority_of(text: &str, default: u16) -> Result<Authority<'_>, UrlFault>
-    ensures { IfOk result (λ a. (a.text.now ≡ text.now) × IsAuthority default text.now a.host.now a.port) }
+    ensures read { IfOk result (λ a. (a.text.now ≡ text.now) × IsAuthority default text.now a.host.now a.port) }
+    ensures refused { OnErr result ((host : List ℕ) (port : ℕ) → ¬ (IsAuthority default text.now host port)) }
 {
     match behind(text, "[") {
         Some(rest) => address_and_port(text, rest, default),
@@ -34,7 +35,8 @@ pub fn authority_of(text: &str, default: u16) -> Result<Authority<'_>, UrlFault>
 
 /// A name or an IPv4 address, and a port.
 fn name_and_port(text: &str, default: u16) -> Result<Authority<'_>, UrlFault>
-    ensures { IfOk result (λ a. (a.text.now ≡ text.now) × IsName a.host.now × WithPort default a.host.now text.now a.port) }
+    ensures read { IfOk result (λ a. (a.text.now ≡ text.now) × IsName a.host.now × WithPort default a.host.now text.now a.port) }
+    ensures refused { OnErr result ((host : List ℕ) (port : ℕ) → IsName host → ¬ (WithPort default host text.now port)) }
 {
     match around(text, ':') {
         Some((host, digits)) => {
@@ -60,34 +62,41 @@ fn address_and_port<'a>(
     default: u16,
 ) -> Result<Authority<'a>, UrlFault>
     requires { text.now ≡ 91 ∷ rest.now }
-    ensures { IfOk result (λ a. (a.text.now ≡ text.now) × IsAddress a.host.now
+    ensures read { IfOk result (λ a. (a.text.now ≡ text.now) × IsAddress a.host.now
         × WithPort default (91 ∷ (a.host.now ++ (93 ∷ []))) text.now a.port) }
+    ensures refused { OnErr result ((host : List ℕ) (port : ℕ) → IsAddress host
+        → ¬ (WithPort default (91 ∷ (host ++ (93 ∷ []))) text.now port)) }
 {
-    let Some((host, after)) = around(rest, ']') else {
-        return Err(UrlFault::Host);
-    };
-    check_address(host)?;
-    match behind(after, ":") {
-        Some(digits) => {
-            let port = port_of(digits)?;
+    match around(rest, ']') {
+        Some((host, after)) => {
+            check_address(host)?;
+            let port = port_behind(after, default)?;
             Ok(Authority { text, host, port })
         }
+        None => Err(UrlFault::Host),
+    }
+}
+
+/// `[:PORT]`, with this port where there is none.
+fn port_behind(after: &str, default: u16) -> Result<u16, UrlFault>
+    ensures read { IfOk result (λ port. Ports default after.now port) }
+    ensures none { OnErr result ((port : ℕ) → ¬ (Ports default after.now port)) }
+{
+    match behind(after, ":") {
+        Some(digits) => port_of(digits),
         None => {
             if !after.is_empty() {
                 return Err(UrlFault::Host);
             }
-            Ok(Authority {
-                text,
-                host,
-                port: default,
-            })
+            Ok(default)
         }
     }
 }
 
 /// That a text is a host's name or an IPv4 address.
 fn check_name(host: &str) -> Result<(), UrlFault>
-    ensures { OnOk result (IsName host.now) }
+    ensures is { OnOk result (IsName host.now) }
+    ensures none { OnErr result (¬ (IsName host.now)) }
 {
     if host.is_empty() {
         return Err(UrlFault::NoHost);
@@ -100,7 +109,8 @@ fn check_name(host: &str) -> Result<(), UrlFault>
 
 /// That a text can be an IPv6 address.
 fn check_address(host: &str) -> Result<(), UrlFault>
-    ensures { OnOk result (IsAddress host.now) }
+    ensures is { OnOk result (IsAddress host.now) }
+    ensures none { OnErr result (¬ (IsAddress host.now)) }
 {
     if host.is_empty() {
         return Err(UrlFault::NoHost);
@@ -113,7 +123,8 @@ fn check_address(host: &str) -> Result<(), UrlFault>
 
 /// The number of decimal digits that fits 16 bits.
 fn port_of(digits: &str) -> Result<u16, UrlFault>
-    ensures { IfOk result (λ port. IsNumeral 10 digits.now × (port ≡ digits_value 10 digits.now)) }
+    ensures read { IfOk result (λ port. IsPort digits.now port) }
+    ensures none { OnErr result ((port : ℕ) → ¬ (IsPort digits.now port)) }
 {
     if digits.starts_with('+') {
         return Err(UrlFault::Port);
