@@ -1,13 +1,16 @@
 //! A resource of an HTTP server.
 
-ghost use Rattle.std.specs.Prelude.{◌≡◌, ◌+◌, ◌<◌, ◌≤◌, ◌^◌, length, OnOk};
+ghost use Rattle.std.specs.Prelude.{◌≡◌, ◌+◌, ◌-◌, ◌<◌, ◌≤◌, ◌^◌, length, IfOk, OnOk, string_bytes};
+ghost use Rattle.std.specs.Io.KnownBytes.{Appends};
+ghost use Rattle.remote_http.specs.Ranges.{GivesRange};
+ghost use Rattle.remote_http.specs.Requests.{range_request};
 ghost use Rattle.verity_store.specs.RawFile.{HasLength, Reads};
 
 use crate::dial::Dial;
 use crate::fault::RemoteFault;
 use crate::patience::Patience;
 use crate::source::{Miss, Source};
-use remote_http::{Place, RangeFault, Scratch, get_range};
+use remote_http::{Given, Place, RangeFault, Scratch, get_range};
 use std::alloc::Global;
 use std::io::{self, ErrorKind};
 use std::time::Duration;
@@ -45,9 +48,13 @@ impl<D: Dial + Drop> HttpSource<D> {
             kept: None,
             len: 0,
         };
-        let wire = source.connect(patience)?;
+        let mut wire = source.connect(patience)?;
         let mut first = [0u8; 1];
-        source.len = source.get(wire, 0, &mut first, patience)?;
+        let given = source.get(&mut wire, 0, &mut first, patience)?;
+        source.len = given.total;
+        if given.is_kept {
+            source.kept = Some(wire);
+        }
         Ok(source)
     }
 
@@ -57,32 +64,30 @@ impl<D: Dial + Drop> HttpSource<D> {
         self.dial.dial(until)
     }
 
-    /// Reads a range over a connection, keeps that where it can be used again, and says how many bytes there are in all.
+    /// Asks for a range over a connection, and takes the response.
     fn get(
         &mut self,
-        wire: D::Wire,
+        wire: &mut D::Wire,
         at: u64,
         out: &mut [u8],
         patience: Patience,
-    ) -> Result<u64, RangeFault>
+    ) -> Result<Given, RangeFault>
         requires some { 0 < length out.old }
         requires fits { at + length out.old ≤ 2 ^ 64 }
+        ensures given { IfOk result (λ g. GivesRange (D.Wire.remaining wire.old) (D.Wire.remaining wire.new) at out.new g.total) }
+        ensures asked { OnOk result (Appends (D.Wire.contents wire.old) (D.Wire.contents wire.new)
+            (range_request (string_bytes self.old.host) (string_bytes self.old.target) at (at + (length out.new - 1)))) }
     {
-        let mut wire = wire;
         let until = self
             .dial
             .now()?
             .saturating_add(patience.for_request(out.len()));
-        self.dial.extend(&mut wire, until);
+        self.dial.extend(wire, until);
         let place = Place {
             host: self.host.as_str(),
             target: self.target.as_str(),
         };
-        let given = get_range(&mut wire, &mut self.scratch, &place, at, out)?;
-        if given.is_kept {
-            self.kept = Some(wire);
-        }
-        Ok(given.total)
+        get_range(wire, &mut self.scratch, &place, at, out)
     }
 }
 
@@ -109,14 +114,16 @@ impl<D: Dial + Drop> Source for HttpSource<D> {
     }
 
     fn read_once(&mut self, at: u64, out: &mut [u8], patience: Patience) -> Result<(), Miss> {
-        let wire = match self.kept.take() {
+        let mut wire = match self.kept.take() {
             Some(wire) => wire,
             None => self.connect(patience).map_err(|e| Miss::Lost(e.kind()))?,
         };
-        let total = self.get(wire, at, out, patience).map_err(miss)?;
-        if total != self.len {
-            self.kept = None;
+        let given = self.get(&mut wire, at, out, patience).map_err(miss)?;
+        if given.total != self.len {
             return Err(Miss::Refused(ErrorKind::InvalidData));
+        }
+        if given.is_kept {
+            self.kept = Some(wire);
         }
         Ok(())
     }

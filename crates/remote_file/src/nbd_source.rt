@@ -1,13 +1,16 @@
 //! An export of an NBD server.
 
-ghost use Rattle.std.specs.Prelude.{◌≡◌, ◌+◌, ◌<◌, ◌≤◌, ◌^◌, length, OnOk};
+ghost use Rattle.std.specs.Prelude.{◌≡◌, ◌+◌, ◌++◌, ◌<◌, ◌≤◌, ◌^◌, length, IfOk, OnOk, string_bytes};
+ghost use Rattle.remote_nbd.specs.Opening.{Opens, Asks};
+ghost use Rattle.std.specs.Io.KnownBytes.{Appends, Consumes};
+ghost use Rattle.remote_nbd.specs.Messages.{read_request, simple_reply};
 ghost use Rattle.verity_store.specs.RawFile.{HasLength, Reads};
 
 use crate::dial::Dial;
 use crate::fault::RemoteFault;
 use crate::patience::Patience;
 use crate::source::{Miss, Source};
-use remote_nbd::{Answer, MAX_LENGTH, OpenFault, open_export, read_at};
+use remote_nbd::{Answer, Export, MAX_LENGTH, OpenFault, open_export, read_at};
 use std::alloc::Global;
 use std::io::{self, ErrorKind};
 use std::time::Duration;
@@ -45,7 +48,7 @@ impl<D: Dial + Drop> NbdSource<D> {
             len: 0,
         };
         let mut wire = source.connect(patience)?;
-        source.len = source.greet(&mut wire)?;
+        source.len = source.greet(&mut wire)?.size;
         source.kept = Some(wire);
         Ok(source)
     }
@@ -56,17 +59,19 @@ impl<D: Dial + Drop> NbdSource<D> {
         self.dial.dial(until)
     }
 
-    /// The handshake; how many bytes the export has.
-    fn greet(&self, wire: &mut D::Wire) -> Result<u64, OpenFault> {
-        let export = open_export(wire, self.alloc, self.name.as_bytes())?;
-        Ok(export.size)
+    /// The handshake; what the server states of the export.
+    fn greet(&self, wire: &mut D::Wire) -> Result<Export, OpenFault>
+        ensures opened { IfOk result (λ export. Opens (D.Wire.remaining wire.old) (D.Wire.remaining wire.new) export) }
+        ensures asked { OnOk result (Asks (D.Wire.contents wire.old) (D.Wire.contents wire.new) (string_bytes self.now.name)) }
+    {
+        open_export(wire, self.alloc, self.name.as_bytes())
     }
 
     /// A new connection to the same export, of the same length.
     fn reopen(&self, patience: Patience) -> Result<D::Wire, Miss> {
         let mut wire = self.connect(patience).map_err(|e| Miss::Lost(e.kind()))?;
         match self.greet(&mut wire) {
-            Ok(len) if len == self.len => Ok(wire),
+            Ok(export) if export.size == self.len => Ok(wire),
             Ok(_) => Err(Miss::Refused(ErrorKind::InvalidData)),
             Err(OpenFault::Connection(e)) => Err(Miss::Lost(e.kind())),
             Err(OpenFault::NoMemory(_)) => Err(Miss::Refused(ErrorKind::OutOfMemory)),
@@ -74,29 +79,27 @@ impl<D: Dial + Drop> NbdSource<D> {
         }
     }
 
-    /// Reads at most as many bytes as one request may ask for over a connection, and keeps that where the bytes were given.
+    /// Asks for at most as many bytes as one request may over a connection, and takes the reply.
     fn get(
         &mut self,
-        wire: D::Wire,
+        wire: &mut D::Wire,
         at: u64,
         out: &mut [u8],
         patience: Patience,
     ) -> Result<(), Miss>
         requires { length out.old ≤ 33554432 }
+        ensures given { OnOk result (Consumes (D.Wire.remaining wire.old) (D.Wire.remaining wire.new)
+            (simple_reply 0 self.old.cookie ++ out.new)) }
+        ensures asked { OnOk result (Appends (D.Wire.contents wire.old) (D.Wire.contents wire.new)
+            (read_request self.old.cookie at (length out.new))) }
     {
-        let mut wire = wire;
         let now = self.dial.now().map_err(|e| Miss::Lost(e.kind()))?;
-        self.dial.extend(
-            &mut wire,
-            now.saturating_add(patience.for_request(out.len())),
-        );
+        self.dial
+            .extend(wire, now.saturating_add(patience.for_request(out.len())));
         let cookie = self.cookie;
         self.cookie = cookie.wrapping_add(1);
-        match read_at(&mut wire, cookie, at, out) {
-            Ok(Answer::Given) => {
-                self.kept = Some(wire);
-                Ok(())
-            }
+        match read_at(wire, cookie, at, out) {
+            Ok(Answer::Given) => Ok(()),
             Ok(Answer::Refused(_)) => Err(Miss::Refused(ErrorKind::Other)),
             Err(e) => Err(lost_or_lied(e)),
         }
@@ -124,11 +127,12 @@ impl<D: Dial + Drop> Source for NbdSource<D> {
     fn read_once(&mut self, at: u64, out: &mut [u8], patience: Patience) -> Result<(), Miss> {
         let mut place = at;
         'pieces: for piece in out.chunks_mut(MAX_LENGTH) {
-            let wire = match self.kept.take() {
+            let mut wire = match self.kept.take() {
                 Some(wire) => wire,
                 None => self.reopen(patience)?,
             };
-            self.get(wire, place, piece, patience)?;
+            self.get(&mut wire, place, piece, patience)?;
+            self.kept = Some(wire);
             place = place.saturating_add(piece.len() as u64);
         }
         Ok(())

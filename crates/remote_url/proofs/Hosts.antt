@@ -46,7 +46,8 @@ no_name_alone default text lacks other host port name with =
     other (subst IsName (sym (without_colon default port host text lacks with)) name)
 
 -- what stands behind an opening bracket is an address, a closing one and a port
-behind_bracket : (host after rest text : List ℕ) → text ≡ 91 ∷ rest → text ≡ (91 ∷ (host ++ (93 ∷ []))) ++ after → rest ≡ host ++ (93 ∷ after)
+behind_bracket : (host after rest text : List ℕ) → text ≡ 91 ∷ rest → text ≡ (91 ∷ (host ++ (93 ∷ []))) ++ after
+    → rest ≡ host ++ (93 ∷ after)
 behind_bracket host after rest text opened is = ap (drop 1) (sym opened ∙ is) ∙ append_assoc host (93 ∷ []) after
 
 pub no_bracket : (default : ℕ) (text rest : List ℕ) → text ≡ 91 ∷ rest → Lacks 93 rest
@@ -57,7 +58,8 @@ no_bracket default text rest opened lacks host port address (after, is, ports) =
 in_brackets : (default port : ℕ) (text rest front after host : List ℕ) → text ≡ 91 ∷ rest → rest ≡ front ++ (93 ∷ after) → Lacks 93 front
     → IsAddress host → WithPort default (91 ∷ (host ++ (93 ∷ []))) text port → (front ≡ host) × Ports default after port
 in_brackets default port text rest front after host opened cut lacks address (behind, is, ports) =
-    let one = first_split 93 front after host behind (sym cut ∙ behind_bracket host behind rest text opened is) lacks (address_lacks host address) in
+    let same = sym cut ∙ behind_bracket host behind rest text opened is in
+    let one = first_split 93 front after host behind same lacks (address_lacks host address) in
     (one.0, subst (λ xs. Ports default xs port) (sym one.1) ports)
 
 pub no_address : (default : ℕ) (text rest front after : List ℕ) → text ≡ 91 ∷ rest → rest ≡ front ++ (93 ∷ after) → Lacks 93 front

@@ -1,5 +1,6 @@
 -- Texts that are cut at the first of a byte are cut in one way.
-use Rattle.std.proofs.Common.{refl, ◌≡◌, ℕ, suc, Bool, true, false, Option, None, Some, List, [], ◌∷◌, ◌++◌, length, drop, slice_index, arith}
+use Rattle.std.proofs.Common.{refl, ◌≡◌, ℕ, suc, Bool, true, false, Option, None}
+use Rattle.std.proofs.Common.{Some, List, [], ◌∷◌, ◌++◌, length, drop, slice_index, arith}
 use Rattle.std.proofs.Common.{sym, ap, ◌∙◌, subst, length-append, Bor}
 use lib.Seq.{get_or-append_seam}
 use Rattle.std.specs.Prelude.{MatchOption, IfSome, IfNone}

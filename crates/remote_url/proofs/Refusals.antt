@@ -170,7 +170,8 @@ socket_parts rest (Path p) n = absurd (n.1 (47 ∷ rest, inr (inr refl)))
 socket_parts rest (Http server path) n =
     absurd (other_byte_too 0 (codes "nbd+unix:///" ++ rest) (codes "http://" ++ (server.text.now ++ (47 ∷ path.now))) (omega arith) n.0)
 socket_parts rest (Nbd server name) n = elim n.0 [
-  | inl is ↦ absurd (other_byte 3 (codes "nbd+unix:///" ++ rest) (codes "nbd://" ++ (server.text.now ++ (47 ∷ name.text.now))) (omega arith) is)
+  | inl is ↦ absurd (other_byte 3 (codes "nbd+unix:///" ++ rest)
+      (codes "nbd://" ++ (server.text.now ++ (47 ∷ name.text.now))) (omega arith) is)
   | inr is ↦ absurd (other_byte 3 (codes "nbd+unix:///" ++ rest) (codes "nbd://" ++ server.text.now) (omega arith) is.0)
 ]
 socket_parts rest (NbdUnix socket name) n = record {

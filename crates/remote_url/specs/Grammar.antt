@@ -1,5 +1,6 @@
 -- Which texts name a server, and which a path.
-use Rattle.std.specs.Prelude.{◌≡◌, ◌≢◌, ◌⊎◌, ℕ, ◌<◌, ◌^◌, Bool, ◌==◌, ◌||◌, ◌&&◌, not, IsTrue, List, [], ◌∷◌, ◌++◌, length, slice_index, codes}
+use Rattle.std.specs.Prelude.{◌≡◌, ◌≢◌, ◌⊎◌, ℕ, ◌<◌, ◌^◌, Bool, ◌==◌, ◌||◌}
+use Rattle.std.specs.Prelude.{◌&&◌, not, IsTrue, List, [], ◌∷◌, ◌++◌, length, slice_index, codes}
 use Rattle.std.specs.List.{list_all}
 use Rattle.std.specs.Char.{is_ascii_alphanumeric, is_ascii_graphic, is_ascii_hexdigit}
 use Rattle.std.specs.Str.Parse.{IsNumeral, digits_value}

@@ -6,7 +6,8 @@ use Rattle.remote_url.proofs.source.unix_source.Goals as goal
 
 pub returns-in-Some-clause-refused : goal.returns-in-Some-clause-refused
 returns-in-Some-clause-refused c =
-    on_error_too c.socket_source.result _ _ (subst NamesNone (ap (λ xs. codes "nbd+unix://" ++ xs) (sym c.in-Some.ensures))) c.socket_source.ensures.refused
+    on_error_too c.socket_source.result _ _
+    (subst NamesNone (ap (λ xs. codes "nbd+unix://" ++ xs) (sym c.in-Some.ensures))) c.socket_source.ensures.refused
 
 pub returns-in-None-clause-refused : goal.returns-in-None-clause-refused
 returns-in-None-clause-refused c =
