@@ -1,9 +1,10 @@
 //! What a response's head has to state before its body is taken.
 
-ghost use Rattle.std.specs.Prelude.{◌≡◌, length, All, IfOk, OnOk, codes};
+ghost use Rattle.std.specs.Prelude.{◌≡◌, ◌≢◌, length, All, IfOk, IfErr, OnOk, OnErr, codes};
 ghost use Rattle.httparse.specs.Spans.{IsHeaderWithin};
 ghost use Rattle.remote_http.specs.Fields.{HasValue, HasNone, HasPlainBody};
 ghost use Rattle.remote_http.specs.Ranges.{content_range, content_length};
+ghost use Rattle.remote_http.specs.Statuses.{IsStatusFault};
 
 use crate::fault::RangeFault;
 use crate::fields::{Found, find_field};
@@ -24,7 +25,8 @@ pub fn check_status(
     code: u16,
 ) -> Result<(), RangeFault>
     requires { All (IsHeaderWithin (length said.now)) fields.now }
-    ensures { OnOk result (code ≡ 206) }
+    ensures partial { OnOk result (code ≡ 206) }
+    ensures refused { IfErr result (IsStatusFault code) }
 {
     match code {
         206 => Ok(()),
@@ -33,9 +35,11 @@ pub fn check_status(
     }
 }
 
-/// What a status that gives nothing is told as.
+/// What a status that gives nothing is told as: 206 and 200 are none.
 fn status_fault(said: &[u8], fields: &[HeaderSpan], alloc: Global, code: u16) -> RangeFault
-    requires { All (IsHeaderWithin (length said.now)) fields.now }
+    requires within { All (IsHeaderWithin (length said.now)) fields.now }
+    requires other { code ≢ 200 }
+    ensures { IsStatusFault code result }
 {
     let Ok(status) = StatusCode::from_u16(code) else {
         return RangeFault::NotHttp;
@@ -132,7 +136,8 @@ pub fn check_length(
 /// `OtherBody` where it is, or is laid out in any other way.
 pub fn check_whole(said: &[u8], fields: &[HeaderSpan]) -> Result<(), RangeFault>
     requires { All (IsHeaderWithin (length said.now)) fields.now }
-    ensures { OnOk result (HasNone said.now fields.now (codes "transfer-encoding")) }
+    ensures whole { OnOk result (HasNone said.now fields.now (codes "transfer-encoding")) }
+    ensures refused { OnErr result (¬ (HasNone said.now fields.now (codes "transfer-encoding"))) }
 {
     match find_field(said, fields, b"transfer-encoding") {
         Found::Never => Ok(()),
@@ -147,7 +152,8 @@ pub fn check_whole(said: &[u8], fields: &[HeaderSpan]) -> Result<(), RangeFault>
 /// `OtherBody` where it is.
 pub fn check_plain(said: &[u8], fields: &[HeaderSpan]) -> Result<(), RangeFault>
     requires { All (IsHeaderWithin (length said.now)) fields.now }
-    ensures { OnOk result (HasPlainBody said.now fields.now) }
+    ensures plain { OnOk result (HasPlainBody said.now fields.now) }
+    ensures refused { OnErr result (¬ (HasPlainBody said.now fields.now)) }
 {
     match find_field(said, fields, b"content-encoding") {
         Found::Never => Ok(()),

@@ -15,11 +15,11 @@ returns-clause-given g c =
     omega (arith, c.read_body.auto.out) in
     gives _ _ _ said c.read_head.new.fields head.spans c.args.first _ c.in_ok-total.total c.read_body.new.out body.0
     c.in_ok-head.ensures.given
-    c.in_ok-head.ensures.head c.in_ok-check_status.ensures
+    c.in_ok-head.ensures.head c.in_ok-check_status.ensures.partial
     c.in_ok-total.ensures
     (subst (λ n. HasValue said (take head.spans.headers c.read_head.new.fields) (codes "content-length") (content_length n))
     (sym c.read_body.auto.out) c.in_ok-check_length.ensures)
-    c.in_ok-check_whole.ensures c.in_ok-check_plain.ensures
+    c.in_ok-check_whole.ensures.whole c.in_ok-check_plain.ensures.plain
     last body.1 body.2
 
 pub returns-clause-unwritten : goal.returns-clause-unwritten
