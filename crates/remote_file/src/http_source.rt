@@ -39,7 +39,10 @@ impl<D: Dial + Drop> HttpSource<D> {
         host: &str,
         target: &str,
         patience: Patience,
-    ) -> Result<HttpSource<D>, RemoteFault> {
+    ) -> Result<HttpSource<D>, RemoteFault>
+        ensures host { IfOk result (λ s. string_bytes s.host ≡ host.now) }
+        ensures target { IfOk result (λ s. string_bytes s.target ≡ target.now) }
+    {
         let mut source = HttpSource {
             dial,
             host: String::from_str(alloc, host)?,
@@ -74,6 +77,8 @@ impl<D: Dial + Drop> HttpSource<D> {
     ) -> Result<Given, RangeFault>
         requires some { 0 < length out.old }
         requires fits { at + length out.old ≤ 2 ^ 64 }
+        ensures host { self.new.host ≡ self.old.host }
+        ensures target { self.new.target ≡ self.old.target }
         ensures given { IfOk result (λ g. GivesRange (D.Wire.remaining wire.old) (D.Wire.remaining wire.new) at out.new g.total) }
         ensures asked { OnOk result (Appends (D.Wire.contents wire.old) (D.Wire.contents wire.new)
             (range_request (string_bytes self.old.host) (string_bytes self.old.target) at (at + (length out.new - 1)))) }

@@ -38,7 +38,9 @@ impl<D: Dial + Drop> NbdSource<D> {
         dial: D,
         name: &str,
         patience: Patience,
-    ) -> Result<NbdSource<D>, RemoteFault> {
+    ) -> Result<NbdSource<D>, RemoteFault>
+        ensures { IfOk result (λ s. string_bytes s.name ≡ name.now) }
+    {
         let mut source = NbdSource {
             alloc,
             dial,

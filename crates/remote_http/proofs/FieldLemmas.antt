@@ -1,5 +1,6 @@
 -- Fields of a head, one more at a time.
-use Rattle.std.proofs.Common.{refl, ◌≡◌, ℕ, ◌+◌, ◌<◌, List, length, arith, subst, sym, ap, ◌∙◌, below_more, get_or, slice_get, Some, inl, inr}
+use Rattle.std.proofs.Common.{refl, ◌≡◌, ℕ, ◌+◌, ◌<◌, List, length, arith, subst}
+use Rattle.std.proofs.Common.{sym, ap, ◌∙◌, below_more, get_or, slice_get, Some, inl, inr}
 use Rattle.std.proofs.lemmas.Option.{slice_get-get_or, get_or_from_slice_get, slice_get_within}
 use Rattle.httparse.specs.declared.spans.HeaderSpan.{HeaderSpan}
 use Rattle.httparse.specs.Spans.{span_bytes}
