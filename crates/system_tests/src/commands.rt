@@ -1,0 +1,102 @@
+//! Commands, whole, over files in memory.
+use crate::MemSystem;
+use std::process::Abort;
+use std::str;
+use std::test::Fail;
+use test_volumes::{device, flip, image};
+use verity_files::Failure;
+use verity_format::format;
+use verity_serving::verify;
+use verity_words::{FormatWords, VerifyWords};
+
+fn words(data_blocks: Option<&'static str>) -> FormatWords<'static> {
+    FormatWords {
+        data_path: "data",
+        hash_path: "hash",
+        salt: "00ff",
+        uuid: "01010101-0101-0101-0101-010101010101",
+        data_blocks,
+        data_block_size: "512",
+        hash_block_size: "512",
+        algorithm: "sha256",
+        hash_offset: "0",
+        is_quiet: true,
+    }
+}
+
+// Formats the first file, and gives what was printed.
+fn formatted(
+    rt: &HostRuntime,
+    system: &mut MemSystem,
+    data_blocks: Option<&'static str>,
+) -> (Vec<u8>, Result<(), Failure>) {
+    let mut output = Vec::new(rt.alloc());
+    let done = format(rt, system, &words(data_blocks), &mut output, &rt.stderr());
+    (output, done)
+}
+
+// What `verify` prints under a line that was printed, and its status.
+fn verified(rt: &HostRuntime, system: &MemSystem, line: &[u8]) -> (Vec<u8>, Result<u8, Failure>) {
+    let mut output = Vec::new(rt.alloc());
+    let table = str::from_utf8(line).unwrap_or("").trim_end();
+    let words = VerifyWords {
+        table,
+        is_quiet: true,
+    };
+    let status = verify(rt, system, &words, &mut output, &rt.stderr());
+    (output, status)
+}
+
+// Whether the second file has these bytes.
+fn holds(system: &MemSystem, bytes: &[u8]) -> bool {
+    match &system.device {
+        Some(device) => device.as_slice() == bytes,
+        None => false,
+    }
+}
+
+#[test]
+fn format_makes_the_hash_device(rt: HostRuntime) -> Result<(), Fail> {
+    let alloc = rt.alloc();
+    for (blocks, asked, made) in [(1, None, 1), (17, None, 17), (17, Some("16"), 16)] {
+        let mut system = MemSystem::new(alloc, image(alloc, blocks)?, 0);
+        let (line, done) = formatted(&rt, &mut system, asked);
+        assert!(rt; done.is_ok());
+        let (device, _) = device(alloc, made)?;
+        assert!(rt; holds(&system, device.bytes()));
+        let (output, status) = verified(&rt, &system, &line);
+        assert!(rt; matches!(status, Ok(0)));
+        assert!(rt; output.as_slice() == b"unchecked 0\nverified\n".as_slice());
+    }
+    Ok(())
+}
+
+#[test]
+fn verify_finds_a_block_that_changed(rt: HostRuntime) -> Result<(), Fail> {
+    let alloc = rt.alloc();
+    let mut system = MemSystem::new(alloc, image(alloc, 17)?, 0);
+    let (line, _) = formatted(&rt, &mut system, None);
+    flip(&mut system.image, 3 * 512);
+    let (output, status) = verified(&rt, &system, &line);
+    assert!(rt; matches!(status, Ok(1)));
+    assert!(rt; output.as_slice() == b"bad data 3\nunchecked 0\ncorrupt\n".as_slice());
+    Ok(())
+}
+
+#[test]
+fn format_fails_at_each_call(rt: HostRuntime) -> Result<(), Fail> {
+    let alloc = rt.alloc();
+    let mut refused = 0usize;
+    for due in 1..100 {
+        let mut system = MemSystem::new(alloc, image(alloc, 17)?, due);
+        let (line, done) = formatted(&rt, &mut system, None);
+        if done.is_ok() {
+            break;
+        }
+        assert!(rt; line.as_slice().is_empty());
+        assert!(rt; system.device.is_none());
+        refused = refused.saturating_add(1);
+    }
+    assert!(rt; refused >= 17);
+    Ok(())
+}
