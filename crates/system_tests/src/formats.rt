@@ -12,7 +12,8 @@ use verity_files::Failure;
 use verity_format::format;
 use verity_words::FormatWords;
 
-/// Formats `data` in `hash`, whole and from byte 0 on: after Ok the files are a volume, the hash device byte for byte that of the image.
+/// Formats `data` in `hash`, whole and from byte 0 on: after Ok the first file is what it was, a table line fits its blocks, and the second
+/// is a hash device of these blocks, byte for byte; of which sizes the clause doesn't say.
 pub fn format_in_memory<R: Clock + Eprint + AllocGlobal, W: Write, E: IsTerminal>(
     rt: &R,
     system: &mut MemSystem,

@@ -1,4 +1,4 @@
-//! Whole commands over a system in memory, whose files keep what is written, fail, or lie.
+//! Whole commands over a system in memory, whose files keep what is written, or fail at a call.
 //!
 //! [`MemSystem`] has three files, `data`, `hash` and `hash.journal`; each store over one fails at the call that it is told. What a command
 //! promises over any system is, over this one where nothing fails, said of its files: [`format_in_memory`].
