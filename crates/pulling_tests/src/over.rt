@@ -156,47 +156,58 @@ fn volumes(alloc: Global, case: Case) -> Result<(BuiltVolume, BuiltVolume), Fail
     Ok((old, new))
 }
 
-fn outcome_of(alloc: Global, case: Case) -> Result<Outcome, Fail> {
-    let (old, new) = volumes(alloc, case)?;
+// What comes of a pull of the new volume over the old one.
+fn try_over(
+    alloc: Global,
+    case: Case,
+    old: &BuiltVolume,
+    new: &BuiltVolume,
+) -> Result<Outcome, Fail> {
     let [data_at, hash_at, source_data_at, source_hash_at] = case.flipped;
     let [data_call, hash_call, source_data_call, source_hash_call] = case.failing;
     let blocks = case.blocks as u64;
     let heap = LocalHeap::new(alloc, case.room)?;
-    let mut local = make_pair(alloc, &old, (data_at, hash_at), (data_call, hash_call))?;
+    let mut local = make_pair(alloc, old, (data_at, hash_at), (data_call, hash_call))?;
     let mut source = make_pair(
         alloc,
-        &new,
+        new,
         (source_data_at, source_hash_at),
         (source_data_call, source_hash_call),
     )?;
-    let mut other = make_pair(alloc, &new, (NOWHERE, NOWHERE), (0, 0))?;
-    let fault = match over(&heap, blocks, &new, old.root, &mut local, &mut source) {
+    let mut other = make_pair(alloc, new, (NOWHERE, NOWHERE), (0, 0))?;
+    let fault = match over(&heap, blocks, new, old.root, &mut local, &mut source) {
         None => return Ok(Outcome::NoTable),
         Some(Ok(done)) if done.fetched.saturating_add(done.kept) != blocks => {
             return Ok(Outcome::Wrong);
         }
-        Some(Ok(done)) if holds(&local, &new) => {
+        Some(Ok(done)) if holds(&local, new) => {
             return Ok(Outcome::Pulled(done.fetched, done.read, done.hash_blocks));
         }
-        Some(Ok(done))
-            if plain(alloc, blocks, &new, &mut local, &mut other) && holds(&local, &new) => {
-            return Ok(Outcome::Rotten(done.fetched, done.read, done.hash_blocks));
-        }
+        Some(Ok(done)) if plain(alloc, blocks, new, &mut local, &mut other) && holds(&local, new) =>
+            {
+                return Ok(Outcome::Rotten(done.fetched, done.read, done.hash_blocks));
+            }
         Some(Ok(_)) => return Ok(Outcome::Wrong),
         Some(Err(fault)) => fault,
     };
     if matches!(fault, PullFault::NoMemory | PullFault::Unsuited(_)) {
-        return Ok(if holds(&local, &old) {
+        return Ok(if holds(&local, old) {
             Outcome::Untouched(fault)
         } else {
             Outcome::Wrong
         });
     }
-    let again = over(&heap, blocks, &new, old.root, &mut local, &mut other);
+    let again = over(&heap, blocks, new, old.root, &mut local, &mut other);
     Ok(match again {
-        Some(Ok(_)) if holds(&local, &new) => Outcome::Stopped(fault),
+        Some(Ok(_)) if holds(&local, new) => Outcome::Stopped(fault),
         _ => Outcome::Wrong,
     })
+}
+
+// .. of this case.
+fn outcome_of(alloc: Global, case: Case) -> Result<Outcome, Fail> {
+    let (old, new) = volumes(alloc, case)?;
+    try_over(alloc, case, &old, &new)
 }
 
 // A hash block has room for 16 digests. The hash blocks above what differs are fetched, and nothing else is looked at.
@@ -310,6 +321,7 @@ fn tally(
     calls: u64,
 ) -> Result<Option<(u64, u64)>, Fail> {
     let (mut stopped, mut pulled) = (0u64, 0u64);
+    let (old, new) = volumes(alloc, changed(300, from, upto))?;
     for call in 0..calls {
         let at = call + 1;
         let failing = match role {
@@ -318,13 +330,11 @@ fn tally(
             Role::SourceData => [0, 0, at, 0],
             Role::SourceHash => [0, 0, 0, at],
         };
-        match outcome_of(
-            alloc,
-            Case {
-                failing,
-                ..changed(300, from, upto)
-            },
-        )? {
+        let case = Case {
+            failing,
+            ..changed(300, from, upto)
+        };
+        match try_over(alloc, case, &old, &new)? {
             Outcome::Stopped(fault) if fault == PullFault::Store(role) => {
                 stopped = stopped.saturating_add(1);
             }
@@ -352,14 +362,14 @@ fn a_pull_that_was_cut_short_goes_on(rt: HostRuntime) -> Result<(), Fail> {
 fn a_pull_refused_memory_changes_nothing(rt: HostRuntime) -> Result<(), Fail> {
     let mut count = 0usize;
     let mut last = Outcome::Wrong;
+    let alloc = rt.alloc();
+    let (old, new) = volumes(alloc, changed(17, 16, 17))?;
     for steps in 0..500usize {
-        let next = outcome_of(
-            rt.alloc(),
-            Case {
-                room: steps.saturating_mul(STEP),
-                ..changed(17, 16, 17)
-            },
-        )?;
+        let case = Case {
+            room: steps.saturating_mul(STEP),
+            ..changed(17, 16, 17)
+        };
+        let next = try_over(alloc, case, &old, &new)?;
         if next != last {
             count = count.saturating_add(1);
             let wanted = match count {
