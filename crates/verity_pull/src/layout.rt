@@ -22,6 +22,7 @@ pub(crate) fn make_room<L: BlockStore, K: BlockStore, A: Allocator>(
     ensures hash_room { OnOk result (tree.now.hash_start_block + tree_len tree.now ≤ K.room local_hash.new) }
     ensures only { IfErr result (λ fault. fault ≡ PullFault.NoMemory) }
     ensures data_given { L.given local_data.new ≡ L.given local_data.old }
+    ensures hash_given { K.given local_hash.new ≡ K.given local_hash.old }
     ensures hash_unfailed { K.failures local_hash.new ≡ K.failures local_hash.old }
     ensures data_kept { IsKept L.BlockStore local_data.old local_data.new }
     ensures hash_kept { IsKept K.BlockStore local_hash.old local_hash.new }
@@ -128,6 +129,7 @@ pub(crate) fn lay_out<L: BlockStore, K: BlockStore, A: Allocator>(
     ensures data_unfailed { OnOk result (L.failures local_data.new ≡ L.failures local_data.old) }
     ensures hash_unfailed { OnOk result (K.failures local_hash.new ≡ K.failures local_hash.old) }
     ensures data_given { L.given local_data.new ≡ L.given local_data.old }
+    ensures hash_given { K.given local_hash.new ≡ K.given local_hash.old }
     ensures data_keeps { IsOnlyWritten L.BlockStore local_data.old local_data.new }
     ensures hash_keeps { IsOnlyWritten K.BlockStore local_hash.old local_hash.new }
 {
