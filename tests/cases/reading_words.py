@@ -29,17 +29,17 @@ Arguments:
   <HASH>  The hash device
 
 Options:
-      --hash-offset <hash-offset>  The superblock's place in HASH, in bytes [default: 0]
-  -h, --help                       Print help
+      --hash-offset <BYTES>  The superblock's place in HASH, in bytes [default: 0]
+  -h, --help                 Print help
 
 Example:
   dalgovuun dump image.hash
 """
 
 MISSING = """error: the following required arguments were not provided:
-  --uuid <uuid>
+  --uuid <UUID>
 
-Usage: dalgovuun format --salt <salt> --uuid <uuid> <DATA> <HASH>
+Usage: dalgovuun format --salt <HEX> --uuid <UUID> <DATA> <HASH>
 
 For more information, try '--help'.
 """
@@ -57,7 +57,7 @@ def cases():
         yield Case(f"{words}", words, HELP)
     for words in (["dump", "--help"], ["dump", "-h"], ["help", "dump"]):
         yield Case(f"{words}", words, DUMP_HELP)
-    yield Case("help of format", ["format", "--help"], ["Usage: dalgovuun format", "--salt <salt>", "[default: 4096]"])
+    yield Case("help of format", ["format", "--help"], ["Usage: dalgovuun format", "--salt <HEX>", "[default: 4096]"])
     yield Case("a command that isn't there", ["qqq"], UNKNOWN, 2)
     yield Case("an option that isn't given", ["format", "data", "hash", "--salt", "none"], MISSING, 2,
                {"data": bytes(512)}, {"hash": None})

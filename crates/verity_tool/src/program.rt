@@ -14,7 +14,9 @@ use verity_changes::{edit, scratch, update};
 use verity_files::{DONE, Failure, Host, NOT_UNDERSTOOD, REFUSED};
 use verity_format::format;
 use verity_serving::{CountedReader, CountedWriter, fail, serve, talk, verify};
-use verity_words::{Request, explain, explain_corrupt, explain_usage, explain_words, read_words};
+use verity_words::{
+    Request, explain, explain_block_size, explain_corrupt, explain_usage, explain_words, read_words,
+};
 
 /// Does what the words ask for, of which the first is the program's own name, and answers the status that the process
 /// ends with: 0 done; 1 refused, corrupt, or a fault of a file, a socket or the output; 2 words that were not
@@ -82,7 +84,9 @@ fn answer<
     match request {
         Request::Scratch => scratch(rt, input, output, errors),
         Request::Format(words) => {
-            format(rt, &mut Host::new(rt), &words, output, errors).map(|()| DONE)
+            format(rt, &mut Host::new(rt), &words, output, errors)?;
+            explain_block_size(words.data_block_size, errors);
+            Ok(DONE)
         },
         Request::Dump(words) => dump(rt, &words, output).map(|()| DONE),
         Request::Edit(words) => edit(rt, &words, output, errors),

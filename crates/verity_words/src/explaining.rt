@@ -12,7 +12,7 @@ use std::fs::File;
 use std::io;
 use std::io::Write;
 use std::rt::Files;
-use verity_files::{Failure, Fault};
+use verity_files::{Failure, Fault, Word, block_size};
 use verity_script::Line;
 
 /// Says why a command stopped.
@@ -52,6 +52,21 @@ pub fn explain_corrupt<E: Write>(errors: &mut E) {
         errors,
         "dalgovuun: the volume isn't the one that the table line vouches for"
     );
+}
+
+/// The most bytes of a data block that Linux maps on x86-64: a page of memory.
+const PAGE: usize = 4096;
+
+/// Says that Linux doesn't map data blocks of this size, where they are longer than a page of memory.
+pub fn explain_block_size<E: Write>(size: &str, errors: &mut E) {
+    if let Ok(size) = block_size(Word::DataBlockSize, size) {
+        if size > PAGE {
+            let _ = writeln!(
+                errors,
+                "dalgovuun: data blocks of {size} bytes: Linux maps data blocks of at most a page of memory ({PAGE} bytes on x86-64)"
+            );
+        }
+    }
 }
 
 /// Says that commits go without a journal.

@@ -9,8 +9,8 @@ mod serving;
 mod words;
 
 pub use explaining::{
-    Refusal, Where, explain, explain_corrupt, explain_line, explain_no_journal, explain_recovered,
-    explain_usage, explain_words,
+    Refusal, Where, explain, explain_block_size, explain_corrupt, explain_line, explain_no_journal,
+    explain_recovered, explain_usage, explain_words,
 };
 pub use serving::explain_served;
 pub use words::{
