@@ -10,7 +10,7 @@ Commands:
   dump     Prints the superblock of a hash device
   edit     Does a script's lines over a volume, and prints an answer to each
   update   Makes a volume that of another image, by what differs, with one commit
-  recover  Makes whole a commit that a stop cut short
+  recover  Recovers a commit that a crash cut short
   verify   Reports what is wrong in a volume
   serve    Serves a volume over NBD, to up to 64 clients at once
   talk     Serves a volume to one NBD client, over standard input and output
@@ -29,7 +29,7 @@ Arguments:
   <HASH>  The hash device
 
 Options:
-      --hash-offset <BYTES>  The superblock's place in HASH, in bytes [default: 0]
+      --hash-offset <BYTES>  The superblock's position in HASH, in bytes [default: 0]
   -h, --help                 Print help
 
 Example:

@@ -15,7 +15,7 @@ SMALL = ["--salt", "00ff", "--uuid", UUID, "--data-block-size", "512", "--hash-b
 LINE = volume(17).line(DATA)
 FILLED = DATA[:3 * 512] + b"\xff" * 512 + DATA[4 * 512:]
 DONE, NOTHING = "recovered\n", "nothing to recover\n"
-TOLD = ["dalgovuun: hash: a commit that was cut short was made whole first"]
+TOLD = ["dalgovuun: hash: a commit that a crash cut short was recovered first"]
 # what a journal begins with: a magic, and the version
 HEAD = b"dalgjrnl" + struct.pack("<L", 1)
 OTHER_UUID = "76543210-89ab-cdef-0123-456789abcdef"

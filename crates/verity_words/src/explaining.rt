@@ -73,15 +73,15 @@ pub fn explain_block_size<E: Write>(size: &str, errors: &mut E) {
 pub fn explain_no_journal<E: Write>(hash_path: &str, errors: &mut E) {
     let _ = writeln!(
         errors,
-        "dalgovuun: {hash_path}: a device, and no --journal: a stop in the middle of a commit can leave a volume that nothing opens"
+        "dalgovuun: {hash_path}: a device, and no --journal: a crash in the middle of a commit can leave a volume that nothing opens"
     );
 }
 
-/// Says that a commit was made whole.
+/// Says that a commit was recovered.
 pub fn explain_recovered<E: Write>(path: &str, errors: &mut E) {
     let _ = writeln!(
         errors,
-        "dalgovuun: {path}: a commit that was cut short was made whole first"
+        "dalgovuun: {path}: a commit that a crash cut short was recovered first"
     );
 }
 

@@ -78,7 +78,7 @@ pub const HASH: Parameter<'static> = Parameter {
 /// `--hash-offset`, of the commands that read or write a superblock.
 pub const HASH_OFFSET: Parameter<'static> = Parameter {
     name: "hash-offset",
-    help: "The superblock's place in HASH, in bytes",
+    help: "The superblock's position in HASH, in bytes",
     kind: Kind::Default {
         value: "BYTES",
         text: "0",
@@ -88,14 +88,14 @@ pub const HASH_OFFSET: Parameter<'static> = Parameter {
 /// `--hash-offset`, of the commands that edit: not beside `--table`.
 pub const OWN_OFFSET: Parameter<'static> = Parameter {
     name: "hash-offset",
-    help: "The superblock's place in HASH, in bytes; 0 where neither it nor a line is named",
+    help: "The superblock's position in HASH, in bytes; 0 where neither it nor a line is named",
     kind: Kind::Optional("BYTES"),
 };
 
 /// `--table`, of the commands that edit.
 pub const OWN_TABLE: Parameter<'static> = Parameter {
     name: "table",
-    help: "The table line of the volume, under which nothing else of it is trusted",
+    help: "The trusted table line of the volume; nothing else of it is trusted",
     kind: Kind::Optional("LINE"),
 };
 
