@@ -3,6 +3,7 @@
 #![tactic(auto)]
 
 mod asked;
+mod beside;
 mod command;
 mod failure;
 mod fault;
@@ -21,6 +22,7 @@ mod values;
 mod volume_file;
 
 pub use asked::Asked;
+pub use beside::{journal_fault, path_beside};
 pub use command::{Command, Lock};
 pub use failure::{Failure, Word, print_failure, status_after};
 pub use fault::Fault;

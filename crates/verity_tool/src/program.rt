@@ -1,10 +1,10 @@
 //! The whole program.
 
 use crate::dump::dump;
-use crate::recover::recover;
 use crate::told::Told;
 use clap::Error;
 use clap::error::ErrorKind;
+use cli_recover::recover;
 use std::fs::File;
 use std::io::{Eprint, IsTerminal, Read, Write};
 use std::net::{Net, TcpListener, TcpStream};
@@ -99,7 +99,7 @@ fn answer<
             &mut CountedReader::new(input),
             &mut CountedWriter::new(output),
         ),
-        Request::Recover(words) => recover(rt, &words, output).map(|()| DONE),
+        Request::Recover(words) => recover(&mut Host::new(rt), &words, output).map(|()| DONE),
         Request::Update(words) => update(rt, &words, output, errors),
     }
 }
