@@ -5,7 +5,6 @@ pub mod Faults
 pub mod Identities
 pub mod Lengths
 pub mod Misread
-pub mod Opening
 pub mod Parts
 pub mod Reached
 pub mod VolumeFiles

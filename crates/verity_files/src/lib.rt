@@ -28,7 +28,7 @@ pub use failure::{Failure, Word, print_failure, status_after};
 pub use fault::Fault;
 pub use host::Host;
 pub use identity::{Identity, check_apart, file_identity};
-pub use opening::{Opened, fault_of, open_locked, open_there};
+pub use opening::{Opened, fault_of, open_there};
 pub use part::Part;
 pub use paths::Paths;
 pub use read_only::open_to_read;

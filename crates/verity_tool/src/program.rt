@@ -1,9 +1,9 @@
 //! The whole program.
 
-use crate::dump::dump;
 use crate::told::Told;
 use clap::Error;
 use clap::error::ErrorKind;
+use cli_dump::dump;
 use cli_recover::recover;
 use std::fs::File;
 use std::io::{Eprint, IsTerminal, Read, Write};
@@ -84,7 +84,7 @@ fn answer<
         Request::Format(words) => {
             format(rt, &mut Host::new(rt), &words, output, errors).map(|()| DONE)
         },
-        Request::Dump(words) => dump(rt, &words, output).map(|()| DONE),
+        Request::Dump(words) => dump(&Host::new(rt), &words, output).map(|()| DONE),
         Request::Edit(words) => edit(rt, &words, output, errors),
         Request::Verify(words) => verify(rt, &Host::new(rt), &words, output, errors),
         Request::Serve(words) => serve(

@@ -1,6 +1,6 @@
 use Rattle.std.proofs.Common.{refl}
 use Rattle.std.specs.Int.Count.{ones}
-use Rattle.verity_volume.proofs.superblock.read_asked.Goals as goal
+use Rattle.verity_volume.proofs.superblock.read_superblock.Goals as goal
 
 -- 512 is a power of two
 pub len_of_most-requires : goal.len_of_most-requires
