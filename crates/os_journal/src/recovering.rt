@@ -78,7 +78,8 @@ pub(crate) fn started<S: System>(
         keeper.disks) }
     ensures refused { IfErr result (IsOfDisks (S.refuses system.now ≡ true)) }
 {
-    let mut keeper = Keeper::new(system.journalled(image, device, journal, bytes)?);
+    let disks = system.journalled(image, device, journal, bytes)?;
+    let mut keeper = Keeper::new(disks);
     match keeper.start(system.alloc()) {
         Ok(()) => Ok(keeper),
         Err(fault) => Err(fault_of_disks(system, &keeper, fault)),

@@ -5,7 +5,7 @@ ghost use Rattle.verity_files.specs.declared.failure.Word.TheVariants as word;
 ghost use Rattle.verity_files.specs.Errors.{IsS1For};
 ghost use Rattle.verity_files.specs.Blames.{BlamesAtMost};
 ghost use Rattle.os_journal.specs.Blamed.{BlamesVolume, IsOneFile};
-ghost use Rattle.os_journal.specs.Journals.{AreOpened, IsMade, IsMadeWhole};
+ghost use Rattle.os_journal.specs.Journals.{AreOpened, IsMade, IsMadeWhole, IsOneOf};
 
 use crate::places::{journal_path, volume_names};
 use crate::recovering::recover_at;
@@ -36,7 +36,7 @@ pub fn recover_volume<S: System>(
         return Err(Failure::Word(Word::Journal));
     };
     let names = volume_names(system, on_data, data_path, on_hash, hash_path)?;
-    make_whole(system, (data_path, hash_path, &path), image, device, &names)
+    make_whole(system, data_path, hash_path, &path, image, device, &names)
 }
 
 /// Opens both files to be written and takes their locks. That there is no DATA is told only once HASH is locked. HASH isn't understood
@@ -69,22 +69,23 @@ fn open_both<S: System>(
 }
 
 /// Makes the changes behind the commit flag of the journal at a path, if it is there and its flag open, closes the three files and removes
-/// the journal. It tells whether the flag was open. The paths are DATA's, HASH's and the journal's.
+/// the journal. It tells whether the flag was open.
 fn make_whole<S: System>(
     system: &mut S,
-    paths: (&str, &str, &str),
+    data_path: &str,
+    hash_path: &str,
+    path: &str,
     image: S::File,
     device: S::File,
     names: &str,
 ) -> Result<bool, Failure>
-    ensures made { IfOk result (IsMade S.System S.Journalled.Disks system.old system.new paths.0.now paths.1.now paths.2.now
+    ensures made { IfOk result (IsMade S.System S.Journalled.Disks system.old system.new data_path.now hash_path.now path.now
         image device names.now) }
     ensures word { IfErr result (λ e. e ≡ Failure.Word word.Journal
-        → IsOneOf S.System system.old paths.2.now (S.identity image) (S.identity device)) }
+        → IsOneOf S.System system.old path.now (S.identity image) (S.identity device)) }
     ensures refused { IfErr result (BlamesAtMost word.Journal) }
     ensures system { IfErr result (IsS1For (S.refuses system.old ≡ true)) }
 {
-    let (data_path, hash_path, path) = paths;
     let Some(found) = recover_at(system, path, image, device, names)? else {
         return Ok(false);
     };
