@@ -6,6 +6,6 @@
 //! an output that can't be written.
 #![tactic(auto)]
 
-mod dump;
+mod dumping;
 
-pub use dump::dump;
+pub use dumping::dump;

@@ -7,6 +7,6 @@
 //! that can't be written.
 #![tactic(auto)]
 
-mod recover;
+mod recovering;
 
-pub use recover::recover;
+pub use recovering::recover;
