@@ -3,7 +3,7 @@ use crate::{MemSystem, recover_in_memory};
 use cli_recover::recover;
 use std::process::Abort;
 use std::test::Fail;
-use test_volumes::{device, flip, image};
+use test_volumes::{device, image};
 use verity_files::{Failure, Fault};
 use verity_journal::{Change, Plan, Side, spell};
 use verity_words::RecoverWords;
