@@ -1,10 +1,10 @@
 //! The whole program.
 
-use crate::dump::dump;
-use crate::recover::recover;
 use crate::told::Told;
 use clap::Error;
 use clap::error::ErrorKind;
+use cli_dump::dump;
+use cli_recover::recover;
 use std::fs::File;
 use std::io::{Eprint, IsTerminal, Read, Write};
 use std::net::{Net, TcpListener, TcpStream};
@@ -88,7 +88,7 @@ fn answer<
             explain_block_size(words.data_block_size, errors);
             Ok(DONE)
         },
-        Request::Dump(words) => dump(rt, &words, output).map(|()| DONE),
+        Request::Dump(words) => dump(&Host::new(rt), &words, output).map(|()| DONE),
         Request::Edit(words) => edit(rt, &words, output, errors),
         Request::Verify(words) => verify(rt, &Host::new(rt), &words, output, errors),
         Request::Serve(words) => serve(
@@ -103,7 +103,7 @@ fn answer<
             &mut CountedReader::new(input),
             &mut CountedWriter::new(output),
         ),
-        Request::Recover(words) => recover(rt, &words, output).map(|()| DONE),
+        Request::Recover(words) => recover(&mut Host::new(rt), &words, output).map(|()| DONE),
         Request::Update(words) => update(rt, &words, output, errors),
     }
 }
