@@ -1,0 +1,105 @@
+//! The line of the volume that is made, and what the words say of it.
+
+use std::alloc::Global;
+use uuid::Uuid;
+use verity_chain::{Tree, geometry_of};
+use verity_digest::Digest;
+use verity_files::{Failure, uuid};
+use verity_superblock::{Table, tree_start};
+use verity_volume::{LineParts, offset_of, table_of};
+use verity_words::PullWords;
+
+/// What the words ask for.
+#[derive(Drop)]
+pub struct Asked {
+    /// The trusted line.
+    pub to: Table,
+    /// The trusted line of the volume as it stands.
+    pub old: Option<Table>,
+    /// The UUID, where one is named.
+    pub uuid: Option<Uuid>,
+    /// At which hash block of HASH the tree begins.
+    pub start: u64,
+    /// No progress is shown.
+    pub is_quiet: bool,
+}
+
+/// Reads the words. L1 to L9 of either line; B10 where no superblock can stand at the offset.
+pub fn read_asked(alloc: Global, words: &PullWords<'_>) -> Result<Asked, Failure> {
+    let to = Table::parse(alloc, words.to)?;
+    let old = match words.table {
+        Some(line) => Some(Table::parse(alloc, line)?),
+        None => None,
+    };
+    let uuid = match words.uuid {
+        Some(text) => Some(uuid(text)?),
+        None => None,
+    };
+    let offset = offset_of(words.table, words.hash_offset)?;
+    let start = match &old {
+        Some(table) => table.hash_start_block(),
+        None => tree_start(offset, to.hash_block_size())?,
+    };
+    Ok(Asked {
+        to,
+        old,
+        uuid,
+        start,
+        is_quiet: words.is_quiet,
+    })
+}
+
+/// The tree of a line that has this one's values, on other devices, where it begins at another hash block.
+pub fn tree_at(
+    alloc: Global,
+    to: &Table,
+    data_path: &str,
+    hash_path: &str,
+    start: u64,
+) -> Result<Tree, Failure> {
+    let volume = LineParts {
+        data_path,
+        hash_path,
+        data_block_size: to.data_block_size(),
+        hash_block_size: to.hash_block_size(),
+        data_blocks: to.data_blocks(),
+        hash_start_block: start,
+        salt: to.salt().bytes(),
+    };
+    let table = table_of(alloc, &volume, to.root())?;
+    let geometry = geometry_of(&table);
+    Ok(Tree::new(alloc, table, geometry)?)
+}
+
+/// The root hash of the old line, where it has the sizes, the count, the start, the algorithm and the salt of the one that is pulled, and
+/// the local stores have as many blocks as the volume.
+pub fn old_root(
+    old: &Option<Table>,
+    tree: &Tree,
+    data_blocks: u64,
+    hash_blocks: u64,
+) -> Option<Digest> {
+    match old {
+        Some(old) => {
+            if is_alike(old, tree.table())
+                && tree.table().data_blocks() <= data_blocks
+                && tree.end() <= hash_blocks
+            {
+                Some(old.root())
+            } else {
+                None
+            }
+        }
+        None => None,
+    }
+}
+
+/// Whether two lines differ at most in their devices and their root hashes.
+fn is_alike(old: &Table, table: &Table) -> bool {
+    old.data_block_size() == table.data_block_size()
+        && old.hash_block_size() == table.hash_block_size()
+        && old.data_blocks() == table.data_blocks()
+        && old.hash_start_block() == table.hash_start_block()
+        && old.algorithm() == table.algorithm()
+        && old.salt().bytes() == table.salt().bytes()
+}

@@ -1,0 +1,144 @@
+//! The command `pull`.
+
+use crate::line::{Asked, old_root, read_asked, tree_at};
+use crate::local::{Local, open_local, unmake};
+use crate::meter::Pace;
+use crate::moved::Moved;
+use crate::source::{Source, open_source};
+use crate::stores::{Counts, pull_stores};
+use crate::superblock::superblock_of;
+use std::io::{Eprint, IsTerminal, Write};
+use std::time::Clock;
+use verity_chain::Tree;
+use verity_files::{Failure, System, check_paths};
+use verity_gate::check_gate;
+use verity_store::BlockStore;
+use verity_superblock::Table;
+use verity_volume::is_watched;
+use verity_watch::Watched;
+use verity_words::{PullWords, explain_unused_line};
+
+/// Makes DATA and HASH the volume of the line `--to`, from the devices that it names, and prints how many data blocks were fetched and
+/// kept, and the line of the volume.
+///
+/// The words are read first, then the source is opened, DATA and HASH are opened or made, told apart from the source and locked. DATA and
+/// HASH that were made are removed where nothing was written to them. Where `errors` is a terminal, it shows how far it is.
+pub fn pull<R: Clock + Eprint + AllocGlobal, S: System, W: Write, E: Write + IsTerminal>(
+    rt: &R,
+    system: &mut S,
+    words: &PullWords<'_>,
+    output: &mut W,
+    errors: &mut E,
+) -> Result<(), Failure> {
+    check_paths(words.data_path, words.hash_path)?;
+    let asked = read_asked(rt.alloc(), words)?;
+    let mut tree = tree_at(
+        rt.alloc(),
+        &asked.to,
+        words.data_path,
+        words.hash_path,
+        asked.start,
+    )?;
+    let text = tree.table().text()?;
+    let counts = pull_files(rt, system, words, &asked, &mut tree, errors)?;
+    print_pulled(counts, &text, output)
+}
+
+fn print_pulled<W: Write>(counts: Counts, line: &str, output: &mut W) -> Result<(), Failure> {
+    let Counts { fetched, kept } = counts;
+    writeln!(output, "fetched {fetched}")?;
+    writeln!(output, "kept {kept}")?;
+    writeln!(output, "pulled {line}")?;
+    Ok(())
+}
+
+/// Opens the four files, pulls, and closes DATA and HASH. Either of them that was made is removed where nothing was written to it.
+fn pull_files<R: Clock + Eprint + AllocGlobal, S: System, E: Write + IsTerminal>(
+    rt: &R,
+    system: &mut S,
+    words: &PullWords<'_>,
+    asked: &Asked,
+    tree: &mut Tree,
+    errors: &mut E,
+) -> Result<Counts, Failure> {
+    let source = open_source(system, &asked.to, source_end(&asked.to, tree))?;
+    // HASH's journal: what a commit left there that was cut short is refused, and isn't recovered yet.
+    check_gate(system, words.hash_path)?;
+    let local = open_local(system, words, tree, &source)?;
+    let Local {
+        data_store,
+        hash_store,
+        makes_data,
+        makes_hash,
+    } = local;
+    let mut data_store = data_store;
+    let mut hash_store = hash_store;
+    match pull_watched(
+        rt,
+        asked,
+        tree,
+        &mut data_store,
+        &mut hash_store,
+        source,
+        errors,
+    ) {
+        Ok(counts) => {
+            system.close(words.data_path, data_store)?;
+            system.close(words.hash_path, hash_store)?;
+            Ok(counts)
+        }
+        Err(failure) => {
+            drop(data_store);
+            drop(hash_store);
+            unmake(system, words, makes_data, makes_hash);
+            Err(failure)
+        }
+    }
+}
+
+/// The number in the source's hash device behind the tree's last block.
+fn source_end(to: &Table, tree: &Tree) -> u64 {
+    let blocks = tree.end() - tree.table().hash_start_block();
+    to.hash_start_block() + blocks
+}
+
+/// Pulls from a source into two stores, which someone may look at.
+fn pull_watched<R: Clock + Eprint + AllocGlobal, D: BlockStore + Drop, E: Write + IsTerminal>(
+    rt: &R,
+    asked: &Asked,
+    tree: &mut Tree,
+    data_store: &mut D,
+    hash_store: &mut D,
+    source: Source<D>,
+    errors: &mut E,
+) -> Result<Counts, Failure> {
+    let Source {
+        data_store: source_data,
+        hash_store: source_hash,
+        ..
+    } = source;
+    let mut source_data = source_data;
+    let mut source_hash = source_hash;
+    let superblock = superblock_of(rt.alloc(), asked, tree, hash_store, &mut source_hash)?;
+    let old = old_root(&asked.old, tree, data_store.len(), hash_store.len());
+    if asked.old.is_some() && old.is_none() {
+        explain_unused_line(errors);
+    }
+    let here = tree.table().hash_start_block();
+    let count = tree.end() - here;
+    let there = asked.to.hash_start_block();
+    let pace = Pace::new(rt, is_watched(asked.is_quiet, errors.is_terminal()), tree);
+    let mut source_hash = Watched::new(Moved::new(source_hash, here, there, count), &pace);
+    let counts = pull_stores(
+        rt.alloc(),
+        tree,
+        old,
+        &superblock,
+        data_store,
+        hash_store,
+        &mut source_data,
+        &mut source_hash,
+    );
+    pace.end();
+    counts
+}

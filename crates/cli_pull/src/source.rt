@@ -1,0 +1,39 @@
+//! The source: the two devices that the trusted line names.
+
+use verity_check::CheckFault;
+use verity_files::{Command, Failure, Identity, Part, System, open_to_read};
+use verity_gate::check_gate;
+use verity_store::{BlockStore, Which};
+use verity_superblock::Table;
+
+/// The stores of a source, and which files they are.
+#[derive(Drop)]
+pub struct Source<D: BlockStore + Drop> {
+    pub data_store: D,
+    pub hash_store: D,
+    pub data: Identity,
+    pub hash: Identity,
+}
+
+/// Opens the two files that a table line names as `verify` does, the data device first. S1, S2 of either; S5 where another's lock shuts
+/// a reader out; S6 where a commit was cut short in the journal beside the hash device, S7 where that can't be used; V1 where either ends
+/// before the volume does.
+pub fn open_source<S: System>(system: &S, to: &Table, end: u64) -> Result<Source<S::Store>, Failure> {
+    let data = open_to_read(system, to.dev(), Command::Verify, Which::Data)?;
+    check_gate(system, to.hash_dev())?;
+    let data_identity = system.identity_of(&data);
+    let part = Part::AtMost(to.data_blocks());
+    let data_store = system.store(data, part, to.data_block_size())?;
+    let hash = open_to_read(system, to.hash_dev(), Command::Verify, Which::Hash)?;
+    let hash_identity = system.identity_of(&hash);
+    let hash_store = system.store(hash, Part::AtMost(u64::MAX), to.hash_block_size())?;
+    if data_store.len() < to.data_blocks() || hash_store.len() < end {
+        return Err(CheckFault::Lengths.into());
+    }
+    Ok(Source {
+        data_store,
+        hash_store,
+        data: data_identity,
+        hash: hash_identity,
+    })
+}

@@ -1,0 +1,81 @@
+//! A pull over four stores.
+
+use std::alloc::Global;
+use verity_build::BuildFault;
+use verity_chain::Tree;
+use verity_check::CheckFault;
+use verity_digest::Digest;
+use verity_files::Failure;
+use verity_pull::{PullFault, Role, pull, pull_over};
+use verity_store::{BlockStore, Which};
+
+/// How many data blocks were fetched, and how many stayed.
+#[derive(Clone, Copy, Debug, PartialEq, Eq)]
+pub struct Counts {
+    pub fetched: u64,
+    pub kept: u64,
+}
+
+/// Makes the local stores the volume of a table line, whose tree this is; over the volume of an old line, where its root hash is named and
+/// the local stores are as long.
+pub fn pull_stores<L: BlockStore, K: BlockStore, S: BlockStore, H: BlockStore>(
+    alloc: Global,
+    tree: &mut Tree,
+    old: Option<Digest>,
+    superblock: &[u8],
+    local_data: &mut L,
+    local_hash: &mut K,
+    source_data: &mut S,
+    source_hash: &mut H,
+) -> Result<Counts, Failure> {
+    let pulled = match old {
+        Some(root) => match pull_over(
+            alloc,
+            tree,
+            root,
+            superblock,
+            local_data,
+            local_hash,
+            source_data,
+            source_hash,
+        ) {
+            Ok(pulled) => Ok(Counts {
+                fetched: pulled.fetched,
+                kept: pulled.kept,
+            }),
+            Err(fault) => Err(fault),
+        },
+        None => match pull(
+            alloc,
+            tree,
+            superblock,
+            local_data,
+            local_hash,
+            source_data,
+            source_hash,
+        ) {
+            Ok(pulled) => Ok(Counts {
+                fetched: pulled.fetched,
+                kept: pulled.kept,
+            }),
+            Err(fault) => Err(fault),
+        },
+    };
+    match pulled {
+        Ok(counts) => Ok(counts),
+        Err(fault) => Err(failure_of(fault)),
+    }
+}
+
+/// V1 where a store isn't one of the line, V2 and the place, V3 of the source, U2 of a local store; or want of memory.
+fn failure_of(fault: PullFault) -> Failure {
+    match fault {
+        PullFault::Store(Role::LocalData) => BuildFault::Store(Which::Data).into(),
+        PullFault::Store(Role::LocalHash) => BuildFault::Store(Which::Hash).into(),
+        PullFault::Store(Role::SourceData) => CheckFault::Store(Which::Data).into(),
+        PullFault::Store(Role::SourceHash) => CheckFault::Store(Which::Hash).into(),
+        PullFault::Wrong(place) => CheckFault::Mismatch(place).into(),
+        PullFault::Unsuited(_) => CheckFault::Lengths.into(),
+        PullFault::NoMemory => Failure::NoMemory,
+    }
+}
