@@ -1,1 +1,5 @@
-pub mod Moved
+pub mod Opening
+pub mod Printed
+pub mod Stores
+pub mod Superblocks
+pub mod Words

@@ -2,7 +2,7 @@
 //! to trust.
 //!
 //! The blocks are fetched, checked and written by `verity_pull`; here the words are read, the four files opened, and the superblock made.
-//! The source's tree may begin at another hash block than HASH's: a [`Moved`] store has it where HASH has it.
+//! The source's tree may begin at another hash block than HASH's: `verity_moved` has it where HASH has it.
 //!
 //! The contract that the program relies on: over any `System` a clause says of which line, from which files, into which files, by which
 //! chain of openings and closings [`pull`] has worked, and what it prints (`IsPulledThere`); where the local stores tell, what was closed at
@@ -12,19 +12,17 @@
 //! Its errors: words that aren't understood, S1 to S7, L1 to L9, B1 to B10, E13, V1 to V3, U2, want of memory. A commit that was cut short
 //! in HASH's journal is refused (S6).
 //!
-//! The definitions stand in `specs/`: `Moved` (the source's hash device, moved), `Stores` (what is done over four stores), `Words` (what
-//! was asked for), `Opening` (what is opened, left and closed), `Printed` (what is printed).
+//! The definitions stand in `specs/`: `Stores` (what is done over four stores), `Words` (what was asked for), `Superblocks` (the superblock
+//! that is laid), `Opening` (what is opened, left and closed), `Printed` (what is printed, and what was done then).
 #![tactic(auto)]
 
 mod line;
 mod local;
 mod meter;
-mod moved;
 mod pulling;
 mod source;
 mod stores;
 mod superblock;
 
-pub use moved::Moved;
 pub use pulling::pull;
 pub use stores::{Counts, pull_stores};

@@ -1,4 +1,8 @@
 //! The line of the volume that is made, and what the words say of it.
+ghost use Rattle.std.specs.Prelude.{◌≡◌, ◌≤◌, ◌^◌, IsTrue, ◌↔◌, IfOk};
+ghost use Rattle.verity_superblock.specs.Line.{IsTableLine};
+ghost use Rattle.verity_chain.specs.Table.{tree_len};
+ghost use Rattle.cli_pull.specs.Words.{line_at, IsAlike, IsAsked, IsOldRoot};
 
 use std::alloc::Global;
 use uuid::Uuid;
@@ -25,7 +29,11 @@ pub struct Asked {
 }
 
 /// Reads the words. L1 to L9 of either line; B10 where no superblock can stand at the offset.
-pub fn read_asked(alloc: Global, words: &PullWords<'_>) -> Result<Asked, Failure> {
+pub fn read_asked(alloc: Global, words: &PullWords<'_>) -> Result<Asked, Failure>
+    ensures asked { IfOk result (IsAsked words.now) }
+    ensures near { IfOk result (λ asked. asked.start ≤ 2 ^ 40) }
+    ensures quiet { IfOk result (λ asked. asked.is_quiet ≡ words.now.is_quiet) }
+{
     let to = Table::parse(alloc, words.to)?;
     let old = match words.table {
         Some(line) => Some(Table::parse(alloc, line)?),
@@ -56,7 +64,10 @@ pub fn tree_at(
     data_path: &str,
     hash_path: &str,
     start: u64,
-) -> Result<Tree, Failure> {
+) -> Result<Tree, Failure>
+    ensures value { IfOk result (λ tree. tree ≡ line_at to.now data_path.now hash_path.now start) }
+    ensures profile { IfOk result IsTableLine }
+{
     let volume = LineParts {
         data_path,
         hash_path,
@@ -78,7 +89,9 @@ pub fn old_root(
     tree: &Tree,
     data_blocks: u64,
     hash_blocks: u64,
-) -> Option<Digest> {
+) -> Option<Digest>
+    ensures { IsOldRoot old.now tree.now result }
+{
     match old {
         Some(old) => {
             if is_alike(old, tree.table())
@@ -95,7 +108,9 @@ pub fn old_root(
 }
 
 /// Whether two lines differ at most in their devices and their root hashes.
-fn is_alike(old: &Table, table: &Table) -> bool {
+fn is_alike(old: &Table, table: &Table) -> bool
+    ensures { IsTrue result ↔ IsAlike old.now table.now }
+{
     old.data_block_size() == table.data_block_size()
         && old.hash_block_size() == table.hash_block_size()
         && old.data_blocks() == table.data_blocks()

@@ -1,4 +1,11 @@
 //! DATA and HASH, which are made where they aren't there.
+ghost use Rattle.std.specs.Prelude.{◌≡◌, ◌+◌, ◌↔◌, IsTrue, IfOk, OnOk};
+ghost use Rattle.verity_chain.specs.Table.{tree_len};
+ghost use Rattle.verity_files.specs.Commands.{lock_of};
+ghost use Rattle.verity_files.specs.declared.command.Command.TheVariants as command;
+ghost use Rattle.verity_files.specs.declared.identity.Identity.{Identity};
+ghost use Rattle.verity_files.specs.declared.part.Part.TheVariants as part;
+ghost use Rattle.cli_pull.specs.Opening.{AreApart, IsOpened, IsOther, IsOwnAt};
 
 use crate::source::Source;
 use verity_chain::Tree;
@@ -26,6 +33,34 @@ struct Own<'a> {
     word: Word,
 }
 
+/// The files that one of the two isn't to be.
+#[derive(Clone, Copy)]
+struct Others {
+    source_data: Identity,
+    source_hash: Identity,
+    own: Identity,
+}
+
+impl Others {
+    /// The source's files, and one of the two.
+    fn of<D: BlockStore + Drop>(source: &Source<D>, own: Identity) -> Others
+        ensures { result ≡ record { source_data = source.now.data; source_hash = source.now.hash; own = own } }
+    {
+        Others {
+            source_data: source.data,
+            source_hash: source.hash,
+            own,
+        }
+    }
+}
+
+/// Whether a file is none of three others.
+fn is_other(file: Identity, others: Others) -> bool
+    ensures { IsTrue result ↔ IsOther others file }
+{
+    file != others.source_data && file != others.source_hash && file != others.own
+}
+
 /// Opens DATA, then HASH, or makes them. S1, S2 of either; S5 where another has a lock on it; DATA or HASH isn't understood where it is one
 /// of the source's files, nor HASH where it is DATA. Of a file all of it is the store's, as it stands; of a device the blocks that the
 /// volume takes.
@@ -34,7 +69,14 @@ pub fn open_local<S: System>(
     words: &PullWords<'_>,
     tree: &Tree,
     source: &Source<S::Store>,
-) -> Result<Local<S::Store>, Failure> {
+) -> Result<Local<S::Store>, Failure>
+    ensures opened { IfOk result (λ local. (image : Identity) × (device : Identity)
+        × IsOpened S.System system.old system.new words.now.data_path.now words.now.hash_path.now (part.AtMost tree.now.data_blocks)
+        (part.AtMost (tree.now.hash_start_block + tree_len tree.now)) local.data_store local.hash_store image device
+        × AreApart source.now.data source.now.hash image device) }
+    ensures data_size { IfOk result (λ local. S.Store.size local.data_store ≡ tree.now.data_block_size) }
+    ensures hash_size { IfOk result (λ local. S.Store.size local.hash_store ≡ tree.now.hash_block_size) }
+{
     let table = tree.table();
     let own_data = Own {
         path: words.data_path,
@@ -50,9 +92,12 @@ pub fn open_local<S: System>(
         size: table.hash_block_size(),
         word: Word::Hash,
     };
-    let (data_store, data, makes_data) =
-        open_own(system, &own_data, [source.data, source.hash, source.hash])?;
-    match open_own(system, &own_hash, [source.data, source.hash, data]) {
+    let (data_store, data, makes_data) = open_own(
+        system,
+        &own_data,
+        Others::of(source, source.hash),
+    )?;
+    match open_own(system, &own_hash, Others::of(source, data)) {
         Ok((hash_store, _, makes_hash)) => Ok(Local {
             data_store,
             hash_store,
@@ -87,8 +132,12 @@ pub fn unmake<S: System>(
 fn open_own<S: System>(
     system: &mut S,
     own: &Own<'_>,
-    others: [Identity; 3],
-) -> Result<(S::Store, Identity, bool), Failure> {
+    others: Others,
+) -> Result<(S::Store, Identity, bool), Failure>
+    ensures opened { IfOk result (λ opened. IsOwnAt S.System system.old own.now.path.now own.now.part opened.0 opened.1 system.new) }
+    ensures size { IfOk result (λ opened. S.Store.size opened.0 ≡ own.now.size) }
+    ensures apart { IfOk result (λ opened. IsOther others opened.1) }
+{
     let (file, is_new) = system.open_to_write(own.path, true)?;
     let identity = system.identity_of(&file);
     match store_over(system, own, file, identity, others) {
@@ -108,9 +157,14 @@ fn store_over<S: System>(
     own: &Own<'_>,
     file: S::File,
     identity: Identity,
-    others: [Identity; 3],
-) -> Result<S::Store, Failure> {
-    if identity == others[0] || identity == others[1] || identity == others[2] {
+    others: Others,
+) -> Result<S::Store, Failure>
+    ensures other { OnOk result (IsOther others identity) }
+    ensures locked { OnOk result (S.locks system.now file (lock_of command.Pull)) }
+    ensures lies { IfOk result (S.lies system.now file own.now.part) }
+    ensures size { IfOk result (λ store. S.Store.size store ≡ own.now.size) }
+{
+    if !is_other(identity, others) {
         return Err(Failure::Word(own.word));
     }
     system.lock(&file, Command::Pull.lock(), own.which)?;

@@ -1,9 +1,15 @@
 //! The command `pull`.
+ghost use Rattle.std.specs.Prelude.{◌≡◌, ◌≤◌, ◌^◌, ◌+◌, length, IfOk, OnOk};
+ghost use Rattle.std.specs.Io.KnownBytes.{Appends};
+ghost use Rattle.verity_superblock.specs.Line.{TableLine, canonical};
+ghost use Rattle.verity_chain.specs.Table.{tree_len};
+ghost use Rattle.cli_pull.specs.Printed.{pulled_text, IsDoneBy, IsFilled, IsPulledThere};
+ghost use Rattle.cli_pull.specs.Superblocks.{params_of};
+ghost use Rattle.cli_pull.specs.Words.{line_at, own_line};
 
 use crate::line::{Asked, old_root, read_asked, tree_at};
 use crate::local::{Local, open_local, unmake};
 use crate::meter::Pace;
-use crate::moved::Moved;
 use crate::source::{Source, open_source};
 use crate::stores::{Counts, pull_stores};
 use crate::superblock::superblock_of;
@@ -12,6 +18,7 @@ use std::time::Clock;
 use verity_chain::Tree;
 use verity_files::{Failure, System, check_paths};
 use verity_gate::check_gate;
+use verity_moved::Moved;
 use verity_store::BlockStore;
 use verity_superblock::Table;
 use verity_volume::is_watched;
@@ -29,7 +36,10 @@ pub fn pull<R: Clock + Eprint + AllocGlobal, S: System, W: Write, E: Write + IsT
     words: &PullWords<'_>,
     output: &mut W,
     errors: &mut E,
-) -> Result<(), Failure> {
+) -> Result<(), Failure>
+    ensures pulled { OnOk result (IsPulledThere S.System S.Store.BlockStore ⟦<Moved<S::Store> as BlockStore>⟧ system.old system.new words.now
+        (W.contents output.old) (W.contents output.new)) }
+{
     check_paths(words.data_path, words.hash_path)?;
     let asked = read_asked(rt.alloc(), words)?;
     let mut tree = tree_at(
@@ -44,7 +54,9 @@ pub fn pull<R: Clock + Eprint + AllocGlobal, S: System, W: Write, E: Write + IsT
     print_pulled(counts, &text, output)
 }
 
-fn print_pulled<W: Write>(counts: Counts, line: &str, output: &mut W) -> Result<(), Failure> {
+fn print_pulled<W: Write>(counts: Counts, line: &str, output: &mut W) -> Result<(), Failure>
+    ensures printed { OnOk result (Appends (W.contents output.old) (W.contents output.new) (pulled_text counts line.now)) }
+{
     let Counts { fetched, kept } = counts;
     writeln!(output, "fetched {fetched}")?;
     writeln!(output, "kept {kept}")?;
@@ -60,7 +72,13 @@ fn pull_files<R: Clock + Eprint + AllocGlobal, S: System, E: Write + IsTerminal>
     asked: &Asked,
     tree: &mut Tree,
     errors: &mut E,
-) -> Result<Counts, Failure> {
+) -> Result<Counts, Failure>
+    requires line { tree.old ≡ own_line words.now asked.now }
+    requires near { asked.now.start ≤ 2 ^ 40 }
+    ensures filled { IfOk result (IsFilled S.System S.Store.BlockStore ⟦<Moved<S::Store> as BlockStore>⟧ system.old system.new words.now
+        asked.now) }
+    ensures same { tree.new ≡ tree.old }
+{
     let source = open_source(system, &asked.to, source_end(&asked.to, tree))?;
     // HASH's journal: what a commit left there that was cut short is refused, and isn't recovered yet.
     check_gate(system, words.hash_path)?;
@@ -97,7 +115,9 @@ fn pull_files<R: Clock + Eprint + AllocGlobal, S: System, E: Write + IsTerminal>
 }
 
 /// The number in the source's hash device behind the tree's last block.
-fn source_end(to: &Table, tree: &Tree) -> u64 {
+fn source_end(to: &Table, tree: &Tree) -> u64
+    ensures { result ≡ to.now.hash_start_block + tree_len tree.now }
+{
     let blocks = tree.end() - tree.table().hash_start_block();
     to.hash_start_block() + blocks
 }
@@ -111,7 +131,14 @@ fn pull_watched<R: Clock + Eprint + AllocGlobal, D: BlockStore + Drop, E: Write 
     hash_store: &mut D,
     source: Source<D>,
     errors: &mut E,
-) -> Result<Counts, Failure> {
+) -> Result<Counts, Failure>
+    requires start { tree.old.hash_start_block ≡ asked.now.start }
+    requires line { params_of tree.old ≡ params_of asked.now.to }
+    requires count { tree.old.data_blocks ≡ asked.now.to.data_blocks }
+    ensures done { IfOk result (IsDoneBy D.BlockStore ⟦<Moved<D> as BlockStore>⟧ asked.now tree.old data_store.old data_store.new
+        hash_store.old hash_store.new source.data_store source.hash_store) }
+    ensures same { tree.new ≡ tree.old }
+{
     let Source {
         data_store: source_data,
         hash_store: source_hash,

@@ -1,4 +1,6 @@
 //! The source: the two devices that the trusted line names.
+ghost use Rattle.std.specs.Prelude.{◌≡◌, ◌-◌, ◌^◌, ◌≤◌, length, IfOk};
+ghost use Rattle.cli_pull.specs.Opening.{IsSourceAt};
 
 use verity_check::CheckFault;
 use verity_files::{Command, Failure, Identity, Part, System, open_to_read};
@@ -18,7 +20,14 @@ pub struct Source<D: BlockStore + Drop> {
 /// Opens the two files that a table line names as `verify` does, the data device first. S1, S2 of either; S5 where another's lock shuts
 /// a reader out; S6 where a commit was cut short in the journal beside the hash device, S7 where that can't be used; V1 where either ends
 /// before the volume does.
-pub fn open_source<S: System>(system: &S, to: &Table, end: u64) -> Result<Source<S::Store>, Failure> {
+pub fn open_source<S: System>(system: &S, to: &Table, end: u64) -> Result<Source<S::Store>, Failure>
+    ensures data { IfOk result (λ source. IsSourceAt S.System system.now to.now.dev to.now.data_blocks source.data_store source.data) }
+    ensures hash { IfOk result (λ source. IsSourceAt S.System system.now to.now.hash_dev (2 ^ 64 - 1) source.hash_store source.hash) }
+    ensures data_size { IfOk result (λ source. S.Store.size source.data_store ≡ to.now.data_block_size) }
+    ensures hash_size { IfOk result (λ source. S.Store.size source.hash_store ≡ to.now.hash_block_size) }
+    ensures data_len { IfOk result (λ source. to.now.data_blocks ≤ length (S.Store.content source.data_store)) }
+    ensures hash_len { IfOk result (λ source. end ≤ length (S.Store.content source.hash_store)) }
+{
     let data = open_to_read(system, to.dev(), Command::Verify, Which::Data)?;
     check_gate(system, to.hash_dev())?;
     let data_identity = system.identity_of(&data);

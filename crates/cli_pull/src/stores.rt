@@ -1,4 +1,6 @@
 //! A pull over four stores.
+ghost use Rattle.std.specs.Prelude.{◌≡◌, length, IfOk, IfErr};
+ghost use Rattle.cli_pull.specs.Stores.{failure_by, IsDone, IsSafe};
 
 use std::alloc::Global;
 use verity_build::BuildFault;
@@ -27,7 +29,15 @@ pub fn pull_stores<L: BlockStore, K: BlockStore, S: BlockStore, H: BlockStore>(
     local_hash: &mut K,
     source_data: &mut S,
     source_hash: &mut H,
-) -> Result<Counts, Failure> {
+) -> Result<Counts, Failure>
+    requires { length superblock.now ≡ tree.old.hash_block_size }
+    ensures done { IfOk result (IsDone L.BlockStore K.BlockStore S.BlockStore H.BlockStore tree.old superblock.now
+        local_data.old local_data.new local_hash.old local_hash.new source_data.old source_data.new source_hash.old source_hash.new
+        old.entry) }
+    ensures safe { IfErr result (IsSafe L.BlockStore K.BlockStore S.BlockStore H.BlockStore tree.old superblock.now
+        local_data.old local_data.new local_hash.old local_hash.new source_data.old source_data.new source_hash.old source_hash.new) }
+    ensures same { tree.new ≡ tree.old }
+{
     let pulled = match old {
         Some(root) => match pull_over(
             alloc,
@@ -68,7 +78,9 @@ pub fn pull_stores<L: BlockStore, K: BlockStore, S: BlockStore, H: BlockStore>(
 }
 
 /// V1 where a store isn't one of the line, V2 and the place, V3 of the source, U2 of a local store; or want of memory.
-fn failure_of(fault: PullFault) -> Failure {
+fn failure_of(fault: PullFault) -> Failure
+    ensures { result ≡ failure_by fault }
+{
     match fault {
         PullFault::Store(Role::LocalData) => BuildFault::Store(Which::Data).into(),
         PullFault::Store(Role::LocalHash) => BuildFault::Store(Which::Hash).into(),

@@ -47,7 +47,10 @@ fn explain_made<E: Write>(word: Word, errors: &mut E) {
     let wanted = word.wanted();
     let _ = match word {
         Word::Data | Word::Hash => {
-            writeln!(errors, "dalgovuun: {word}: {wanted}; and none of the source's files")
+            writeln!(
+                errors,
+                "dalgovuun: {word}: {wanted}; and none of the source's files"
+            )
         }
         word => writeln!(errors, "dalgovuun: {word}: {wanted}"),
     };

@@ -15,6 +15,6 @@ pub use explaining::{
 };
 pub use serving::explain_served;
 pub use words::{
-    DumpWords, EditWords, FormatWords, PullWords, RecoverWords, Request, ServeWords, TalkWords, UpdateWords,
-    VerifyWords, read_words,
+    DumpWords, EditWords, FormatWords, PullWords, RecoverWords, Request, ServeWords, TalkWords,
+    UpdateWords, VerifyWords, read_words,
 };

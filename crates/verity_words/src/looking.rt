@@ -59,7 +59,9 @@ impl fmt::Display for Detail<'_> {
             Detail::Fields(count) => write!(f, ": this one has {count}"),
             Detail::Text(text) => write!(f, ": {text}"),
             Detail::Number(number) => write!(f, ": {number}"),
-            Detail::NoUuid => f.write_str(": no UUID is found for HASH's superblock; name one with --uuid"),
+            Detail::NoUuid => f.write_str(
+                ": no UUID is found for HASH's superblock; name one with --uuid",
+            ),
         }
     }
 }
@@ -145,7 +147,10 @@ pub(crate) fn look_at_line<'a>(line: &'a str, fault: TableFault) -> Detail<'a> {
 }
 
 /// The files don't fit the table line: the image where it has too few blocks, else the hash device.
-pub(crate) fn look_at_lengths<'a, R: Files<File = File>>(rt: &R, parts: Parts<'a>) -> (&'a str, Detail<'a>) {
+pub(crate) fn look_at_lengths<'a, R: Files<File = File>>(
+    rt: &R,
+    parts: Parts<'a>,
+) -> (&'a str, Detail<'a>) {
     match blocks_of(rt, parts, Which::Data) {
         Some(blocks) if blocks < parts.data_blocks => {
             (parts.data, Detail::Few(blocks, parts.data_blocks))

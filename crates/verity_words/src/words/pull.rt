@@ -8,8 +8,8 @@ pub const FORM: Form<'static> = Form {
     name: "pull",
     about: "Makes DATA and HASH the volume of a trusted table line, from the devices that it names",
     example: "Example:
-  dalgovuun pull image image.hash --to \"$(cat new.table)\" > answers &&
-      sed -n 's/^pulled //p' answers > image.table",
+  dalgovuun pull copy copy.hash --to \"$(cat image.table)\" > answers &&
+      sed -n 's/^pulled //p' answers > copy.table",
     parameters: &[
         Parameter {
             name: "DATA",

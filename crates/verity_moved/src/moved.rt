@@ -1,6 +1,6 @@
 //! A hash device, whose tree is seen at another hash block.
 ghost use Rattle.std.specs.Prelude.{◌≡◌, ◌≤◌, ◌^◌};
-ghost use Rattle.cli_pull.specs.Moved.{moved_from};
+ghost use Rattle.verity_moved.specs.Moved.{moved_from};
 
 use std::marker::Model;
 use verity_count::Count;
@@ -23,7 +23,7 @@ pub struct Moved<S: BlockStore> {
 
 impl<S: BlockStore> Model for Moved<S> {
     ghost use Rattle.std.specs.Prelude.{◌≤◌, ◌^◌};
-    ghost use Rattle.cli_pull.specs.Moved.{Moving};
+    ghost use Rattle.verity_moved.specs.Moved.{Moving};
 
     ghost Value = { Moving S };
 
@@ -59,7 +59,7 @@ impl<S: BlockStore> Moved<S> {
 
 impl<S: BlockStore> BlockStore for Moved<S> {
     ghost use Rattle.std.specs.Prelude.{◌+◌, map};
-    ghost use Rattle.cli_pull.specs.Moved.{moved_content, moved_given, moved_fixed};
+    ghost use Rattle.verity_moved.specs.Moved.{moved_content, moved_given, moved_fixed};
 
     ghost size = { λ m. S.size m.store };
 
