@@ -94,6 +94,7 @@ impl<S: BlockStore> BlockStore for Moved<S> {
             self.refused.step();
             return Err(StoreFault::Device);
         }
+        let _len = self.store.len();
         self.store.read(self.there + (n - self.here), out)
     }
 
