@@ -5,9 +5,9 @@
 //! The source's tree may begin at another hash block than HASH's: `verity_moved` has it where HASH has it.
 //!
 //! The contract that the program relies on: over any `System` a clause says of which line, from which files, into which files, by which
-//! chain of openings and closings [`pull`] has worked, and what it prints (`IsPulledThere`); where the local stores tell, what was closed at
-//! DATA's and HASH's paths is the image that fits the line and its tree, or a store gave a clash. On a fault over four stores each local
-//! block is what it was, or ends a chain of given blocks ([`pull_stores`]).
+//! chain of openings and closings [`pull`] has worked, and what it prints (`IsPulledThere`). Where the local stores tell, what was closed
+//! at DATA's and HASH's paths is the image that fits the line and its tree, or a store gave a clash. On a fault over four stores each
+//! local block is what it was, or ends a chain of given blocks ([`pull_stores`]).
 //!
 //! Its errors: words that aren't understood, S1 to S7, L1 to L9, B1 to B10, E13, V1 to V3, U2, want of memory. A commit that was cut short
 //! in HASH's journal is refused (S6).

@@ -1,16 +1,15 @@
 //! The line of the volume that is made, and what the words say of it.
-ghost use Rattle.std.specs.Prelude.{◌≡◌, ◌≤◌, ◌^◌, IsTrue, ◌↔◌, IfOk};
+ghost use Rattle.std.specs.Prelude.{◌≡◌, ◌≤◌, ◌^◌, ◌↔◌, IsTrue, IfOk};
+ghost use Rattle.verity_profile.specs.Profile.{IsBlockSize};
 ghost use Rattle.verity_superblock.specs.Line.{IsTableLine};
-ghost use Rattle.verity_chain.specs.Table.{tree_len};
-ghost use Rattle.cli_pull.specs.Words.{line_at, IsAlike, IsAsked, IsOldRoot};
+ghost use Rattle.cli_pull.specs.Words.{line_at, IsAlike, IsAsked, IsOldIn, IsOldRoot, IsStart, IsUuidIn};
 
 use std::alloc::Global;
 use uuid::Uuid;
 use verity_chain::{Tree, geometry_of};
 use verity_digest::Digest;
-use verity_files::{Failure, uuid};
+use verity_files::{Failure, Word, number, uuid};
 use verity_superblock::{Table, tree_start};
-use verity_volume::{LineParts, offset_of, table_of};
 use verity_words::PullWords;
 
 /// What the words ask for.
@@ -32,22 +31,11 @@ pub struct Asked {
 pub fn read_asked(alloc: Global, words: &PullWords<'_>) -> Result<Asked, Failure>
     ensures asked { IfOk result (IsAsked words.now) }
     ensures near { IfOk result (λ asked. asked.start ≤ 2 ^ 40) }
-    ensures quiet { IfOk result (λ asked. asked.is_quiet ≡ words.now.is_quiet) }
 {
     let to = Table::parse(alloc, words.to)?;
-    let old = match words.table {
-        Some(line) => Some(Table::parse(alloc, line)?),
-        None => None,
-    };
-    let uuid = match words.uuid {
-        Some(text) => Some(uuid(text)?),
-        None => None,
-    };
-    let offset = offset_of(words.table, words.hash_offset)?;
-    let start = match &old {
-        Some(table) => table.hash_start_block(),
-        None => tree_start(offset, to.hash_block_size())?,
-    };
+    let old = old_line(alloc, words.table)?;
+    let uuid = named_uuid(words.uuid)?;
+    let start = start_of(&old, words.hash_offset, to.hash_block_size())?;
     Ok(Asked {
         to,
         old,
@@ -55,6 +43,41 @@ pub fn read_asked(alloc: Global, words: &PullWords<'_>) -> Result<Asked, Failure
         start,
         is_quiet: words.is_quiet,
     })
+}
+
+/// The old line, where one is named.
+fn old_line(alloc: Global, asked: Option<&str>) -> Result<Option<Table>, Failure>
+    ensures { IfOk result (IsOldIn asked.entry) }
+{
+    match asked {
+        Some(line) => Ok(Some(Table::parse(alloc, line)?)),
+        None => Ok(None),
+    }
+}
+
+/// The UUID, where one is named.
+fn named_uuid(asked: Option<&str>) -> Result<Option<Uuid>, Failure>
+    ensures { IfOk result (IsUuidIn asked.entry) }
+{
+    match asked {
+        Some(text) => Ok(Some(uuid(text)?)),
+        None => Ok(None),
+    }
+}
+
+/// At which hash block of HASH the tree begins: that of the old line, beside which no offset is to be named; or behind a superblock at the
+/// offset, which is 0 where none is named.
+fn start_of(old: &Option<Table>, offset: Option<&str>, hash_size: usize) -> Result<u64, Failure>
+    requires { IsBlockSize hash_size }
+    ensures start { IfOk result (IsStart offset.entry old.now hash_size) }
+    ensures near { IfOk result (λ start. start ≤ 2 ^ 40) }
+{
+    match (old, offset) {
+        (Some(_), Some(_)) => Err(Failure::Word(Word::HashOffset)),
+        (Some(table), None) => Ok(table.hash_start_block()),
+        (None, None) => Ok(tree_start(0, hash_size)?),
+        (None, Some(text)) => Ok(tree_start(number(Word::HashOffset, text)?, hash_size)?),
+    }
 }
 
 /// The tree of a line that has this one's values, on other devices, where it begins at another hash block.
@@ -68,16 +91,18 @@ pub fn tree_at(
     ensures value { IfOk result (λ tree. tree ≡ line_at to.now data_path.now hash_path.now start) }
     ensures profile { IfOk result IsTableLine }
 {
-    let volume = LineParts {
+    to.facts();
+    let table = Table::new(
+        alloc,
         data_path,
         hash_path,
-        data_block_size: to.data_block_size(),
-        hash_block_size: to.hash_block_size(),
-        data_blocks: to.data_blocks(),
-        hash_start_block: start,
-        salt: to.salt().bytes(),
-    };
-    let table = table_of(alloc, &volume, to.root())?;
+        to.data_block_size(),
+        to.hash_block_size(),
+        to.data_blocks(),
+        start,
+        to.root(),
+        to.salt().copy(alloc)?,
+    )?;
     let geometry = geometry_of(&table);
     Ok(Tree::new(alloc, table, geometry)?)
 }

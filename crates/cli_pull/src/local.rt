@@ -44,11 +44,11 @@ struct Others {
 impl Others {
     /// The source's files, and one of the two.
     fn of<D: BlockStore + Drop>(source: &Source<D>, own: Identity) -> Others
-        ensures { result ≡ record { source_data = source.now.data; source_hash = source.now.hash; own = own } }
+        ensures { result ≡ record { source_data = source.now.data_file; source_hash = source.now.hash_file; own = own } }
     {
         Others {
-            source_data: source.data,
-            source_hash: source.hash,
+            source_data: source.data_file,
+            source_hash: source.hash_file,
             own,
         }
     }
@@ -73,7 +73,7 @@ pub fn open_local<S: System>(
     ensures opened { IfOk result (λ local. (image : Identity) × (device : Identity)
         × IsOpened S.System system.old system.new words.now.data_path.now words.now.hash_path.now (part.AtMost tree.now.data_blocks)
         (part.AtMost (tree.now.hash_start_block + tree_len tree.now)) local.data_store local.hash_store image device
-        × AreApart source.now.data source.now.hash image device) }
+        × AreApart source.now.data_file source.now.hash_file image device) }
     ensures data_size { IfOk result (λ local. S.Store.size local.data_store ≡ tree.now.data_block_size) }
     ensures hash_size { IfOk result (λ local. S.Store.size local.hash_store ≡ tree.now.hash_block_size) }
 {
@@ -92,12 +92,12 @@ pub fn open_local<S: System>(
         size: table.hash_block_size(),
         word: Word::Hash,
     };
-    let (data_store, data, makes_data) = open_own(
+    let (data_store, data_file, makes_data) = open_own(
         system,
         &own_data,
-        Others::of(source, source.hash),
+        Others::of(source, source.hash_file),
     )?;
-    match open_own(system, &own_hash, Others::of(source, data)) {
+    match open_own(system, &own_hash, Others::of(source, data_file)) {
         Ok((hash_store, _, makes_hash)) => Ok(Local {
             data_store,
             hash_store,

@@ -1,11 +1,9 @@
 //! The command `pull`.
 ghost use Rattle.std.specs.Prelude.{◌≡◌, ◌≤◌, ◌^◌, ◌+◌, length, IfOk, OnOk};
 ghost use Rattle.std.specs.Io.KnownBytes.{Appends};
-ghost use Rattle.verity_superblock.specs.Line.{TableLine, canonical};
 ghost use Rattle.verity_chain.specs.Table.{tree_len};
 ghost use Rattle.cli_pull.specs.Printed.{pulled_text, IsDoneBy, IsFilled, IsPulledThere};
-ghost use Rattle.cli_pull.specs.Superblocks.{params_of};
-ghost use Rattle.cli_pull.specs.Words.{line_at, own_line};
+ghost use Rattle.cli_pull.specs.Words.{own_line, IsElsewhere};
 
 use crate::line::{Asked, old_root, read_asked, tree_at};
 use crate::local::{Local, open_local, unmake};
@@ -21,7 +19,6 @@ use verity_gate::check_gate;
 use verity_moved::Moved;
 use verity_store::BlockStore;
 use verity_superblock::Table;
-use verity_volume::is_watched;
 use verity_watch::Watched;
 use verity_words::{PullWords, explain_unused_line};
 
@@ -37,8 +34,8 @@ pub fn pull<R: Clock + Eprint + AllocGlobal, S: System, W: Write, E: Write + IsT
     output: &mut W,
     errors: &mut E,
 ) -> Result<(), Failure>
-    ensures pulled { OnOk result (IsPulledThere S.System S.Store.BlockStore ⟦<Moved<S::Store> as BlockStore>⟧ system.old system.new words.now
-        (W.contents output.old) (W.contents output.new)) }
+    ensures pulled { OnOk result (IsPulledThere S.System S.Store.BlockStore ⟦<Moved<S::Store> as BlockStore>⟧ system.old system.new
+        words.now (W.contents output.old) (W.contents output.new)) }
 {
     check_paths(words.data_path, words.hash_path)?;
     let asked = read_asked(rt.alloc(), words)?;
@@ -132,9 +129,7 @@ fn pull_watched<R: Clock + Eprint + AllocGlobal, D: BlockStore + Drop, E: Write 
     source: Source<D>,
     errors: &mut E,
 ) -> Result<Counts, Failure>
-    requires start { tree.old.hash_start_block ≡ asked.now.start }
-    requires line { params_of tree.old ≡ params_of asked.now.to }
-    requires count { tree.old.data_blocks ≡ asked.now.to.data_blocks }
+    requires line { IsElsewhere asked.now.to tree.old }
     ensures done { IfOk result (IsDoneBy D.BlockStore ⟦<Moved<D> as BlockStore>⟧ asked.now tree.old data_store.old data_store.new
         hash_store.old hash_store.new source.data_store source.hash_store) }
     ensures same { tree.new ≡ tree.old }
@@ -154,7 +149,7 @@ fn pull_watched<R: Clock + Eprint + AllocGlobal, D: BlockStore + Drop, E: Write 
     let here = tree.table().hash_start_block();
     let count = tree.end() - here;
     let there = asked.to.hash_start_block();
-    let pace = Pace::new(rt, is_watched(asked.is_quiet, errors.is_terminal()), tree);
+    let pace = Pace::new(rt, !asked.is_quiet && errors.is_terminal(), tree);
     let mut source_hash = Watched::new(Moved::new(source_hash, here, there, count), &pace);
     let counts = pull_stores(
         rt.alloc(),

@@ -1,5 +1,5 @@
 //! A pull over four stores.
-ghost use Rattle.std.specs.Prelude.{◌≡◌, length, IfOk, IfErr};
+ghost use Rattle.std.specs.Prelude.{◌≡◌, None, Some, length, IfOk, IfErr};
 ghost use Rattle.cli_pull.specs.Stores.{failure_by, IsDone, IsSafe};
 
 use std::alloc::Global;
@@ -19,7 +19,8 @@ pub struct Counts {
 }
 
 /// Makes the local stores the volume of a table line, whose tree this is; over the volume of an old line, where its root hash is named and
-/// the local stores are as long.
+/// the local stores are as long. V1 where a store isn't one of the line, before anything is changed, as is want of memory; V2 and the place
+/// of a block of the source that isn't the one that is named; V3 where a read of the source failed, U2 where a local store did.
 pub fn pull_stores<L: BlockStore, K: BlockStore, S: BlockStore, H: BlockStore>(
     alloc: Global,
     tree: &mut Tree,
@@ -33,13 +34,13 @@ pub fn pull_stores<L: BlockStore, K: BlockStore, S: BlockStore, H: BlockStore>(
     requires { length superblock.now ≡ tree.old.hash_block_size }
     ensures done { IfOk result (IsDone L.BlockStore K.BlockStore S.BlockStore H.BlockStore tree.old superblock.now
         local_data.old local_data.new local_hash.old local_hash.new source_data.old source_data.new source_hash.old source_hash.new
-        old.entry) }
+        old) }
     ensures safe { IfErr result (IsSafe L.BlockStore K.BlockStore S.BlockStore H.BlockStore tree.old superblock.now
         local_data.old local_data.new local_hash.old local_hash.new source_data.old source_data.new source_hash.old source_hash.new) }
     ensures same { tree.new ≡ tree.old }
 {
-    let pulled = match old {
-        Some(root) => match pull_over(
+    match old {
+        Some(root) => pull_over_old(
             alloc,
             tree,
             root,
@@ -48,14 +49,8 @@ pub fn pull_stores<L: BlockStore, K: BlockStore, S: BlockStore, H: BlockStore>(
             local_hash,
             source_data,
             source_hash,
-        ) {
-            Ok(pulled) => Ok(Counts {
-                fetched: pulled.fetched,
-                kept: pulled.kept,
-            }),
-            Err(fault) => Err(fault),
-        },
-        None => match pull(
+        ),
+        None => pull_anew(
             alloc,
             tree,
             superblock,
@@ -63,16 +58,80 @@ pub fn pull_stores<L: BlockStore, K: BlockStore, S: BlockStore, H: BlockStore>(
             local_hash,
             source_data,
             source_hash,
-        ) {
-            Ok(pulled) => Ok(Counts {
-                fetched: pulled.fetched,
-                kept: pulled.kept,
-            }),
-            Err(fault) => Err(fault),
-        },
-    };
-    match pulled {
-        Ok(counts) => Ok(counts),
+        ),
+    }
+}
+
+/// The same, where no old line is of use.
+fn pull_anew<L: BlockStore, K: BlockStore, S: BlockStore, H: BlockStore>(
+    alloc: Global,
+    tree: &mut Tree,
+    superblock: &[u8],
+    local_data: &mut L,
+    local_hash: &mut K,
+    source_data: &mut S,
+    source_hash: &mut H,
+) -> Result<Counts, Failure>
+    requires { length superblock.now ≡ tree.old.hash_block_size }
+    ensures done { IfOk result (IsDone L.BlockStore K.BlockStore S.BlockStore H.BlockStore tree.old superblock.now
+        local_data.old local_data.new local_hash.old local_hash.new source_data.old source_data.new source_hash.old source_hash.new
+        None) }
+    ensures safe { IfErr result (IsSafe L.BlockStore K.BlockStore S.BlockStore H.BlockStore tree.old superblock.now
+        local_data.old local_data.new local_hash.old local_hash.new source_data.old source_data.new source_hash.old source_hash.new) }
+    ensures same { tree.new ≡ tree.old }
+{
+    let _line = tree.table();
+    match pull(
+        alloc,
+        tree,
+        superblock,
+        local_data,
+        local_hash,
+        source_data,
+        source_hash,
+    ) {
+        Ok(pulled) => Ok(Counts {
+            fetched: pulled.fetched,
+            kept: pulled.kept,
+        }),
+        Err(fault) => Err(failure_of(fault)),
+    }
+}
+
+/// The same over the volume of an old line.
+fn pull_over_old<L: BlockStore, K: BlockStore, S: BlockStore, H: BlockStore>(
+    alloc: Global,
+    tree: &mut Tree,
+    root: Digest,
+    superblock: &[u8],
+    local_data: &mut L,
+    local_hash: &mut K,
+    source_data: &mut S,
+    source_hash: &mut H,
+) -> Result<Counts, Failure>
+    requires { length superblock.now ≡ tree.old.hash_block_size }
+    ensures done { IfOk result (IsDone L.BlockStore K.BlockStore S.BlockStore H.BlockStore tree.old superblock.now
+        local_data.old local_data.new local_hash.old local_hash.new source_data.old source_data.new source_hash.old source_hash.new
+        (Some root)) }
+    ensures safe { IfErr result (IsSafe L.BlockStore K.BlockStore S.BlockStore H.BlockStore tree.old superblock.now
+        local_data.old local_data.new local_hash.old local_hash.new source_data.old source_data.new source_hash.old source_hash.new) }
+    ensures same { tree.new ≡ tree.old }
+{
+    let _line = tree.table();
+    match pull_over(
+        alloc,
+        tree,
+        root,
+        superblock,
+        local_data,
+        local_hash,
+        source_data,
+        source_hash,
+    ) {
+        Ok(pulled) => Ok(Counts {
+            fetched: pulled.fetched,
+            kept: pulled.kept,
+        }),
         Err(fault) => Err(failure_of(fault)),
     }
 }

@@ -1,9 +1,10 @@
 //! The superblock that is to stand in HASH.
-ghost use Rattle.std.specs.Prelude.{◌≡◌, ◌-◌, ℕ, length, IsTrue, ◌↔◌, IfOk, IfSome};
+ghost use Rattle.std.specs.Prelude.{◌≡◌, ◌-◌, ℕ, length, ◌↔◌, IsTrue, IfOk, IfSome};
 ghost use Rattle.verity_store.specs.Stores.{IsOnlyRead};
 ghost use Rattle.verity_superblock.specs.Image.{superblock_block};
 ghost use Rattle.verity_superblock.specs.Superblock.{Params};
 ghost use Rattle.cli_pull.specs.Superblocks.{params_of, HasSuperblock, IsOfLine, IsSuperblock, IsUuid};
+ghost use Rattle.cli_pull.specs.Words.{IsElsewhere};
 
 use crate::line::Asked;
 use std::alloc::Global;
@@ -24,46 +25,46 @@ pub fn superblock_of<K: BlockStore, H: BlockStore>(
     hash_store: &mut K,
     source_hash: &mut H,
 ) -> Result<Vec<u8>, Failure>
-    requires start { tree.now.hash_start_block ≡ asked.now.start }
-    requires line { params_of tree.now ≡ params_of asked.now.to }
-    requires count { tree.now.data_blocks ≡ asked.now.to.data_blocks }
+    requires { IsElsewhere asked.now.to tree.now }
     ensures made { IfOk result (λ block. IsSuperblock K.BlockStore H.BlockStore hash_store.old hash_store.new source_hash.old
-        source_hash.new asked.now.uuid asked.now.to asked.now.start block.items) }
+        source_hash.new asked.now.uuid asked.now.to tree.now.hash_start_block block.items) }
     ensures len { IfOk result (λ block. length block.items ≡ tree.now.hash_block_size) }
     ensures read { IsOnlyRead K.BlockStore hash_store.old hash_store.new }
     ensures source_read { IsOnlyRead H.BlockStore source_hash.old source_hash.new }
 {
     let table = tree.table();
-    if table.hash_start_block() == 0 {
+    let start = table.hash_start_block();
+    if start == 0 {
         return Ok(Vec::from_elem(alloc, 0u8, table.hash_block_size())?);
     }
-    let uuid = uuid_of(alloc, asked, hash_store, source_hash)?;
-    superblock_block(alloc, table, uuid)
+    let uuid = uuid_of(alloc, asked, start, hash_store, source_hash)?;
+    block_of(alloc, table, uuid)
 }
 
-/// The UUID that is named, else that of the superblock in HASH, else that of the source's.
+/// The UUID that is named, else that of the superblock in front of hash block `start` of HASH, else that of the source's.
 fn uuid_of<K: BlockStore, H: BlockStore>(
     alloc: Global,
     asked: &Asked,
+    start: u64,
     hash_store: &mut K,
     source_hash: &mut H,
 ) -> Result<Uuid, Failure>
     ensures found { IfOk result (IsUuid K.BlockStore H.BlockStore hash_store.old hash_store.new source_hash.old source_hash.new
-        asked.now.uuid asked.now.to asked.now.start) }
+        asked.now.uuid asked.now.to start) }
     ensures read { IsOnlyRead K.BlockStore hash_store.old hash_store.new }
     ensures source_read { IsOnlyRead H.BlockStore source_hash.old source_hash.new }
 {
-    if let Some(uuid) = asked.uuid {
-        return Ok(uuid);
+    match asked.uuid {
+        Some(uuid) => Ok(uuid),
+        None => match own_uuid(alloc, hash_store, start)? {
+            Some(uuid) => Ok(uuid),
+            None => source_uuid(alloc, source_hash, &asked.to),
+        },
     }
-    if let Some(uuid) = own_uuid(alloc, hash_store, asked.start)? {
-        return Ok(uuid);
-    }
-    source_uuid(alloc, source_hash, &asked.to)
 }
 
 /// The hash block in front of the tree of a table line: the superblock of its volume with this UUID, and zeros behind it.
-fn superblock_block(alloc: Global, table: &Table, uuid: Uuid) -> Result<Vec<u8>, Failure>
+fn block_of(alloc: Global, table: &Table, uuid: Uuid) -> Result<Vec<u8>, Failure>
     ensures block { IfOk result (λ block. block.items ≡ superblock_block (params_of table.now uuid) table.now.data_blocks) }
     ensures len { IfOk result (λ block. length block.items ≡ table.now.hash_block_size) }
 {
@@ -75,9 +76,9 @@ fn superblock_block(alloc: Global, table: &Table, uuid: Uuid) -> Result<Vec<u8>,
         uuid,
         table.algorithm(),
     )?;
-    let bytes = superblock.encode();
-    let mut block = Vec::from_elem(alloc, 0u8, table.hash_block_size())?;
-    block[..512].copy_from_slice(&bytes);
+    superblock.facts();
+    let mut block = superblock.encode().to_vec(alloc)?;
+    block.resize(table.hash_block_size(), 0)?;
     Ok(block)
 }
 
@@ -128,7 +129,7 @@ fn is_of(superblock: &Superblock, to: &Table) -> bool
         && superblock.salt().bytes() == to.salt().bytes()
 }
 
-/// The superblock in the hash block in front of `start`. B1 where there is no such block.
+/// The superblock in the hash block in front of `start`. B1 where there is no such block; V3 where it can't be read.
 fn superblock_before<H: BlockStore>(
     alloc: Global,
     hash_store: &mut H,
