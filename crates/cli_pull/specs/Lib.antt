@@ -1,5 +1,5 @@
+pub mod Faults
 pub mod Opening
 pub mod Printed
-pub mod Stores
 pub mod Superblocks
 pub mod Words

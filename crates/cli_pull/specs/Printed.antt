@@ -11,14 +11,14 @@ use Rattle.verity_files.specs.declared.identity.Identity.{Identity}
 use Rattle.verity_files.specs.declared.part.Part.TheVariants.{AtMost}
 use Rattle.verity_files.specs.declared.system.System.{Ghosts}
 use Rattle.verity_gate.specs.Shut.{IsShutBeside}
+use Rattle.verity_pull.specs.Done.{IsDone}
+use Rattle.verity_pull.specs.declared.either.Counts.{Counts}
 use Rattle.verity_words.specs.declared.words.pull.PullWords.{PullWords}
 use Rattle.verity_moved.specs.Moved.{Moving, moved_from}
 use Rattle.cli_pull.specs.Opening.{AreApart, IsLeft, IsSourceAt}
-use Rattle.cli_pull.specs.Stores.{IsDone}
 use Rattle.cli_pull.specs.Superblocks.{IsSuperblock}
 use Rattle.cli_pull.specs.Words.{IsAsked, IsOldRoot, own_line}
 use Rattle.cli_pull.specs.declared.line.Asked.{Asked}
-use Rattle.cli_pull.specs.declared.stores.Counts.{Counts}
 
 -- the three lines
 abbrev pub pulled_text : Counts → List ℕ → List ℕ

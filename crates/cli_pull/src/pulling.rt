@@ -5,11 +5,11 @@ ghost use Rattle.verity_chain.specs.Table.{tree_len};
 ghost use Rattle.cli_pull.specs.Printed.{pulled_text, IsDoneBy, IsFilled, IsPulledThere};
 ghost use Rattle.cli_pull.specs.Words.{own_line, IsElsewhere};
 
+use crate::faults::failure_of;
 use crate::line::{Asked, old_root, read_asked, tree_at};
 use crate::local::{Local, open_local, unmake};
 use crate::meter::Pace;
 use crate::source::{Source, open_source};
-use crate::stores::{Counts, pull_stores};
 use crate::superblock::superblock_of;
 use std::io::{Eprint, IsTerminal, Write};
 use std::time::Clock;
@@ -17,6 +17,7 @@ use verity_chain::Tree;
 use verity_files::{Failure, System, check_paths};
 use verity_gate::check_gate;
 use verity_moved::Moved;
+use verity_pull::{Counts, pull_either};
 use verity_store::BlockStore;
 use verity_superblock::Table;
 use verity_watch::Watched;
@@ -151,7 +152,7 @@ fn pull_watched<R: Clock + Eprint + AllocGlobal, D: BlockStore + Drop, E: Write 
     let there = asked.to.hash_start_block();
     let pace = Pace::new(rt, !asked.is_quiet && errors.is_terminal(), tree);
     let mut source_hash = Watched::new(Moved::new(source_hash, here, there, count), &pace);
-    let counts = pull_stores(
+    let pulled = pull_either(
         rt.alloc(),
         tree,
         old,
@@ -162,5 +163,8 @@ fn pull_watched<R: Clock + Eprint + AllocGlobal, D: BlockStore + Drop, E: Write 
         &mut source_hash,
     );
     pace.end();
-    counts
+    match pulled {
+        Ok(counts) => Ok(counts),
+        Err(fault) => Err(failure_of(fault)),
+    }
 }

@@ -1,37 +1,22 @@
--- What is done over four stores.
+-- What a pull has done over four stores, over an old line or not.
 use Rattle.std.specs.Prelude.{◌≡◌, ◌≢◌, ℕ, suc, ◌+◌, ◌<◌, ◌⊎◌, true, List, [], ◌++◌, length, take, slice_index_or, Option, None}
 use Rattle.std.specs.Prelude.{MatchOption}
 use Rattle.verity_digest.specs.Tree.{tree}
 use Rattle.verity_store.specs.Blocks.{resized}
 use Rattle.verity_store.specs.Stores.{IsOnlyRead}
-use Rattle.verity_store.specs.declared.fault.Which.TheVariants as which
 use Rattle.verity_store.specs.declared.store.BlockStore as store
 use Rattle.verity_chain.specs.Chain.{Given}
 use Rattle.verity_chain.specs.Right.{Clash, Fits}
 use Rattle.verity_chain.specs.Table.{Table, hashing_of, height, row_len, tree_len, hash_place}
 use Rattle.verity_chain.specs.declared.place.Place.{Place}
-use Rattle.verity_build.specs.declared.fault.BuildFault.TheVariants as build
-use Rattle.verity_check.specs.declared.fault.CheckFault.TheVariants as check
-use Rattle.verity_files.specs.declared.failure.Failure.{Failure}
-use Rattle.verity_files.specs.declared.failure.Failure.TheVariants as failure
-use Rattle.verity_files.specs.declared.fault.Fault.TheVariants as fault
 use Rattle.verity_pull.specs.Over.{was_given, IsPulledOver}
 use Rattle.verity_pull.specs.Pull.{marks_at, pull_given, source_given, laid, IsPulled, IsUntouched}
 use Rattle.verity_pull.specs.Walk.{IsVouched, IsWrongAt}
+use Rattle.verity_pull.specs.declared.either.Counts.{Counts}
 use Rattle.verity_pull.specs.declared.fault.PullFault.{PullFault}
-use Rattle.verity_pull.specs.declared.fault.PullFault.TheVariants as pull
+use Rattle.verity_pull.specs.declared.fault.PullFault.TheVariants as fault
+use Rattle.verity_pull.specs.declared.fault.Role.{Role}
 use Rattle.verity_pull.specs.declared.fault.Role.TheVariants as role
-use Rattle.cli_pull.specs.declared.stores.Counts.{Counts}
-
--- what a fault of a pull is printed as
-abbrev pub failure_by : PullFault → Failure
-failure_by (pull.Store role.LocalData) = failure.Refused (fault.Build (build.Store which.Data))
-failure_by (pull.Store role.LocalHash) = failure.Refused (fault.Build (build.Store which.Hash))
-failure_by (pull.Store role.SourceData) = failure.Refused (fault.Check (check.Store which.Data))
-failure_by (pull.Store role.SourceHash) = failure.Refused (fault.Check (check.Store which.Hash))
-failure_by (pull.Wrong place) = failure.Refused (fault.Check (check.Mismatch place))
-failure_by (pull.Unsuited role) = failure.Refused (fault.Check check.Lengths)
-failure_by pull.NoMemory = failure.NoMemory
 
 -- The facts of the four stores, the tree's line, the root hash of an old line, if one is of use, and the superblock's block; the stores
 -- before and after.
@@ -73,17 +58,17 @@ module _ {L K S H : Type 0} (local_data : store.Ghosts L) (local_hash : store.Gh
   -- What stands where it wasn't done: each block of the volume that a local store had is what it was, or ends a chain of given blocks from
   -- the line's root, unless that very store failed; nothing was changed where a store isn't one of the line, or memory was refused; and a
   -- source's block that is refused isn't the one that is named.
-  pub record IsSafe (e : Failure) : Type 0 where
-    pub data_blocks : e ≢ failure.Refused (fault.Build (build.Store which.Data)) → (n : ℕ) → n < length (local_data.content l)
+  pub record IsSafe (e : PullFault) : Type 0 where
+    pub data_blocks : e ≢ fault.Store role.LocalData → (n : ℕ) → n < length (local_data.content l)
         → n < t.data_blocks → (slice_index_or (local_data.content l') n [] ≡ slice_index_or (local_data.content l) n [])
         ⊎ IsVouched local_data t given_there 0 n n l'
-    pub hash_blocks : e ≢ failure.Refused (fault.Build (build.Store which.Hash)) → (v i : ℕ) → v < height t → i < row_len t (suc v)
+    pub hash_blocks : e ≢ fault.Store role.LocalHash → (v i : ℕ) → v < height t → i < row_len t (suc v)
         → hash_place t v i < length (local_hash.content k)
         → (slice_index_or (local_hash.content k') (hash_place t v i) [] ≡ slice_index_or (local_hash.content k) (hash_place t v i) [])
         ⊎ IsVouched local_hash t given_there (suc v) i (hash_place t v i) k'
-    pub untouched : (e ≡ failure.NoMemory) ⊎ (e ≡ failure.Refused (fault.Check check.Lengths))
-        → IsUntouched local_data l l' × IsUntouched local_hash k k'
-    pub wrong : (place : Place) → e ≡ failure.Refused (fault.Check (check.Mismatch place)) → IsWrongAt t
+    pub starved : e ≡ fault.NoMemory → IsUntouched local_data l l' × IsUntouched local_hash k k'
+    pub unsuited : (which : Role) → e ≡ fault.Unsuited which → IsUntouched local_data l l' × IsUntouched local_hash k k'
+    pub wrong : (place : Place) → e ≡ fault.Wrong place → IsWrongAt t
         (source_given source_data source_hash t (marks_at local_data source_data source_hash l s h) s' h') place
     pub data_read : IsOnlyRead source_data s s'
     pub hash_read : IsOnlyRead source_hash h h'
