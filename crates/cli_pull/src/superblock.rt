@@ -1,5 +1,6 @@
 //! The superblock that is to stand in HASH.
-ghost use Rattle.std.specs.Prelude.{◌≡◌, ◌-◌, ℕ, length, ◌↔◌, IsTrue, IfOk, IfSome};
+ghost use Rattle.std.specs.Prelude.{◌≡◌, ◌<◌, ◌-◌, ℕ, length, ◌↔◌, IsTrue, IfOk, IfSome};
+ghost use Rattle.verity_store.specs.Given.{GaveSince};
 ghost use Rattle.verity_store.specs.Stores.{IsOnlyRead};
 ghost use Rattle.verity_superblock.specs.Image.{superblock_block};
 ghost use Rattle.verity_superblock.specs.Superblock.{Params};
@@ -142,9 +143,23 @@ fn superblock_before<H: BlockStore>(
     if start == 0 || hash_store.len() < start {
         return Err(SuperFault::Short.into());
     }
-    let mut block = Vec::from_elem(alloc, 0u8, hash_store.block_size())?;
-    if hash_store.read(start - 1, &mut block).is_err() {
-        return Err(CheckFault::Store(Which::Hash).into());
-    }
+    let block = read_block(alloc, hash_store, start - 1)?;
     Ok(Superblock::decode(alloc, &block)?)
+}
+
+/// A hash block. V3 where it can't be read.
+fn read_block<H: BlockStore>(
+    alloc: Global,
+    hash_store: &mut H,
+    number: u64,
+) -> Result<Vec<u8>, Failure>
+    requires { number < length (H.content hash_store.old) }
+    ensures given { IfOk result (λ block. GaveSince (H.given hash_store.new) (length (H.given hash_store.old)) number block.items) }
+    ensures read { IsOnlyRead H.BlockStore hash_store.old hash_store.new }
+{
+    let mut block = Vec::from_elem(alloc, 0u8, hash_store.block_size())?;
+    match hash_store.read(number, &mut block) {
+        Ok(()) => Ok(block),
+        Err(_) => Err(CheckFault::Store(Which::Hash).into()),
+    }
 }
