@@ -4,6 +4,7 @@ use crate::told::Told;
 use clap::Error;
 use clap::error::ErrorKind;
 use cli_dump::dump;
+use cli_pull::pull;
 use cli_recover::recover;
 use std::fs::File;
 use std::io::{Eprint, IsTerminal, Read, Write};
@@ -21,8 +22,9 @@ use verity_words::{
 /// Does what the words ask for, of which the first is the program's own name, and answers the status that the process
 /// ends with: 0 done; 1 refused, corrupt, or a fault of a file, a socket or the output; 2 words that were not
 /// understood; 3 want of memory. What the program has to say goes to `output`; to `errors` goes why it refused, in words for
-/// a person; where the status is 0 nothing, but for what `edit` and `update` say of a journal. Where `errors` is a terminal, `format`,
-/// `verify`, `edit` and `update` show on the system's standard error how far they are, unless they are asked not to.
+/// a person; where the status is 0 nothing, but for what `edit` and `update` say of a journal, and `pull` of a line that is of no use.
+/// Where `errors` is a terminal, `format`, `verify`, `edit`, `update` and `pull` show on the system's standard error how far they are,
+/// unless they are asked not to.
 pub fn run<
     R: Files<File = File>
         + Net<Stream = TcpStream, Listener = TcpListener>
@@ -105,6 +107,9 @@ fn answer<
         ),
         Request::Recover(words) => recover(&mut Host::new(rt), &words, output).map(|()| DONE),
         Request::Update(words) => update(rt, &words, output, errors),
+        Request::Pull(words) => {
+            pull(rt, &mut Host::new(rt), &words, output, errors).map(|()| DONE)
+        },
     }
 }
 

@@ -24,6 +24,7 @@ pub fn explain<R: Files<File = File>, E: Write>(
 ) {
     match failure {
         Failure::Refused(fault) => explain_fault(rt, parts_of(request), fault, errors),
+        Failure::Word(word) if matches!(request, Request::Pull(_)) => explain_made(word, errors),
         failure => explain_words(failure, errors),
     }
 }
@@ -39,6 +40,28 @@ pub fn explain_words<E: Write>(failure: Failure, errors: &mut E) {
         Failure::NoMemory => writeln!(errors, "dalgovuun: memory was refused"),
         Failure::Output => writeln!(errors, "dalgovuun: standard output can't be written"),
     };
+}
+
+/// Says what the words of `pull` can be.
+fn explain_made<E: Write>(word: Word, errors: &mut E) {
+    let wanted = word.wanted();
+    let _ = match word {
+        Word::Data | Word::Hash => {
+            writeln!(
+                errors,
+                "dalgovuun: {word}: {wanted}; and none of the source's files"
+            )
+        }
+        word => writeln!(errors, "dalgovuun: {word}: {wanted}"),
+    };
+}
+
+/// Says that `--table` is of no use to a pull.
+pub fn explain_unused_line<E: Write>(errors: &mut E) {
+    let _ = writeln!(
+        errors,
+        "dalgovuun: --table: DATA and HASH aren't a volume of the sizes, the count, the salt and the algorithm of --to; each block is read"
+    );
 }
 
 /// Says that `clap` didn't understand the words.

@@ -1,0 +1,28 @@
+use Rattle.std.proofs.Common.{rules, ◌≡◌, ◌∙◌, List, ℕ, ap, subst, sym}
+use Rattle.std.proofs.Common.{OnOk, Result, Ok, Err}
+use Rattle.verity_superblock.specs.Line.{TableLine, IsTableLine, canonical}
+use Rattle.std.specs.Io.KnownBytes.{Appends}
+use Rattle.cli_pull.specs.Printed.{pulled_text}
+use Rattle.cli_pull.specs.Words.{own_line}
+use Rattle.cli_pull.proofs.Results.{on_ok}
+use Rattle.cli_pull.proofs.pulling.pull.Goals as goal
+
+pub returns : goal.returns
+returns g c =
+    let words = c.args.words.now in
+    let asked = c.in_ok-asked.asked in
+    let counts = c.in_ok-counts.counts in
+    let line : c.in_ok-tree.tree ≡ own_line words asked = c.in_ok-tree.ensures.value in
+    let text : c.deref.result.now ≡ canonical (own_line words asked) =
+    c.deref.ensures ∙ (c.in_ok-text.ensures.text ∙ (ap canonical c.table.ensures.value ∙ ap canonical line)) in
+    record {
+      pulled = on_ok c.print_pulled.result (λ printed. record {
+        asked = asked;
+        counts = counts;
+        is_asked = c.in_ok-asked.ensures.asked;
+        profile = subst IsTableLine line c.in_ok-tree.ensures.profile;
+        filled = c.in_ok-counts.ensures.filled;
+        printed = subst (λ (bytes : List ℕ). Appends (g.W.Write.contents c.args.output.now) (g.W.Write.contents c.print_pulled.new.output)
+            (pulled_text counts bytes)) text printed;
+      }) c.print_pulled.ensures.printed;
+    }
