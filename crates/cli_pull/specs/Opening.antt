@@ -9,7 +9,7 @@ use Rattle.verity_files.specs.declared.system.System.{Ghosts}
 use Rattle.cli_pull.specs.declared.local.Others.{Others}
 
 -- what stands at a path of the source was opened to be read, and locked as `verify` locks it; this store is over it, and this is the file
-pub record IsSourceAt {S F D : Type 0} (facts : Ghosts S F D) (s : S) (path : List ℕ) (blocks : ℕ) (source : D) (file : Identity)
+pub record IsSourceAt {S F D J : Type 0} (facts : Ghosts S F D J) (s : S) (path : List ℕ) (blocks : ℕ) (source : D) (file : Identity)
     : Type 0 where
   pub opened : F
   pub is_opened : facts.opens s path opened
@@ -19,7 +19,7 @@ pub record IsSourceAt {S F D : Type 0} (facts : Ghosts S F D) (s : S) (path : Li
 
 -- what stands at a path was opened to be written, or made, which made another system, and locked; this store is over this part of it, and
 -- this is the file
-pub record IsOwnAt {S F D : Type 0} (facts : Ghosts S F D) (old : S) (path : List ℕ) (part : Part) (own : D) (file : Identity) (new : S)
+pub record IsOwnAt {S F D J : Type 0} (facts : Ghosts S F D J) (old : S) (path : List ℕ) (part : Part) (own : D) (file : Identity) (new : S)
     : Type 0 where
   pub opened : F
   pub is_opened : facts.opens_to_write old path opened new
@@ -40,14 +40,14 @@ pub record AreApart (source_data source_hash image device : Identity) : Type 0 w
   pub own : device ≢ image
 
 -- DATA, then HASH was opened to be written, as one store each
-pub record IsOpened {S F D : Type 0} (facts : Ghosts S F D) (old new : S) (data_path hash_path : List ℕ) (data_part hash_part : Part)
+pub record IsOpened {S F D J : Type 0} (facts : Ghosts S F D J) (old new : S) (data_path hash_path : List ℕ) (data_part hash_part : Part)
     (l k : D) (image device : Identity) : Type 0 where
   pub between : S
   pub data_opened : IsOwnAt facts old data_path data_part l image between
   pub hash_opened : IsOwnAt facts between hash_path hash_part k device new
 
 -- and they were closed, in this order, as other stores: from the one system to the other leads nothing else
-pub record IsLeft {S F D : Type 0} (facts : Ghosts S F D) (old new : S) (data_path hash_path : List ℕ) (data_part hash_part : Part)
+pub record IsLeft {S F D J : Type 0} (facts : Ghosts S F D J) (old new : S) (data_path hash_path : List ℕ) (data_part hash_part : Part)
     (l k l' k' : D) (image device : Identity) : Type 0 where
   pub both : S
   pub between : S

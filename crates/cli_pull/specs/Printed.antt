@@ -1,5 +1,5 @@
 -- What `pull` prints, and what it has done then.
-use Rattle.std.specs.Prelude.{◌≡◌, ◌+◌, ◌-◌, ◌^◌, ℕ, List, ◌++◌, codes, Option}
+use Rattle.std.specs.Prelude.{◌≡◌, ◌⊎◌, ◌+◌, ◌-◌, ◌^◌, ℕ, Bool, List, ◌++◌, codes, Option, None}
 use Rattle.std.specs.Fmt.{decimal}
 use Rattle.std.specs.Io.KnownBytes.{Appends}
 use Rattle.verity_store.specs.Stores.{IsOnlyRead}
@@ -10,6 +10,8 @@ use Rattle.verity_files.specs.Faults.{line}
 use Rattle.verity_files.specs.declared.identity.Identity.{Identity}
 use Rattle.verity_files.specs.declared.part.Part.TheVariants.{AtMost}
 use Rattle.verity_files.specs.declared.system.System.{Ghosts}
+use Rattle.verity_journal.specs.declared.disks.Disks as disks
+use Rattle.os_journal.specs.Journals.{IsMadeWhole}
 use Rattle.verity_gate.specs.Shut.{IsShutBeside}
 use Rattle.verity_pull.specs.Done.{IsDone}
 use Rattle.verity_pull.specs.declared.either.Counts.{Counts}
@@ -48,7 +50,7 @@ pub record IsDoneBy {D : Type 0} (facts : store.Ghosts D) (moving : store.Ghosts
 -- What was done between two states of a system. The source stands at the paths of the line of the words, and no commit of HASH was cut
 -- short. From the one system to the other nothing but DATA and HASH was opened to be written, or closed, and they were closed as the
 -- stores that the pull was done in; no two of the four are one file, but for the source's.
-pub record IsFilled {S F D : Type 0} (facts : Ghosts S F D) (stores : store.Ghosts D) (moving : store.Ghosts (Moving D))
+pub record IsFilled {S F D J : Type 0} (facts : Ghosts S F D J) (stores : store.Ghosts D) (moving : store.Ghosts (Moving D))
     (before after : S) (words : PullWords) (asked : Asked) (counts : Counts) : Type 0 where
   pub source_data : D
   pub source_hash : D
@@ -68,13 +70,20 @@ pub record IsFilled {S F D : Type 0} (facts : Ghosts S F D) (stores : store.Ghos
       (AtMost (asked.start + tree_len (own_line words asked))) image device image' device' data_file hash_file
   pub done : IsDoneBy stores moving asked (own_line words asked) image image' device device' source_data source_hash counts
 
--- What `pull` prints, and what was done then: the counts, and the line of the words, with DATA and HASH as its devices, where HASH's tree
--- begins.
-pub record IsPulledThere {S F D : Type 0} (facts : Ghosts S F D) (stores : store.Ghosts D) (moving : store.Ghosts (Moving D))
-    (before after : S) (words : PullWords) (old new : Option (List ℕ)) : Type 0 where
+-- the system as it was, or as the recovery of the volume at the paths of DATA and HASH left it
+abbrev pub IsReady : {S F D J : Type 0} → Ghosts S F D J → disks.Ghosts J → (before ready : S) → PullWords → Type 0
+IsReady facts devices before ready words = (ready ≡ before) ⊎ ((is_recovered : Bool)
+    × IsMadeWhole facts devices before ready None words.data_path.now words.hash_path.now is_recovered)
+
+-- What `pull` prints, and what was done then: a commit that had been cut short was recovered first; the counts, and the line of the words,
+-- with DATA and HASH as its devices, where HASH's tree begins.
+pub record IsPulledThere {S F D J : Type 0} (facts : Ghosts S F D J) (stores : store.Ghosts D) (devices : disks.Ghosts J)
+    (moving : store.Ghosts (Moving D)) (before after : S) (words : PullWords) (old new : Option (List ℕ)) : Type 0 where
+  pub ready : S
   pub asked : Asked
   pub counts : Counts
+  pub is_ready : IsReady facts devices before ready words
   pub is_asked : IsAsked words asked
   pub profile : IsTableLine (own_line words asked)
-  pub filled : IsFilled facts stores moving before after words asked counts
+  pub filled : IsFilled facts stores moving ready after words asked counts
   pub printed : Appends old new (pulled_lines counts (own_line words asked))

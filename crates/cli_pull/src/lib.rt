@@ -10,7 +10,7 @@
 //! `verity_pull::pull_either` says, over four stores: each local block is what it was, or ends a chain of given blocks.
 //!
 //! Its errors: words that aren't understood, S1 to S7, L1 to L9, B1 to B10, E13, V1 to V3, U2, want of memory. A commit that was cut short
-//! in HASH's journal is refused (S6).
+//! in HASH's journal is recovered first (`os_journal`); one in the source's is refused (S6).
 //!
 //! The definitions stand in `specs/`: `Words` (what was asked for), `Superblocks` (the superblock that is laid), `Opening` (what is opened,
 //! left and closed), `Printed` (what is printed, and what was done then), `Faults` (what a fault is refused with).

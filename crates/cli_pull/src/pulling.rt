@@ -2,7 +2,7 @@
 ghost use Rattle.std.specs.Prelude.{◌≡◌, ◌≤◌, ◌^◌, ◌+◌, length, IfOk, OnOk};
 ghost use Rattle.std.specs.Io.KnownBytes.{Appends};
 ghost use Rattle.verity_chain.specs.Table.{tree_len};
-ghost use Rattle.cli_pull.specs.Printed.{pulled_text, IsDoneBy, IsFilled, IsPulledThere};
+ghost use Rattle.cli_pull.specs.Printed.{pulled_text, IsDoneBy, IsFilled, IsPulledThere, IsReady};
 ghost use Rattle.cli_pull.specs.Words.{own_line, IsElsewhere};
 
 use crate::faults::failure_of;
@@ -11,23 +11,25 @@ use crate::local::{Local, open_local, unmake};
 use crate::meter::Pace;
 use crate::source::{Source, open_source};
 use crate::superblock::superblock_of;
+use os_journal::recover_volume;
 use std::io::{Eprint, IsTerminal, Write};
 use std::time::Clock;
 use verity_chain::Tree;
-use verity_files::{Failure, System, check_paths};
+use verity_files::{Failure, Fault, System, check_paths};
 use verity_gate::check_gate;
 use verity_moved::Moved;
 use verity_pull::{Counts, pull_either};
 use verity_store::BlockStore;
 use verity_superblock::Table;
 use verity_watch::Watched;
-use verity_words::{PullWords, explain_unused_line};
+use verity_words::{PullWords, explain_recovered, explain_unused_line};
 
 /// Makes DATA and HASH the volume of the line `--to`, from the devices that it names, and prints how many data blocks were fetched and
 /// kept, and the line of the volume.
 ///
-/// The words are read first, then the source is opened, DATA and HASH are opened or made, told apart from the source and locked. DATA and
-/// HASH that were made are removed where nothing was written to them. Where `errors` is a terminal, it shows how far it is.
+/// The words are read first, and a commit that a crash cut short in HASH's journal is recovered; then the source is opened, DATA and HASH
+/// are opened or made, told apart from the source and locked. DATA and HASH that were made are removed where nothing was written to them.
+/// Where `errors` is a terminal, it shows how far it is.
 pub fn pull<R: Clock + Eprint + AllocGlobal, S: System, W: Write, E: Write + IsTerminal>(
     rt: &R,
     system: &mut S,
@@ -35,8 +37,8 @@ pub fn pull<R: Clock + Eprint + AllocGlobal, S: System, W: Write, E: Write + IsT
     output: &mut W,
     errors: &mut E,
 ) -> Result<(), Failure>
-    ensures pulled { OnOk result (IsPulledThere S.System S.Store.BlockStore ⟦<Moved<S::Store> as BlockStore>⟧ system.old system.new
-        words.now (W.contents output.old) (W.contents output.new)) }
+    ensures pulled { OnOk result (IsPulledThere S.System S.Store.BlockStore S.Journalled.Disks ⟦<Moved<S::Store> as BlockStore>⟧
+        system.old system.new words.now (W.contents output.old) (W.contents output.new)) }
 {
     check_paths(words.data_path, words.hash_path)?;
     let asked = read_asked(rt.alloc(), words)?;
@@ -48,6 +50,8 @@ pub fn pull<R: Clock + Eprint + AllocGlobal, S: System, W: Write, E: Write + IsT
         asked.start,
     )?;
     let text = tree.table().text()?;
+    let is_recovered = recover_first(system, words)?;
+    tell_recovered(is_recovered, words.hash_path, errors);
     let counts = pull_files(rt, system, words, &asked, &mut tree, errors)?;
     print_pulled(counts, &text, output)
 }
@@ -60,6 +64,28 @@ fn print_pulled<W: Write>(counts: Counts, line: &str, output: &mut W) -> Result<
     writeln!(output, "kept {kept}")?;
     writeln!(output, "pulled {line}")?;
     Ok(())
+}
+
+/// Recovers the volume at the paths of DATA and HASH where the commit flag of the journal beside HASH is open. It tells whether it was.
+fn recover_first<S: System>(system: &mut S, words: &PullWords<'_>) -> Result<bool, Failure>
+    ensures ready { OnOk result (IsReady S.System S.Journalled.Disks system.old system.new words.now) }
+{
+    match check_gate(system, words.hash_path) {
+        Err(Failure::Refused(Fault::UnderWay)) => {
+            recover_volume(system, words.data_path, words.hash_path, None)
+        }
+        checked => {
+            checked?;
+            Ok(false)
+        }
+    }
+}
+
+/// Says so, where a commit was recovered.
+fn tell_recovered<E: Write>(is_recovered: bool, hash_path: &str, errors: &mut E) {
+    if is_recovered {
+        explain_recovered(hash_path, errors);
+    }
 }
 
 /// Opens the four files, pulls, and closes DATA and HASH. Either of them that was made is removed where nothing was written to it.
@@ -78,7 +104,6 @@ fn pull_files<R: Clock + Eprint + AllocGlobal, S: System, E: Write + IsTerminal>
     ensures same { tree.new ≡ tree.old }
 {
     let source = open_source(system, &asked.to, source_end(&asked.to, tree))?;
-    // HASH's journal: what a commit left there that was cut short is refused, and isn't recovered yet.
     check_gate(system, words.hash_path)?;
     let local = open_local(system, words, tree, &source)?;
     let Local {

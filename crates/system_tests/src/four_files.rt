@@ -6,6 +6,7 @@ use std::io;
 use std::io::ErrorKind;
 use test_stores::FailStore;
 use verity_files::{Failure, Fault, Identity, Lock, Part, System};
+use verity_journal::{Device, TearingDisks};
 use verity_store::{BlockStore, MemStore, StoreFault, Which};
 
 /// Which of the files, by their paths `from`, `from.hash`, `data` and `hash`.
@@ -81,12 +82,14 @@ impl FourFiles {
 }
 
 impl System for FourFiles {
-    ghost use Rattle.std.specs.Prelude.{true, vec_len, ⊤};
+    ghost use Rattle.std.specs.Prelude.{true, vec_len, None, ⊤};
     ghost use Rattle.system_tests.specs.Identities.{identity_of_four};
 
     type File = FourOpened;
 
     type Store = FailStore<MemStore>;
+
+    type Journalled = TearingDisks;
 
     ghost refuses = { λ _. true };
 
@@ -110,11 +113,21 @@ impl System for FourFiles {
 
     ghost begins = { λ _ _ _. ⊤ };
 
+    ghost reads = { λ _ _ _ _. ⊤ };
+
     ghost has_len = { λ _ opened len. ⊤ };
 
     ghost lies = { λ _ _ _ _. ⊤ };
 
     ghost closes = { λ _ _ _ _. ⊤ };
+
+    ghost joins = { λ _ _ _ _ _. ⊤ };
+
+    ghost parts = { λ _ _ _ _ _ _. ⊤ };
+
+    ghost failed_last = { λ _. None };
+
+    ghost removes = { λ _ _ _. ⊤ };
 
     fn alloc(&self) -> Global {
         self.alloc
@@ -211,6 +224,41 @@ impl System for FourFiles {
         }
         Ok(())
     }
+
+    // It has no journals.
+    fn read_at(&self, _file: &FourOpened, _at: u64, _out: &mut [u8]) -> io::Result<()> {
+        Err(ErrorKind::Unsupported.into())
+    }
+
+    fn journalled(
+        &self,
+        _image: FourOpened,
+        _device: FourOpened,
+        _journal: FourOpened,
+        _bytes: Vec<u8>,
+    ) -> Result<TearingDisks, StoreFault> {
+        Err(StoreFault::Device)
+    }
+
+    fn last_failed(&self, _disks: &TearingDisks) -> Option<Device> {
+        None
+    }
+
+    fn close_journalled(
+        &mut self,
+        _data_path: &str,
+        _hash_path: &str,
+        _journal_path: &str,
+        _disks: TearingDisks,
+    ) -> Result<(), StoreFault> {
+        Ok(())
+    }
+
+    fn sync_folder(&self, _path: &str) -> io::Result<()> {
+        Ok(())
+    }
+
+    fn remove(&mut self, _path: &str) {}
 
     fn unmake(&mut self, path: &str) {
         match named(path) {

@@ -7,7 +7,7 @@ use std::rt::Files;
 use verity_build::BuildFault;
 use verity_check::CheckFault;
 use verity_edit::EditFault;
-use verity_files::{Command, Fault, open_locked};
+use verity_files::{Command, Fault, Paths, open_there};
 use verity_store::{StoreFault, Which};
 use verity_superblock::{SuperFault, TableFault};
 
@@ -70,9 +70,22 @@ fn look_at_four<'a, R: Files<File = File>>(
 
 /// Which of two files another program works on: the source's, where a reader is shut out of it.
 fn in_use<'a, R: Files<File = File>>(rt: &R, parts: Parts<'a>, which: Which) -> &'a str {
-    match open_locked(rt, parts.path(which), Command::Verify, which) {
-        Err(Fault::InUse(_)) => parts.path(which),
-        _ => parts.made_path(which),
+    let path = parts.path(which);
+    if is_shut_out(rt, path, which) {
+        path
+    } else {
+        parts.made_path(which)
+    }
+}
+
+/// Whether another program's lock shuts a reader out of a file.
+fn is_shut_out<R: Files<File = File>>(rt: &R, path: &str, which: Which) -> bool {
+    match open_there(rt, path, Command::Verify, which) {
+        Ok(opened) => matches!(
+            rt.lock(&opened, Command::Verify.lock(), which),
+            Err(Fault::InUse(_))
+        ),
+        Err(_) => false,
     }
 }
 

@@ -24,17 +24,17 @@ pub const FORM: Form<'static> = Form {
         Parameter {
             name: "to",
             help: "The trusted table line, which names the source's devices",
-            kind: Kind::Required,
+            kind: Kind::Required("LINE"),
         },
         Parameter {
             name: "table",
             help: "The trusted table line of the volume as it stands, of which nothing is read that both lines name alike",
-            kind: Kind::Optional,
+            kind: Kind::Optional("LINE"),
         },
         Parameter {
             name: "uuid",
             help: "The UUID of the volume; that of HASH, or of the source, where none is named",
-            kind: Kind::Optional,
+            kind: Kind::Optional("UUID"),
         },
         OWN_OFFSET,
         QUIET,

@@ -17,6 +17,8 @@ returns g c =
     c.deref.ensures ∙ (c.in_ok-text.ensures.text ∙ (ap canonical c.table.ensures.value ∙ ap canonical line)) in
     record {
       pulled = on_ok c.print_pulled.result (λ printed. record {
+        ready = c.recover_first.new.system;
+        is_ready = c.in_ok-is_recovered.ensures.ready;
         asked = asked;
         counts = counts;
         is_asked = c.in_ok-asked.ensures.asked;
