@@ -1,18 +1,13 @@
 //! Whole commands over a system in memory, whose files keep what is written, or fail at a call.
 //!
 //! [`MemSystem`] has three files, `data`, `hash` and `hash.journal`; each store over one fails at the call that it is told. What a command
-//! promises over any system is, over this one where nothing fails, said of its files: [`format_in_memory`]. [`FourFiles`] has a source's
-//! two files and two that are made of it, for `pull`.
+//! promises over any system is, over this one where nothing fails, said of its files: [`format_in_memory`].
 #![tactic(auto)]
 
 #[cfg(test)]
 mod commands;
 mod formats;
-mod four_files;
 mod memory;
-#[cfg(test)]
-mod pulls;
 
 pub use formats::format_in_memory;
-pub use four_files::{Four, FourFiles, FourOpened};
 pub use memory::{MemOpened, MemSystem, Name};
