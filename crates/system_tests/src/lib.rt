@@ -2,8 +2,7 @@
 //!
 //! [`MemSystem`] has three files, `data`, `hash` and `hash.journal`; each store over one fails at the call that it is told. The devices of
 //! a journal end after so many calls, and of what was done to them since their last sync nothing is kept. What a command promises over any
-//! system is, over this one, said of its files: [`format_in_memory`], [`recover_in_memory`]. [`FourFiles`] has a source's two files and two
-//! that are made of it, for `pull`.
+//! system is, over this one, said of its files: [`format_in_memory`], [`recover_in_memory`].
 #![tactic(auto)]
 
 #[cfg(test)]
@@ -11,13 +10,9 @@ mod commands;
 #[cfg(test)]
 mod crashes;
 mod formats;
-mod four_files;
 mod memory;
-#[cfg(test)]
-mod pulls;
 mod recovers;
 
 pub use formats::format_in_memory;
-pub use four_files::{Four, FourFiles, FourOpened};
 pub use memory::{MemOpened, MemSystem, Name};
 pub use recovers::recover_in_memory;
