@@ -10,6 +10,7 @@ Commands:
   dump     Prints the superblock of a hash device
   edit     Does a script's lines over a volume, and prints an answer to each
   update   Makes a volume that of another image, by what differs, with one commit
+  pull     Makes DATA and HASH the volume of a trusted table line, from the devices that it names
   recover  Recovers a commit that a crash cut short
   verify   Reports what is wrong in a volume
   serve    Serves a volume over NBD, to up to 64 clients at once

@@ -115,7 +115,7 @@ def before():
         yield Case(f"serve: listen 'unix:{path}'", [*SERVE, "--listen", f"unix:{path}"], "refused N6\n", 1, FILES)
     yield Crowded()
     yield Cramped()
-    yield Case("serve: no address", SERVE, ["error: ", "--listen <listen>"], 2, FILES)
+    yield Case("serve: no address", SERVE, ["error: ", "--listen <ADDRESS>"], 2, FILES)
     yield Case("serve: an output that can't be written", [*SERVE, "--listen", "127.0.0.1:0"], "", 1, FILES,
                sink="/dev/full", errors=["dalgovuun: standard output can't be written"])
 
