@@ -38,6 +38,7 @@ pub enum Word {
     Memory,
     Idle,
     Journal,
+    Timeout,
 }
 
 impl fmt::Display for Word {
@@ -63,6 +64,7 @@ impl fmt::Display for Word {
             Word::Memory => "--memory",
             Word::Idle => "--idle",
             Word::Journal => "--journal",
+            Word::Timeout => "--timeout",
         })
     }
 }
@@ -89,6 +91,7 @@ impl Word {
             Word::Idle => "a count of seconds, in decimal digits",
             Word::Journal =>
                 "a path that leads neither to DATA nor to HASH; none, of edit and update, for no journal; a device has one only if named",
+            Word::Timeout => "a count of seconds, in decimal digits, from 1 to 86400",
         }
     }
 }

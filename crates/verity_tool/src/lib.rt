@@ -7,6 +7,7 @@
 //! over an output whose bytes are known; all else that is printed and refused is shown by tests.
 #![tactic(auto)]
 
+mod anywhere;
 mod dump;
 mod program;
 mod recover;
