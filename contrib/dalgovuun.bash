@@ -2,19 +2,20 @@
 _dalgovuun() {
     local current=${COMP_WORDS[COMP_CWORD]} before=${COMP_WORDS[COMP_CWORD - 1]} options
     if [ "$COMP_CWORD" -eq 1 ]; then
-        mapfile -t COMPREPLY < <(compgen -W 'format dump edit update recover verify serve talk help --help --version' -- "$current")
+        mapfile -t COMPREPLY < <(compgen -W 'format dump edit update pull recover verify serve talk help --help --version' -- "$current")
         return
     fi
     case $before in
     --algorithm) mapfile -t COMPREPLY < <(compgen -W 'sha256 sha512' -- "$current"); return ;;
     --journal) mapfile -t COMPREPLY < <(compgen -f -- "$current"); return ;;
-    --cache | --data-block-size | --data-blocks | --hash-block-size | --hash-offset | --idle | --listen | --memory | --name | --salt | --sessions | --table | --timeout | --uuid) return ;;
+    --cache | --data-block-size | --data-blocks | --hash-block-size | --hash-offset | --idle | --listen | --memory | --name | --salt | --sessions | --table | --timeout | --to | --uuid) return ;;
     esac
     case ${COMP_WORDS[1]} in
     format) options='--salt --uuid --data-blocks --data-block-size --hash-block-size --algorithm --hash-offset --quiet --help' ;;
     dump) options='--hash-offset --help' ;;
     edit) options='--hash-offset --table --journal --quiet --help' ;;
     update) options='--hash-offset --table --journal --quiet --help' ;;
+    pull) options='--to --table --uuid --hash-offset --timeout --quiet --help' ;;
     recover) options='--journal --help' ;;
     verify) options='--table --timeout --quiet --help' ;;
     serve) options='--table --listen --name --cache --sessions --memory --idle --timeout --help' ;;

@@ -33,7 +33,7 @@ def unopened():
 
 def not_understood():
     files = {**FILES, "script": b"commit\n"}
-    rows = {"format": ["--salt", "00", "--uuid", UUID], "edit": ["script"], "update": ["script"], "recover": []}
+    rows = {"format": ["--salt", "00", "--uuid", UUID], "edit": ["script"], "update": ["script"], "recover": [], "pull": ["--to", LINE]}
     for command, more in rows.items():
         for url in ("http://127.0.0.1:1/x", "nbd://h", "nbd+unix:///?socket=x", "http:///"):
             for word, paths in (("DATA", [url, "hash"]), ("HASH", ["data", url])):

@@ -15,10 +15,11 @@ def words(*more, salted=SALTED, sizes=SMALL, paths=("data", "hash")):
 
 
 def made(name, volume, given, files=None, spelled=None):
-    """A device that is made: its line, and its bytes from the first to the last."""
+    """A device that is made: its line, its bytes from the first to the last, and whether Linux maps blocks of that size."""
     data = image(volume.blocks, volume.data_size)
+    unmapped = [f"dalgovuun: data blocks of {volume.data_size} bytes: Linux maps data blocks of at most a page of memory (4096 bytes on x86-64)"]
     return Case(f"format: {name}", given, volume.line(data) + "\n", files={"data": data, **(files or {})},
-                leaves={"hash": volume.device(data)})
+                leaves={"hash": volume.device(data)}, errors=unmapped if volume.data_size > 4096 else None)
 
 
 def refused(name, fault, given, files=None, leaves=None):
@@ -43,6 +44,8 @@ def volumes():
                words(sizes=["--data-block-size", "4096", "--hash-block-size", "512"]))
     yield made("larger hash blocks", Volume(17, hash_size=4096, **plain),
                words(sizes=["--data-block-size", "512", "--hash-block-size", "4096"]))
+    yield made("data blocks of two pages", Volume(3, data_size=8192, **plain),
+               words(sizes=["--data-block-size", "8192", "--hash-block-size", "512"]))
     yield made("the largest blocks", Volume(2, data_size=524288, hash_size=524288, **plain),
                words(sizes=["--data-block-size", "524288", "--hash-block-size", "524288"]))
     for blocks in (8, 9):

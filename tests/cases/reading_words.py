@@ -10,7 +10,7 @@ Commands:
   dump     Prints the superblock of a hash device
   edit     Does a script's lines over a volume, and prints an answer to each
   update   Makes a volume that of another image, by what differs, with one commit
-  recover  Makes whole a commit that a stop cut short
+  recover  Recovers a commit that a crash cut short
   verify   Reports what is wrong in a volume
   serve    Serves a volume over NBD, to up to 64 clients at once
   talk     Serves a volume to one NBD client, over standard input and output
@@ -29,17 +29,17 @@ Arguments:
   <HASH>  The hash device
 
 Options:
-      --hash-offset <hash-offset>  The superblock's place in HASH, in bytes [default: 0]
-  -h, --help                       Print help
+      --hash-offset <BYTES>  The superblock's position in HASH, in bytes [default: 0]
+  -h, --help                 Print help
 
 Example:
   dalgovuun dump image.hash
 """
 
 MISSING = """error: the following required arguments were not provided:
-  --uuid <uuid>
+  --uuid <UUID>
 
-Usage: dalgovuun format --salt <salt> --uuid <uuid> <DATA> <HASH>
+Usage: dalgovuun format --salt <HEX> --uuid <UUID> <DATA> <HASH>
 
 For more information, try '--help'.
 """
@@ -57,7 +57,7 @@ def cases():
         yield Case(f"{words}", words, HELP)
     for words in (["dump", "--help"], ["dump", "-h"], ["help", "dump"]):
         yield Case(f"{words}", words, DUMP_HELP)
-    yield Case("help of format", ["format", "--help"], ["Usage: dalgovuun format", "--salt <salt>", "[default: 4096]"])
+    yield Case("help of format", ["format", "--help"], ["Usage: dalgovuun format", "--salt <HEX>", "[default: 4096]"])
     yield Case("a command that isn't there", ["qqq"], UNKNOWN, 2)
     yield Case("an option that isn't given", ["format", "data", "hash", "--salt", "none"], MISSING, 2,
                {"data": bytes(512)}, {"hash": None})

@@ -15,7 +15,7 @@ SMALL = ["--salt", "00ff", "--uuid", UUID, "--data-block-size", "512", "--hash-b
 LINE = volume(17).line(DATA)
 FILLED = DATA[:3 * 512] + b"\xff" * 512 + DATA[4 * 512:]
 DONE, NOTHING = "recovered\n", "nothing to recover\n"
-TOLD = ["dalgovuun: hash: a commit that was cut short was made whole first"]
+TOLD = ["dalgovuun: hash: a commit that a crash cut short was recovered first"]
 # what a journal begins with: a magic, and the version
 HEAD = b"dalgjrnl" + struct.pack("<L", 1)
 OTHER_UUID = "76543210-89ab-cdef-0123-456789abcdef"
@@ -99,6 +99,20 @@ def named():
     yield case("edit --journal PATH where there is no folder", [*edit, "no/journal"], "refused S7\n", 1, **script)
     yield case("edit --journal HASH.journal", [*edit, "./hash.journal"], f"committed {volume(17).line(NEW)}\n", kept=journal(1),
                leaves=gone(data=NEW, hash=NEW_HASHES), errors=TOLD, **script)
+    yield from pulled()
+
+
+def pulled():
+    """`pull` recovers what `recover` would, and a journal of another volume is refused before anything is pulled."""
+    to = volume(17)
+    words = ["pull", "data", "hash", "--to", to.line(FILLED, "from", "from.hash")]
+    source = {"from": FILLED, "from.hash": to.device(FILLED)}
+    fetched = sum(FILLED[at:at + 512] != NEW[at:at + 512] for at in range(0, len(FILLED), 512))
+    done = f"fetched {fetched}\nkept {17 - fetched}\npulled {to.line(FILLED)}\n"
+    yield case("pull beside an open commit flag", words, done, kept=journal(1), leaves=gone(data=FILLED, hash=to.device(FILLED)),
+               errors=TOLD, **source)
+    yield case("pull beside an open commit flag of another volume", words, "refused S7\n", 1,
+               kept=journal(1, names=volume_named(of=OTHER_UUID)), leaves={"data": DATA, "hash": HASHES}, **source)
 
 
 def foreign():

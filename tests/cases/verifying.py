@@ -122,4 +122,4 @@ def cases():
     data = image(17)
     yield Case("verify: an output that can't be written", ["verify", "--table", SMALL.line(data)], "", 1,
                {"data": data, "hash": SMALL.device(data)}, sink="/dev/full")
-    yield Case("verify: no table line", ["verify"], ["error: ", "--table <table>"], 2)
+    yield Case("verify: no table line", ["verify"], ["error: ", "--table <LINE>"], 2)

@@ -2,7 +2,9 @@
 
 ghost use Rattle.std.specs.Prelude.{◌≡◌, None};
 
+use std::fs::File;
 use std::io::{self, ErrorKind};
+use verity_files::VolumeFile;
 use verity_store::RawFile;
 
 /// One thing that is here, or another at a server.
@@ -19,8 +21,18 @@ pub struct Remote<F> {
     pub len: u64,
 }
 
-// Nothing is known of the bytes, wherever they are, and none is written.
-impl<L: RawFile, F: RawFile> RawFile for Located<L, F> {
+/// That nothing is known of the bytes of a file here.
+fn unknown(file: &VolumeFile<File>)
+    ensures { ⟦<VolumeFile<File> as RawFile>⟧.bytes file.now ≡ None }
+{
+    match file {
+        VolumeFile::Regular(_) => {}
+        VolumeFile::Part(_) => {}
+    }
+}
+
+// Nothing is known of the bytes, wherever they are; at a server none is written.
+impl<F: RawFile> RawFile for Located<VolumeFile<File>, F> {
     fn byte_len(&self) -> io::Result<u64> {
         match self {
             Located::Here(file) => file.byte_len(),
@@ -35,15 +47,27 @@ impl<L: RawFile, F: RawFile> RawFile for Located<L, F> {
         }
     }
 
-    fn write_all_at(&mut self, _at: u64, _block: &[u8]) -> io::Result<()> {
-        Err(io::Error::from(ErrorKind::ReadOnlyFilesystem))
+    fn write_all_at(&mut self, at: u64, block: &[u8]) -> io::Result<()> {
+        match self {
+            Located::Here(file) => {
+                unknown(file);
+                file.write_all_at(at, block)
+            }
+            Located::There(_) => Err(io::Error::from(ErrorKind::ReadOnlyFilesystem)),
+        }
     }
 
-    fn set_byte_len(&mut self, _n: u64) -> io::Result<()> {
-        Err(io::Error::from(ErrorKind::ReadOnlyFilesystem))
+    fn set_byte_len(&mut self, n: u64) -> io::Result<()> {
+        match self {
+            Located::Here(file) => file.set_byte_len(n),
+            Located::There(_) => Err(ErrorKind::ReadOnlyFilesystem.into()),
+        }
     }
 
     fn sync(&mut self) -> io::Result<()> {
-        Ok(())
+        match self {
+            Located::Here(file) => file.sync(),
+            Located::There(_) => Ok(()),
+        }
     }
 }

@@ -13,8 +13,10 @@ use crate::stores::{Lying, store_here, store_there};
 use remote_origin::OriginFault;
 use remote_url::{Source, source_of};
 use std::alloc::Global;
-use std::io;
-use verity_files::{Failure, Fault, Host, Identity, Lock, Opened, Part, Paths, System};
+use std::fs::File;
+use std::io::{self, ErrorKind};
+use verity_files::{Failure, Fault, Host, Identity, Lock, Opened, Part, Paths, System, VolumeFile};
+use verity_journal::{Device, FileDisks};
 use verity_store::{FileStore, RawFile, StoreFault, Which};
 
 /// What was opened: a file or a block device here, or a file at a server.
@@ -26,7 +28,7 @@ pub type OsStore<F> = FileStore<Lying<F>>;
 /// The number of no block device: what lies at a server is told apart from each file and each device here.
 const SERVERS: u64 = u64::MAX;
 
-/// The real system, whose files are asked for by their paths, and those at servers by their URLs. It is only read.
+/// The real system, whose files are asked for by their paths, and those at servers by their URLs. What is at a server is only read.
 #[derive(Drop)]
 pub struct OsSystem<'a, P, V> {
     paths: &'a P,
@@ -78,7 +80,7 @@ fn store_fault(fault: &OriginFault) -> StoreFault
     }
 }
 
-// A store is over what was opened at that path or URL, and nothing is opened to be written.
+// A store is over what was opened at that path or URL, and nothing at a server is opened to be written.
 impl<'a, P: Paths + AllocGlobal, V: Servers> System for OsSystem<'a, P, V> {
     ghost use Rattle.std.specs.Prelude.{◌≡◌, ◌⊎◌, true, ⊤, length};
     ghost use Rattle.remote_url.specs.Grammar.{HasScheme};
@@ -90,6 +92,8 @@ impl<'a, P: Paths + AllocGlobal, V: Servers> System for OsSystem<'a, P, V> {
 
     type Store = OsStore<V::File>;
 
+    type Journalled = FileDisks<VolumeFile<File>>;
+
     ghost refuses = { λ _. true };
 
     ghost identity = { λ file. identity_of file };
@@ -99,7 +103,8 @@ impl<'a, P: Paths + AllocGlobal, V: Servers> System for OsSystem<'a, P, V> {
     ghost opens = { λ system path file. OpensAt (λ path opened. P.opens system.paths.now path opened
         × P.permits system.paths.now opened false) (V.reaches system.servers.now) path file };
 
-    ghost opens_to_write = { λ _ _ _ _. ⊥ };
+    ghost opens_to_write = { λ old path file new. (new.paths.now ≡ old.paths.now) × OpensAt (λ path opened.
+        P.opens old.paths.now path opened × P.permits old.paths.now opened true) (λ _ _ _. ⊥) path file };
 
     ghost locks = { λ system file lock. ByPlace (λ opened. P.locks system.paths.now opened lock) (λ _. ⊤) file };
 
@@ -114,12 +119,22 @@ impl<'a, P: Paths + AllocGlobal, V: Servers> System for OsSystem<'a, P, V> {
     ghost begins = { λ system file bytes. ByPlace (λ opened. P.begins system.paths.now opened bytes)
         (λ remote. Reads (V.File.bytes remote.file) 0 bytes) file };
 
+    ghost reads = { λ system file at bytes. ByPlace (λ opened. P.reads system.paths.now opened.file at bytes) (λ _. ⊥) file };
+
     ghost has_len = { λ system file len. ByPlace
         (λ opened. IsLenOf P.Paths system.paths.now opened.identity opened.file opened.len len) (λ remote. len ≡ remote.len) file };
 
     ghost lies = { λ _ file part store. LiesOver file part store.size store.blocks store.file.file };
 
-    ghost closes = { λ _ _ _ _. ⊥ };
+    ghost closes = { λ old _ _ new. new.paths.now ≡ old.paths.now };
+
+    ghost joins = { λ _ _ _ _ _. ⊤ };
+
+    ghost parts = { λ old _ _ _ _ new. new.paths.now ≡ old.paths.now };
+
+    ghost failed_last = { λ disks. disks.last_failed };
+
+    ghost removes = { λ old _ new. new.paths.now ≡ old.paths.now };
 
     fn alloc(&self) -> Global {
         self.paths.alloc()
@@ -152,13 +167,17 @@ impl<'a, P: Paths + AllocGlobal, V: Servers> System for OsSystem<'a, P, V> {
         }
     }
 
-    /// Nothing is opened to be written.
+    /// Nothing at a server is opened to be written.
     fn open_to_write(
         &mut self,
-        _path: &str,
-        _makes: bool,
+        path: &str,
+        makes: bool,
     ) -> Result<(OsFile<V::File>, bool), StoreFault> {
-        Err(StoreFault::Device)
+        if is_url(path) {
+            return Err(StoreFault::Device);
+        }
+        let (opened, is_made) = Host::new(self.paths).open_to_write(path, makes)?;
+        Ok((Located::Here(opened), is_made))
     }
 
     /// At a server no lock is taken.
@@ -196,6 +215,14 @@ impl<'a, P: Paths + AllocGlobal, V: Servers> System for OsSystem<'a, P, V> {
         }
     }
 
+    /// What lies at a server isn't read so.
+    fn read_at(&self, file: &OsFile<V::File>, at: u64, out: &mut [u8]) -> io::Result<()> {
+        match file {
+            Located::Here(opened) => Host::new(self.paths).read_at(opened, at, out),
+            Located::There(_) => Err(io::Error::from(ErrorKind::Unsupported)),
+        }
+    }
+
     fn store(
         &self,
         file: OsFile<V::File>,
@@ -209,8 +236,48 @@ impl<'a, P: Paths + AllocGlobal, V: Servers> System for OsSystem<'a, P, V> {
     }
 
     fn close(&mut self, _path: &str, _store: OsStore<V::File>) -> Result<(), StoreFault> {
-        Err(StoreFault::Device)
+        Ok(())
     }
 
-    fn unmake(&mut self, _path: &str) {}
+    /// No journal lies at a server.
+    fn journalled(
+        &self,
+        image: OsFile<V::File>,
+        device: OsFile<V::File>,
+        journal: OsFile<V::File>,
+        bytes: Vec<u8>,
+    ) -> Result<FileDisks<VolumeFile<File>>, StoreFault> {
+        match (image, device, journal) {
+            (Located::Here(image), Located::Here(device), Located::Here(journal)) => {
+                Host::new(self.paths).journalled(image, device, journal, bytes)
+            }
+            _ => Err(StoreFault::Device),
+        }
+    }
+
+    fn last_failed(&self, disks: &FileDisks<VolumeFile<File>>) -> Option<Device> {
+        disks.last_failed()
+    }
+
+    fn close_journalled(
+        &mut self,
+        _data_path: &str,
+        _hash_path: &str,
+        _journal_path: &str,
+        _disks: FileDisks<VolumeFile<File>>,
+    ) -> Result<(), StoreFault> {
+        Ok(())
+    }
+
+    fn sync_folder(&self, path: &str) -> io::Result<()> {
+        self.paths.sync_folder(path)
+    }
+
+    fn remove(&mut self, path: &str) {
+        self.paths.remove(path);
+    }
+
+    fn unmake(&mut self, path: &str) {
+        Host::new(self.paths).unmake(path);
+    }
 }

@@ -1,13 +1,16 @@
 //! A system of three files in memory.
-ghost use Rattle.std.specs.Prelude.{◌≡◌, ◌/◌, ◌<◌, ◌↔◌, true, codes, length, vec_len, IfOk, IfErr, IfSome};
+ghost use Rattle.std.specs.Prelude.{◌≡◌, ◌/◌, ◌<◌, ◌↔◌, true, None, codes, length, vec_len, IfOk, IfErr, IfSome};
 ghost use Rattle.verity_files.specs.Errors.{IsOfSystem};
+ghost use Rattle.verity_journal.specs.Tearing.{kept_of};
 ghost use Rattle.verity_profile.specs.Profile.{IsBlockSize};
+ghost use Rattle.system_tests.specs.Files.{device_of, journal_of, IsOpened};
 
 use std::alloc::Global;
 use std::io;
 use std::io::ErrorKind;
 use test_stores::FailStore;
 use verity_files::{Failure, Fault, Identity, Lock, Part, System};
+use verity_journal::{Device, Disks, TearingDisks};
 use verity_profile::is_block_size;
 use verity_store::{BlockStore, MemStore, StoreFault, Which};
 
@@ -28,6 +31,8 @@ pub struct MemSystem {
     pub journal: Option<Vec<u8>>,
     /// Which call on each store fails, counted from 1; 0 for none.
     pub due: u64,
+    /// After how many calls the devices of a journal end.
+    pub calls: u64,
 }
 
 /// A file that was opened, with the bytes that it had then.
@@ -56,6 +61,17 @@ fn first_blocks(bytes: Vec<u8>, blocks: u64, size: usize) -> Result<MemStore, St
     MemStore::new(bytes, size)
 }
 
+/// What is on a device.
+fn kept(alloc: Global, disks: &TearingDisks, device: Device) -> Result<Vec<u8>, StoreFault>
+    ensures kept { IfOk result (λ bytes. bytes.items ≡ (kept_of disks.now.devices device).durable) }
+    ensures refused { IfErr result (IsOfSystem (true ≡ true)) }
+{
+    match disks.device(device).durable().to_vec(alloc) {
+        Ok(bytes) => Ok(bytes),
+        Err(_) => Err(StoreFault::NoMemory),
+    }
+}
+
 impl MemSystem {
     /// These bytes in `data`, and no other file.
     pub fn new(alloc: Global, image: Vec<u8>, due: u64) -> MemSystem
@@ -67,12 +83,16 @@ impl MemSystem {
             device: None,
             journal: None,
             due,
+            calls: u64::MAX,
         }
     }
 
     /// The file at a path, where it is there.
     fn bytes_at(&self, path: &str) -> Option<(Name, &[u8])>
-        ensures { path.now ≡ codes "data" → IfSome result (λ found. found.1.now ≡ self.now.image.items) }
+        ensures image { path.now ≡ codes "data" → IfSome result (λ found. found.1.now ≡ self.now.image.items) }
+        ensures device { path.now ≡ codes "hash" → IfSome result (λ found. found.1.now ≡ device_of self.now) }
+        ensures journal { path.now ≡ codes "hash.journal" → IfSome result (λ found. found.1.now ≡ journal_of self.now) }
+        ensures none { path.now ≡ codes "hash.journal" → result ≡ None → self.now.journal ≡ None }
     {
         if path == "data" {
             return Some((Name::Data, &self.image));
@@ -94,7 +114,7 @@ impl MemSystem {
 
     /// What stands at a path, with its bytes.
     fn opened(&self, path: &str) -> Result<MemOpened, StoreFault>
-        ensures opened { IfOk result (λ opened. path.now ≡ codes "data" → opened.bytes.items ≡ self.now.image.items) }
+        ensures opened { IfOk result (IsOpened self.now path.now) }
         ensures refused { IfErr result (IsOfSystem (true ≡ true)) }
     {
         match self.bytes_at(path) {
@@ -108,16 +128,19 @@ impl MemSystem {
 }
 
 impl System for MemSystem {
-    ghost use Rattle.std.specs.Prelude.{◌≡◌, ◌≢◌, codes, true, Some, length, vec_len, ⊤};
+    ghost use Rattle.std.specs.Prelude.{◌≡◌, ◌≢◌, codes, true, None, Some, length, vec_len, take, drop, ⊤};
     ghost use Rattle.std.specs.List.{concat};
     ghost use Rattle.std.specs.Option.{option_map};
     ghost use Rattle.verity_files.specs.declared.part.Part.TheVariants as part;
     ghost use Rattle.verity_files.specs.declared.identity.Identity.{Identity};
+    ghost use Rattle.system_tests.specs.Files.{AreJoined, AreParted, IsOpened};
     ghost use Rattle.system_tests.specs.Identities.{identity_of};
 
     type File = MemOpened;
 
     type Store = FailStore<MemStore>;
+
+    type Journalled = TearingDisks;
 
     ghost refuses = { λ _. true };
 
@@ -125,21 +148,23 @@ impl System for MemSystem {
 
     ghost len = { λ opened. vec_len opened.bytes };
 
-    ghost opens = { λ system path opened. path ≡ codes "data" → opened.bytes.items ≡ system.image.items };
+    ghost opens = { IsOpened };
 
-    ghost opens_to_write = { λ old _ _ new. new ≡ old };
+    ghost opens_to_write = { λ old path opened new. (new ≡ old) × IsOpened old path opened };
 
     ghost locks = { λ _ _ _. ⊤ };
 
     ghost shuts_out = { λ _ _ _. ⊤ };
 
-    ghost leads = { λ _ _ _. ⊤ };
+    ghost leads = { λ _ path led. led ≡ path };
 
-    ghost lacks = { λ _ _. ⊤ };
+    ghost lacks = { λ system path. path ≡ codes "hash.journal" → system.journal ≡ None };
 
     ghost has_device = { λ _ _. ⊤ };
 
     ghost begins = { λ _ _ _. ⊤ };
+
+    ghost reads = { λ _ opened at bytes. bytes ≡ take (length bytes) (drop at opened.bytes.items) };
 
     ghost has_len = { λ _ opened len. len ≡ vec_len opened.bytes };
 
@@ -149,6 +174,14 @@ impl System for MemSystem {
     ghost closes = { λ old path store new. (new.image.items ≡ old.image.items)
         × (path ≡ codes "hash" → option_map (λ bytes. bytes.items) new.device
         ≡ Some (concat (⟦<MemStore as BlockStore>⟧.content store.store))) };
+
+    ghost joins = { λ _ image device journal disks. AreJoined image device journal disks.devices };
+
+    ghost parts = { λ _ data_path hash_path path disks new. AreParted data_path hash_path path disks.devices new };
+
+    ghost failed_last = { λ _. None };
+
+    ghost removes = { λ old path new. path ≡ codes "hash.journal" → new ≡ record old { journal = None } };
 
     fn alloc(&self) -> Global {
         self.alloc
@@ -203,6 +236,17 @@ impl System for MemSystem {
         Ok(())
     }
 
+    fn read_at(&self, file: &MemOpened, at: u64, out: &mut [u8]) -> io::Result<()> {
+        let Some(rest) = file.bytes.get(at as usize..) else {
+            return Err(ErrorKind::UnexpectedEof.into());
+        };
+        let Some(bytes) = rest.get(..out.len()) else {
+            return Err(ErrorKind::UnexpectedEof.into());
+        };
+        out.copy_from_slice(bytes);
+        Ok(())
+    }
+
     fn store(
         &self,
         file: MemOpened,
@@ -225,6 +269,62 @@ impl System for MemSystem {
             self.device = Some(bytes);
         }
         Ok(())
+    }
+
+    fn journalled(
+        &self,
+        image: MemOpened,
+        device: MemOpened,
+        journal: MemOpened,
+        _bytes: Vec<u8>,
+    ) -> Result<TearingDisks, StoreFault> {
+        match TearingDisks::new(
+            self.alloc,
+            image.bytes,
+            device.bytes,
+            journal.bytes,
+            self.calls,
+        ) {
+            Ok(disks) => Ok(disks),
+            Err(_) => Err(StoreFault::NoMemory),
+        }
+    }
+
+    fn last_failed(&self, _disks: &TearingDisks) -> Option<Device> {
+        None
+    }
+
+    // What isn't synced is lost.
+    fn close_journalled(
+        &mut self,
+        data_path: &str,
+        hash_path: &str,
+        journal_path: &str,
+        disks: TearingDisks,
+    ) -> Result<(), StoreFault> {
+        let image = kept(self.alloc, &disks, Device::Data)?;
+        let device = kept(self.alloc, &disks, Device::Hash)?;
+        let journal = kept(self.alloc, &disks, Device::Journal)?;
+        if data_path == "data" {
+            self.image = image;
+        }
+        if hash_path == "hash" {
+            self.device = Some(device);
+        }
+        if journal_path == "hash.journal" {
+            self.journal = Some(journal);
+        }
+        Ok(())
+    }
+
+    fn sync_folder(&self, _path: &str) -> io::Result<()> {
+        Ok(())
+    }
+
+    fn remove(&mut self, path: &str) {
+        if path == "hash.journal" {
+            self.journal = None;
+        }
     }
 
     fn unmake(&mut self, path: &str) {

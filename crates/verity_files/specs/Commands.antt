@@ -3,11 +3,11 @@ use Rattle.std.specs.Prelude.{Bool, true, false}
 use Rattle.verity_store.specs.declared.fault.Which.{Which}
 use Rattle.verity_store.specs.declared.fault.Which.TheVariants as which
 use Rattle.verity_files.specs.declared.command.Command.{Command}
-use Rattle.verity_files.specs.declared.command.Command.TheVariants.{Format, Dump, Edit, Verify, Serve, Talk, Recover, Update}
+use Rattle.verity_files.specs.declared.command.Command.TheVariants.{Format, Dump, Edit, Verify, Serve, Talk, Recover, Update, Pull}
 use Rattle.verity_files.specs.declared.command.Lock.{Lock}
 use Rattle.verity_files.specs.declared.command.Lock.TheVariants as lock
 
--- `format` writes the hash device, `edit`, `update` and `recover` both; the others only read
+-- `format` writes the hash device, `edit`, `update`, `recover` and `pull` both; the others only read
 abbrev pub writes : Command → Which → Bool
 writes Format which.Data = false
 writes Format which.Hash = true
@@ -18,6 +18,7 @@ writes Serve w = false
 writes Talk w = false
 writes Recover w = true
 writes Update w = true
+writes Pull w = true
 
 -- one that writes works alone; those that read a volume shut out whoever writes; `dump` takes what stands there
 abbrev pub lock_of : Command → Lock
@@ -29,3 +30,4 @@ lock_of Serve = lock.Shared
 lock_of Talk = lock.Shared
 lock_of Recover = lock.Alone
 lock_of Update = lock.Alone
+lock_of Pull = lock.Alone

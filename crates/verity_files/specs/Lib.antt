@@ -1,11 +1,11 @@
+pub mod Blames
 pub mod Commands
 pub mod Errors
 pub mod Faults
 pub mod Identities
 pub mod Lengths
 pub mod Misread
-pub mod VolumeFiles
-pub mod Words
-pub mod Opening
 pub mod Parts
 pub mod Reached
+pub mod VolumeFiles
+pub mod Words

@@ -48,7 +48,7 @@ impl<'a, P: Paths> RawFile for Asked<'a, P> {
         ensures refused { OnErr result (P.refuses self.new.rt.now ≡ true) }
         ensures same { P.refuses self.new.rt.now ≡ P.refuses self.old.rt.now }
     {
-        self.rt.read_at(&mut self.file, at, out)
+        self.rt.read_at(&self.file, at, out)
     }
 
     fn write_all_at(&mut self, at: u64, block: &[u8]) -> io::Result<()>

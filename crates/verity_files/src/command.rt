@@ -15,6 +15,8 @@ pub enum Command {
     Talk,
     Recover,
     Update,
+    /// Of its own two files; it reads the source's as `Verify`.
+    Pull,
 }
 
 /// Who else may work on a file.
@@ -45,6 +47,7 @@ impl Command {
             Command::Talk => false,
             Command::Recover => true,
             Command::Update => true,
+            Command::Pull => true,
         }
     }
 
@@ -61,6 +64,7 @@ impl Command {
             Command::Talk => Lock::Shared,
             Command::Recover => Lock::Alone,
             Command::Update => Lock::Alone,
+            Command::Pull => Lock::Alone,
         }
     }
 }

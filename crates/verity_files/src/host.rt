@@ -8,10 +8,15 @@ use crate::identity::Identity;
 use crate::opening::Opened;
 use crate::part::Part;
 use crate::paths::Paths;
-use crate::stores::{VolumeStore, new_store, store_of_first, store_of_most, whole_store};
+use crate::stores::{
+    VolumeStore, new_store, store_of_first, store_of_most, whole_file, whole_store,
+};
 use crate::system::System;
+use crate::volume_file::VolumeFile;
 use std::alloc::Global;
+use std::fs::File;
 use std::io;
+use verity_journal::{Device, Disks, FileDisks};
 use verity_store::{BlockStore, StoreFault, Which};
 
 /// The real system, whose files are asked for by their paths.
@@ -31,13 +36,15 @@ impl<'a, P: Paths> Host<'a, P> {
 
 // What was opened at a path is what stands there; a store is over that very file. What became of it when it was closed isn't known.
 impl<'a, P: Paths + AllocGlobal> System for Host<'a, P> {
-    ghost use Rattle.std.specs.Prelude.{◌≡◌, true, false};
+    ghost use Rattle.std.specs.Prelude.{◌≡◌, true, false, ⊤};
     ghost use Rattle.verity_files.specs.Lengths.{IsLenOf};
     ghost use Rattle.verity_files.specs.Parts.{LiesAsPart};
 
     type File = Opened;
 
     type Store = VolumeStore;
+
+    type Journalled = FileDisks<VolumeFile<File>>;
 
     ghost refuses = { λ host. P.refuses host.paths.now };
 
@@ -62,11 +69,21 @@ impl<'a, P: Paths + AllocGlobal> System for Host<'a, P> {
 
     ghost begins = { λ host opened bytes. P.begins host.paths.now opened bytes };
 
+    ghost reads = { λ host opened at bytes. P.reads host.paths.now opened.file at bytes };
+
     ghost has_len = { λ host opened len. IsLenOf P.Paths host.paths.now opened.identity opened.file opened.len len };
 
     ghost lies = { λ _ opened part store. LiesAsPart opened part store.size store.file };
 
     ghost closes = { λ old _ _ new. new.paths.now ≡ old.paths.now };
+
+    ghost joins = { λ _ _ _ _ _. ⊤ };
+
+    ghost parts = { λ old _ _ _ _ new. new.paths.now ≡ old.paths.now };
+
+    ghost failed_last = { λ disks. disks.last_failed };
+
+    ghost removes = { λ old _ new. new.paths.now ≡ old.paths.now };
 
     fn alloc(&self) -> Global {
         self.paths.alloc()
@@ -112,6 +129,10 @@ impl<'a, P: Paths + AllocGlobal> System for Host<'a, P> {
         self.paths.read_first(file, out)
     }
 
+    fn read_at(&self, file: &Opened, at: u64, out: &mut [u8]) -> io::Result<()> {
+        self.paths.read_at(&file.file, at, out)
+    }
+
     fn store(&self, file: Opened, part: Part, size: usize) -> Result<VolumeStore, StoreFault> {
         match part {
             Part::All => whole_store(self.paths, file, size),
@@ -123,6 +144,43 @@ impl<'a, P: Paths + AllocGlobal> System for Host<'a, P> {
 
     fn close(&mut self, _path: &str, _store: VolumeStore) -> Result<(), StoreFault> {
         Ok(())
+    }
+
+    fn journalled(
+        &self,
+        image: Opened,
+        device: Opened,
+        journal: Opened,
+        bytes: Vec<u8>,
+    ) -> Result<FileDisks<VolumeFile<File>>, StoreFault> {
+        let data_len = image.len;
+        let hash_len = device.len;
+        let on_data = whole_file(image);
+        let on_hash = whole_file(device);
+        let on_journal = whole_file(journal);
+        Ok(FileDisks::over(on_data, data_len, on_hash, hash_len, on_journal, bytes))
+    }
+
+    fn last_failed(&self, disks: &FileDisks<VolumeFile<File>>) -> Option<Device> {
+        disks.last_failed()
+    }
+
+    fn close_journalled(
+        &mut self,
+        _data_path: &str,
+        _hash_path: &str,
+        _journal_path: &str,
+        _disks: FileDisks<VolumeFile<File>>,
+    ) -> Result<(), StoreFault> {
+        Ok(())
+    }
+
+    fn sync_folder(&self, path: &str) -> io::Result<()> {
+        self.paths.sync_folder(path)
+    }
+
+    fn remove(&mut self, path: &str) {
+        self.paths.remove(path);
     }
 
     fn unmake(&mut self, path: &str) {

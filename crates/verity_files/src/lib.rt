@@ -3,6 +3,7 @@
 #![tactic(auto)]
 
 mod asked;
+mod beside;
 mod command;
 mod failure;
 mod fault;
@@ -21,12 +22,13 @@ mod values;
 mod volume_file;
 
 pub use asked::Asked;
+pub use beside::{journal_fault, path_beside};
 pub use command::{Command, Lock};
 pub use failure::{Failure, Word, print_failure, status_after};
 pub use fault::Fault;
 pub use host::Host;
 pub use identity::{Identity, check_apart, file_identity};
-pub use opening::{Opened, fault_of, open_locked, open_there};
+pub use opening::{Opened, fault_of, open_there};
 pub use part::Part;
 pub use paths::Paths;
 pub use read_only::open_to_read;

@@ -1,14 +1,12 @@
 //! Files are opened here, looked at, and nothing is changed in them.
 ghost use Rattle.std.specs.Prelude.{◌≡◌, ⊤, true, IfOk, IfErr};
 ghost use Rattle.std.specs.IoError.{error_kind};
-ghost use Rattle.verity_files.specs.Commands.{lock_of, writes};
-ghost use Rattle.verity_files.specs.Errors.{IsOfLock, IsOfSystem, is_memory, store_fault_of};
-ghost use Rattle.verity_files.specs.Opening.{IsShutOut};
+ghost use Rattle.verity_files.specs.Commands.{writes};
+ghost use Rattle.verity_files.specs.Errors.{IsOfSystem, is_memory, store_fault_of};
 ghost use Rattle.verity_files.specs.declared.failure.Failure.TheVariants as failure;
 
 use crate::command::Command;
 use crate::failure::Failure;
-use crate::fault::Fault;
 use crate::identity::{Identity, file_identity};
 use crate::paths::Paths;
 use std::alloc::Global;
@@ -39,23 +37,6 @@ pub fn open_there<P: Paths>(
     ensures refused { IfErr result (IsOfSystem (P.refuses rt.now ≡ true)) }
 {
     rt.open(path, command.is_writing(which))
-}
-
-/// The same, and takes the command's lock: S5 where another program has one that shuts it out.
-pub fn open_locked<P: Paths>(
-    rt: &P,
-    path: &str,
-    command: Command,
-    which: Which,
-) -> Result<Opened, Fault>
-    ensures opened { IfOk result (P.opens rt.now path.now) }
-    ensures permitted { IfOk result (λ opened. P.permits rt.now opened (writes command which)) }
-    ensures locked { IfOk result (λ opened. P.locks rt.now opened (lock_of command)) }
-    ensures refused { IfErr result (IsOfLock (P.refuses rt.now ≡ true) (IsShutOut P.Paths rt.now path.now (lock_of command)) which) }
-{
-    let opened = open_there(rt, path, command, which)?;
-    rt.lock(&opened, command.lock(), which)?;
-    Ok(opened)
 }
 
 /// What was opened, once more.

@@ -22,6 +22,7 @@ use crate::reading::{read_script, unread};
 use std::alloc::Global;
 use std::fs::File;
 use std::io::Read;
+use std::os::unix::fs::FileExt;
 use std::rt::Files;
 use std::{fs, io};
 use verity_store::{RawFile, StoreFault, Which};
@@ -127,8 +128,8 @@ pub trait Paths {
         ensures refused { OnErr result (refuses self.now ≡ true) };
 
     /// Reads as many bytes of what was opened as `out` has, from offset `at` on.
-    fn read_at(&self, file: &mut File, at: u64, out: &mut [u8]) -> io::Result<()>
-        ensures read { OnOk result (reads self.now file.old at out.new) }
+    fn read_at(&self, file: &File, at: u64, out: &mut [u8]) -> io::Result<()>
+        ensures read { OnOk result (reads self.now file.now at out.new) }
         ensures refused { OnErr result (refuses self.now ≡ true) };
 
     /// Writes these bytes from offset `at` on.
@@ -243,8 +244,8 @@ impl<R: Files<File = File>> Paths for R {
         RawFile::byte_len(file)
     }
 
-    fn read_at(&self, file: &mut File, at: u64, out: &mut [u8]) -> io::Result<()> {
-        RawFile::read_exact_at(file, at, out)
+    fn read_at(&self, file: &File, at: u64, out: &mut [u8]) -> io::Result<()> {
+        FileExt::read_exact_at(file, out, at)
     }
 
     fn write_at(&self, file: &mut File, at: u64, bytes: &[u8]) -> io::Result<()> {

@@ -6,7 +6,7 @@
 //! [`System::close`]); so where a command's clause leads by such steps from the system before to the one after, nothing else was opened to
 //! be written. Of the real system, whose calls have no clauses, nothing is known: that it answers so is trusted.
 ghost use Rattle.std.specs.Prelude.{◌≡◌, ◌≢◌, ◌⊎◌, ◌↔◌, ◌%◌, ℕ, Bool, true, false, List, length};
-ghost use Rattle.std.specs.Prelude.{IsOk, IfOk, IfErr, OnOk, OnErr, string_bytes};
+ghost use Rattle.std.specs.Prelude.{IsOk, IfOk, IfErr, OnOk, OnErr, Option, string_bytes};
 ghost use Rattle.verity_profile.specs.Profile.{IsBlockSize};
 ghost use Rattle.verity_files.specs.Errors.{IsOfLock, IsOfSystem};
 ghost use Rattle.verity_files.specs.Parts.{HasAsked, HasFewer, IsRaggedPart};
@@ -14,6 +14,8 @@ ghost use Rattle.verity_files.specs.declared.command.Lock.{Lock};
 ghost use Rattle.verity_files.specs.declared.failure.Failure.TheVariants as failure;
 ghost use Rattle.verity_files.specs.declared.identity.Identity.{Identity};
 ghost use Rattle.verity_files.specs.declared.part.Part.{Part};
+ghost use Rattle.verity_journal.specs.declared.disks.Device.{Device};
+ghost use Rattle.verity_journal.specs.declared.disks.Device.TheVariants as of;
 
 use crate::command::Lock;
 use crate::failure::Failure;
@@ -22,6 +24,7 @@ use crate::identity::Identity;
 use crate::part::Part;
 use std::alloc::Global;
 use std::io;
+use verity_journal::{Device, Disks};
 use verity_store::{BlockStore, StoreFault, Which};
 
 /// A system of paths, with what is opened there and the stores over it of types of its own.
@@ -31,6 +34,9 @@ pub trait System {
 
     /// The blocks of one.
     type Store: BlockStore + Drop;
+
+    /// A data device, a hash device and a journal, under one clock.
+    type Journalled: Disks + Drop;
 
     /// The system refused a call, or has more to read than is taken. No call changes that.
     ghost refuses: { Self → Bool };
@@ -65,6 +71,9 @@ pub trait System {
     /// What was opened begins with these bytes.
     ghost begins: { Self → Self.File → List ℕ → Type 0 };
 
+    /// These bytes of what was opened stand from this offset on.
+    ghost reads: { Self → Self.File → ℕ → List ℕ → Type 0 };
+
     /// What was opened has so many bytes by now.
     ghost has_len: { Self → Self.File → ℕ → Type 0 };
 
@@ -73,6 +82,18 @@ pub trait System {
 
     /// What stands at this path was left as this store is, which made the system this one.
     ghost closes: { Self → List ℕ → Self.Store → Self → Type 0 };
+
+    /// These devices are what was opened as DATA, as HASH and as a journal.
+    ghost joins: { Self → Self.File → Self.File → Self.File → Self.Journalled → Type 0 };
+
+    /// What stands at the paths of DATA, of HASH and of a journal was left as these devices are, which made the system this one.
+    ghost parts: { Self → List ℕ → List ℕ → List ℕ → Self.Journalled → Self → Type 0 };
+
+    /// The device of which a call failed last.
+    ghost failed_last: { Self.Journalled → Option Device };
+
+    /// The file at this path was removed, where it could be, which made the system this one.
+    ghost removes: { Self → List ℕ → Self → Type 0 };
 
     /// Where memory is taken from.
     fn alloc(&self) -> Global;
@@ -124,6 +145,11 @@ pub trait System {
         ensures read { OnOk result (begins self.now file.old out.new) }
         ensures refused { OnErr result (refuses self.now ≡ true) };
 
+    /// Reads as many bytes of what was opened as `out` has, from a byte offset on.
+    fn read_at(&self, file: &Self::File, at: u64, out: &mut [u8]) -> io::Result<()>
+        ensures read { OnOk result (reads self.now file.now at out.new) }
+        ensures refused { OnErr result (refuses self.now ≡ true) };
+
     /// A store over a part of what was opened. S4 for all but the block sizes of the profile; S2 where that is no whole number of blocks;
     /// S1 where there are fewer than are asked for, or the system doesn't say how long it is; S3 for want of memory.
     fn store(&self, file: Self::File, part: Part, size: usize) -> Result<Self::Store, StoreFault>
@@ -139,6 +165,48 @@ pub trait System {
     fn close(&mut self, path: &str, store: Self::Store) -> Result<(), StoreFault>
         ensures closed { OnOk result (closes self.old path.now store self.new) }
         ensures refused { IfErr result (IsOfSystem (refuses self.old ≡ true)) }
+        ensures same { refuses self.new ≡ refuses self.old };
+
+    /// The devices of what was opened as DATA, as HASH and as a journal, all of whose bytes were read. S1 where the system refuses, S3
+    /// for want of memory.
+    fn journalled(
+        &self,
+        image: Self::File,
+        device: Self::File,
+        journal: Self::File,
+        bytes: Vec<u8>,
+    ) -> Result<Self::Journalled, StoreFault>
+        requires read { reads self.now journal 0 bytes.items }
+        requires whole { length bytes.items ≡ len journal }
+        ensures joins { IfOk result (joins self.now image device journal) }
+        ensures data_len { IfOk result (λ disks. length (Self.Journalled.seen disks of.Data) ≡ len image) }
+        ensures hash_len { IfOk result (λ disks. length (Self.Journalled.seen disks of.Hash) ≡ len device) }
+        ensures journal { IfOk result (λ disks. Self.Journalled.seen disks of.Journal ≡ bytes.items) }
+        ensures refused { IfErr result (IsOfSystem (refuses self.now ≡ true)) };
+
+    /// The device of which a call failed last, where the system says which.
+    fn last_failed(&self, disks: &Self::Journalled) -> Option<Device>
+        ensures { result ≡ failed_last disks.now };
+
+    /// Closes the devices of what was opened at the paths of DATA, of HASH and of a journal.
+    fn close_journalled(
+        &mut self,
+        data_path: &str,
+        hash_path: &str,
+        journal_path: &str,
+        disks: Self::Journalled,
+    ) -> Result<(), StoreFault>
+        ensures parted { OnOk result (parts self.old data_path.now hash_path.now journal_path.now disks self.new) }
+        ensures refused { IfErr result (IsOfSystem (refuses self.old ≡ true)) }
+        ensures same { refuses self.new ≡ refuses self.old };
+
+    /// Asks for the entries of the folder to be kept in which a path stands.
+    fn sync_folder(&self, path: &str) -> io::Result<()>
+        ensures refused { OnErr result (refuses self.now ≡ true) };
+
+    /// Removes a file, and asks for that to be kept. A file that comes back does no harm, so nothing is refused.
+    fn remove(&mut self, path: &str)
+        ensures removed { removes self.old path.now self.new }
         ensures same { refuses self.new ≡ refuses self.old };
 
     /// Removes a file that this program made, where nothing was written to it yet; of a link, the file that it names.

@@ -52,7 +52,7 @@ never_s1 (Ok done) text e is was = tt
 never_s1 (Err other) text e is was = λ at. cc (sym (unread (parsed text) (failure.Word word.Uuid) e was) ∙ (sym is ∙ at))
 
 -- what isn't understood is blamed
-pub of_misread : {S F D : Type 0} (facts : Ghosts S F D) (s : S) (words : FormatWords) (e : Failure) → Misreads words e
+pub of_misread : {S F D J : Type 0} (facts : Ghosts S F D J) (s : S) (words : FormatWords) (e : Failure) → Misreads words e
     → FormatBlames facts s words e
 of_misread facts s words (failure.Word word.Data) is_misread = absurd is_misread
 of_misread facts s words (failure.Word word.Hash) is_misread = absurd is_misread
@@ -74,7 +74,7 @@ of_misread facts s words failure.NoMemory is_misread = is_misread
 of_misread facts s words failure.Output is_misread = is_misread
 
 -- HASH is blamed where one file was opened at both paths
-pub of_hash : {S F D : Type 0} (facts : Ghosts S F D) (s : S) (words : FormatWords) (e : Failure) → BlamesAtMost word.Hash e
+pub of_hash : {S F D J : Type 0} (facts : Ghosts S F D J) (s : S) (words : FormatWords) (e : Failure) → BlamesAtMost word.Hash e
     → (e ≡ failure.Word word.Hash → IsOneFile facts s words.data_path.now words.hash_path.now) → FormatBlames facts s words e
 of_hash facts s words (failure.Word other) most is_one = subst (λ w. FormatBlames facts s words (failure.Word w)) (sym most)
     (inr (is_one (ap failure.Word most)))

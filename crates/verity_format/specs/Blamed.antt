@@ -22,7 +22,7 @@ Misreads words (failure.Word _) = ⊥
 Misreads words _ = ⊤
 
 -- or DATA's path or HASH's isn't right: it doesn't fit beside the other, or one file was opened at both
-abbrev pub FormatBlames : {S F D : Type 0} → Ghosts S F D → S → FormatWords → Failure → Type 0
+abbrev pub FormatBlames : {S F D J : Type 0} → Ghosts S F D J → S → FormatWords → Failure → Type 0
 FormatBlames facts s words (failure.Word word.Data) = paths_refusal words.data_path.now words.hash_path.now ≡ Some (failure.Word word.Data)
 FormatBlames facts s words (failure.Word word.Hash) =
     (paths_refusal words.data_path.now words.hash_path.now ≡ Some (failure.Word word.Hash))

@@ -31,12 +31,12 @@ pub record IsAsked (words : FormatWords) (shape : Shape) : Type 0 where
   pub uuid : uuid_in words.uuid.now ≡ Ok shape.uuid
 
 -- what was opened at a path has fewer blocks than were asked for
-abbrev pub IsShort : {S F D : Type 0} → Ghosts S F D → S → List ℕ → Shape → Type 0
+abbrev pub IsShort : {S F D J : Type 0} → Ghosts S F D J → S → List ℕ → Shape → Type 0
 IsShort facts s path shape = (image : _) × facts.opens s path image
     × HasFewer (data_part shape.data_blocks) (facts.len image) shape.data_block_size
 
 -- what was opened at DATA's path has fewer blocks than the words ask for
-abbrev pub FallsShort : {S F D : Type 0} → Ghosts S F D → S → FormatWords → Type 0
+abbrev pub FallsShort : {S F D J : Type 0} → Ghosts S F D J → S → FormatWords → Type 0
 FallsShort facts s words = (shape : Shape) × IsAsked words shape × IsShort facts s words.data_path.now shape
 
 -- the table line of a device that was made
@@ -54,7 +54,7 @@ line_made words shape made salt = record {
 }
 
 -- what `format` works on: two files that were opened at its paths and locked; no gate is open beside the hash device
-pub record AreTaken {S F D : Type 0} (facts : Ghosts S F D) (s : S) (words : FormatWords) : Type 0 where
+pub record AreTaken {S F D J : Type 0} (facts : Ghosts S F D J) (s : S) (words : FormatWords) : Type 0 where
   pub image : F
   pub device : F
   pub between : S
@@ -66,6 +66,6 @@ pub record AreTaken {S F D : Type 0} (facts : Ghosts S F D) (s : S) (words : For
   pub shut : IsShutBeside facts s words.hash_path.now
 
 -- one file was opened at both paths
-abbrev pub IsOneFile : {S F D : Type 0} → Ghosts S F D → S → (data_path hash_path : List ℕ) → Type 0
+abbrev pub IsOneFile : {S F D J : Type 0} → Ghosts S F D J → S → (data_path hash_path : List ℕ) → Type 0
 IsOneFile facts s data_path hash_path = (image : _) × (device : _) × (between : _) × facts.opens s data_path image
     × facts.opens_to_write s hash_path device between × (facts.identity image ≡ facts.identity device)

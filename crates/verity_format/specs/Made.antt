@@ -35,13 +35,13 @@ device_of shape salt image there = hash_blocks (record {
 }) image (front shape.hash_offset shape.hash_block_size there)
 
 -- a store of what was opened at a path, and locked: of as many blocks as were asked for, where so many were
-abbrev pub LiesAsked : {S F D : Type 0} → Ghosts S F D → store.Ghosts D → S → List ℕ → Shape → D → Type 0
+abbrev pub LiesAsked : {S F D J : Type 0} → Ghosts S F D J → store.Ghosts D → S → List ℕ → Shape → D → Type 0
 LiesAsked facts stores s path shape source = (opened : _) × facts.opens s path opened × facts.locks s opened (lock_of Format)
     × facts.lies s opened (data_part shape.data_blocks) source
     × MatchOption shape.data_blocks ⊤ (λ blocks. length (stores.content source) ≡ blocks)
 
 -- what stands at a path was opened to be written, and locked, as the one store, and closed as the other; nothing else was
-pub record IsLeft {S F D : Type 0} (facts : Ghosts S F D) (old new : S) (path : List ℕ) (shape : Shape) (target target' : D)
+pub record IsLeft {S F D J : Type 0} (facts : Ghosts S F D J) (old new : S) (path : List ℕ) (shape : Shape) (target target' : D)
     : Type 0 where
   pub between : S
   pub opened : F

@@ -8,7 +8,7 @@ use Rattle.verity_format.specs.Made.{hash_part}
 use Rattle.verity_format.specs.declared.formatting.Shape.{Shape}
 
 -- DATA was opened to be read and locked, as this store, and is this file
-pub record IsOpenedAsked {S F D : Type 0} (facts : Ghosts S F D) (s : S) (path : List ℕ) (shape : Shape) (source : D)
+pub record IsOpenedAsked {S F D J : Type 0} (facts : Ghosts S F D J) (s : S) (path : List ℕ) (shape : Shape) (source : D)
     (identity : Identity) : Type 0 where
   pub opened : F
   pub is_opened : facts.opens s path opened
@@ -16,7 +16,7 @@ pub record IsOpenedAsked {S F D : Type 0} (facts : Ghosts S F D) (s : S) (path :
   pub same : identity ≡ facts.identity opened
 
 -- HASH was opened to be written and locked, as this store, and is another file than this
-pub record IsOpenedAnew {S F D : Type 0} (facts : Ghosts S F D) (old : S) (path : List ℕ) (shape : Shape) (other : Identity)
+pub record IsOpenedAnew {S F D J : Type 0} (facts : Ghosts S F D J) (old : S) (path : List ℕ) (shape : Shape) (other : Identity)
     (target : D) (new : S) : Type 0 where
   pub opened : F
   pub is_opened : facts.opens_to_write old path opened new

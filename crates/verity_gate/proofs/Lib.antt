@@ -1,1 +1,1 @@
-mod Volumes
+mod Unshut

@@ -1,13 +1,12 @@
 //! Whether the gate of a journal is open, over any system.
-ghost use Rattle.std.specs.Prelude.{◌≡◌, ◌⊎◌, true, length, IfOk, IfErr, OnOk, string_bytes};
+ghost use Rattle.std.specs.Prelude.{◌≡◌, ◌⊎◌, true, length, IfOk, IfErr, OnOk};
 ghost use Rattle.verity_files.specs.Identities.{IsDevice};
 ghost use Rattle.verity_gate.specs.Refusals.{IsUnopened, IsUnread, IsUnshut};
-ghost use Rattle.verity_gate.specs.Shut.{BesideAt, HasGateNow, HasNoGateNow, HasOpenGateNow, HasShutGateNow, IsClosedOffNow, IsFoundAt};
+ghost use Rattle.verity_gate.specs.Shut.{HasGateNow, HasNoGateNow, HasOpenGateNow, HasShutGateNow, IsClosedOffNow, IsFoundAt};
 ghost use Rattle.verity_gate.specs.Shut.{IsOpenBeside, IsOpenNow, IsOtherShutBeside, IsShutBeside, IsShutNow, IsUnusableBeside};
 ghost use Rattle.verity_gate.specs.Shut.{IsUnusableNow};
 
-use crate::gate::journal_fault;
-use verity_files::{Failure, Fault, Identity, System};
+use verity_files::{Failure, Fault, Identity, System, journal_fault, path_beside};
 use verity_journal::{GATE_END, Gate, gate_of};
 
 /// That no commit of a hash device is under way, as the journal beside it says: S6 where its gate is open, S7 where it is no regular file,
@@ -20,7 +19,7 @@ pub fn check_gate<S: System>(system: &S, hash_path: &str) -> Result<(), Failure>
     if system.is_device(hash_path) {
         return Ok(());
     }
-    let beside = beside(system, hash_path)?;
+    let beside = path_beside(system, hash_path)?;
     check_gate_at(system, &beside)
 }
 
@@ -33,23 +32,13 @@ pub fn check_other_gate<S: System>(system: &S, hash_path: &str, named: &str) -> 
     if system.is_device(hash_path) {
         return Ok(());
     }
-    let path = beside(system, hash_path)?;
+    let path = path_beside(system, hash_path)?;
     let named = system.real_path(named)?;
     if path == named {
         Ok(())
     } else {
         check_gate_at(system, &path)
     }
-}
-
-/// The path beside a hash device: its own, of a link that of the file that it leads to, with `.journal` behind it.
-fn beside<S: System>(system: &S, hash_path: &str) -> Result<String, Failure>
-    ensures beside { IfOk result (λ path. BesideAt S.System system.now hash_path.now (string_bytes path)) }
-    ensures refused { IfErr result (λ e. e ≡ Failure.NoMemory) }
-{
-    let mut path = system.real_path(hash_path)?;
-    path.push_str(".journal")?;
-    Ok(path)
 }
 
 /// That the gate of a journal is closed, or there is none. S6, S7.

@@ -38,6 +38,13 @@ impl<K: Disks> Keeper<K> {
         &self.disks
     }
 
+    /// The devices, to be kept no more.
+    pub fn into_disks(self) -> K
+        ensures { result ≡ self.disks }
+    {
+        self.disks
+    }
+
     /// Makes the volume that the devices stand for, as [`start`] does, with its errors.
     pub fn start<A: Allocator + Copy>(&mut self, alloc: A) -> Result<(), DiskFault>
         ensures volume { OnOk result (pair_of (K.seen self.new.disks) ≡ recovered_pair (K.seen self.old.disks)) }

@@ -17,7 +17,7 @@ use Rattle.verity_gate.specs.Refusals.{IsUnshut}
 use Rattle.verity_gate.specs.Shut.{IsOpenBeside, IsUnusableBeside}
 use Rattle.verity_opening.specs.Opening.{OpensNone, OpensNoHub}
 
-module _ {S F D : Type 0} (facts : Ghosts S F D) (s : S) (command : Command) where
+module _ {S F D J : Type 0} (facts : Ghosts S F D J) (s : S) (command : Command) where
   -- a verifier isn't made for one of three reasons
   pub unmade : (line name : List ℕ) (cache : ℕ) (e : CheckFault) → (e ≡ check.CacheSize → ¬ IsCacheSize cache)
       → (e ≡ check.Lengths) ⊎ (e ≡ check.CacheSize) ⊎ (e ≡ check.NoMemory)

@@ -20,17 +20,17 @@ use Rattle.verity_files.specs.declared.system.System.{Ghosts}
 use Rattle.verity_gate.specs.Shut.{IsOpenBeside, IsUnusableBeside}
 
 -- a store of what was opened at a path: of a file all, of a device the first blocks, at most so many
-abbrev pub LiesAt : {S F D : Type 0} → Ghosts S F D → S → List ℕ → (blocks : ℕ) → D → Type 0
+abbrev pub LiesAt : {S F D J : Type 0} → Ghosts S F D J → S → List ℕ → (blocks : ℕ) → D → Type 0
 LiesAt facts s path blocks store = (opened : _) × facts.opens s path opened × facts.lies s opened (AtMost blocks) store
 
 -- what was opened at a path is no whole number of blocks
-abbrev pub IsRaggedAt : {S F D : Type 0} → Ghosts S F D → S → List ℕ → (size : ℕ) → Type 0
+abbrev pub IsRaggedAt : {S F D J : Type 0} → Ghosts S F D J → S → List ℕ → (size : ℕ) → Type 0
 IsRaggedAt facts s path size = (opened : _) × facts.opens s path opened
     × ((count : ℕ) × facts.has_len s opened count × (count % size ≢ 0))
 
 -- a file isn't opened as a store of such blocks: the system refused a call; it is no whole number of blocks; want of memory; no block has
 -- that size
-abbrev pub IsNoStore : {S F D : Type 0} → Ghosts S F D → S → List ℕ → (size : ℕ) → StoreFault → Type 0
+abbrev pub IsNoStore : {S F D J : Type 0} → Ghosts S F D J → S → List ℕ → (size : ℕ) → StoreFault → Type 0
 IsNoStore facts s path size store_fault.Device = facts.refuses s ≡ true
 IsNoStore facts s path size store_fault.Ragged = IsRaggedAt facts s path size
 IsNoStore facts s path size store_fault.NoMemory = ⊤
@@ -38,7 +38,7 @@ IsNoStore facts s path size store_fault.BlockSize = ¬ IsBlockSize size
 
 -- the files of a volume aren't opened for a command: S1 to S4 of either; another's lock shuts this one out; a gate is open beside the hash
 -- device, or its journal can't be used; want of memory
-abbrev pub OpensNone : {S F D : Type 0} → Ghosts S F D → S → TableLine → Command → Failure → Type 0
+abbrev pub OpensNone : {S F D J : Type 0} → Ghosts S F D J → S → TableLine → Command → Failure → Type 0
 OpensNone facts s table command failure.NoMemory = ⊤
 OpensNone facts s table command (failure.Refused (fault.Store f)) =
     IsNoStore facts s table.dev table.data_block_size f
@@ -50,7 +50,7 @@ OpensNone facts s table command (failure.Refused fault.Journal) = IsUnusableBesi
 OpensNone facts s table command _ = ⊥
 
 -- nor is a hub over them made; what is said of the line, the name or the size of the cache is so
-abbrev pub OpensNoHub : {S F D : Type 0} → Ghosts S F D → S → (line name : List ℕ) → (cache : ℕ) → Command → Failure → Type 0
+abbrev pub OpensNoHub : {S F D J : Type 0} → Ghosts S F D J → S → (line name : List ℕ) → (cache : ℕ) → Command → Failure → Type 0
 OpensNoHub facts s line name cache command (failure.Refused (fault.Table f)) = line_refusal line ≡ Some f
 OpensNoHub facts s line name cache command (failure.Refused (fault.Session f)) = (length name ≡ 0) ⊎ (255 < length name)
 OpensNoHub facts s line name cache command (failure.Refused (fault.Check check.CacheSize)) = ¬ IsCacheSize cache

@@ -2,6 +2,7 @@
 //!
 //! The system's type is a deep one, so each is named in a function of its own that asks no more of what it is given than it needs.
 
+use cli_pull::pull;
 use os_system::{Network, Notes, OsSystem, patience};
 use std::fs::File;
 use std::io::{Eprint, IsTerminal, Read, Write};
@@ -10,7 +11,7 @@ use std::rt::Files;
 use std::time::Clock;
 use verity_files::Failure;
 use verity_serving::{CountedReader, CountedWriter, serve, talk, verify};
-use verity_words::{ServeWords, TalkWords, VerifyWords};
+use verity_words::{PullWords, ServeWords, TalkWords, VerifyWords};
 
 /// `verify` over the real system.
 pub fn verify_anywhere<
@@ -58,5 +59,27 @@ pub fn talk_anywhere<R: Files<File = File> + Net + Clock + AllocGlobal, I: Read,
         words,
         &mut CountedReader::new(input),
         &mut CountedWriter::new(output),
+    )
+}
+
+/// `pull` over the real system: the source's devices may lie at servers.
+pub fn pull_anywhere<
+    R: Files<File = File> + Net + Clock + Eprint + AllocGlobal,
+    W: Write,
+    E: Write + IsTerminal,
+>(
+    rt: &R,
+    words: &PullWords<'_>,
+    notes: &Notes,
+    output: &mut W,
+    errors: &mut E,
+) -> Result<(), Failure> {
+    let network = Network::new(rt, patience(words.timeout)?);
+    pull(
+        rt,
+        &mut OsSystem::new(rt, &network, notes),
+        words,
+        output,
+        errors,
     )
 }

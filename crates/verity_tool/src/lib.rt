@@ -3,14 +3,12 @@
 //!
 //! The work is done by the layers below, whose contracts say what it is worth; here a command reads its words, opens a volume
 //! (`verity_volume`), makes one call or a few, and prints lines. The commands that change a volume are those of `verity_changes`, those
-//! that check and serve one those of `verity_serving`, and `format` is `verity_format`'s. What `dump` and `recover` print clauses say,
-//! over an output whose bytes are known; all else that is printed and refused is shown by tests.
+//! that check and serve one those of `verity_serving`, `format` is `verity_format`'s, `dump` `cli_dump`'s and `recover` `cli_recover`'s.
+//! What they print clauses of theirs say; that `run` calls the one that is asked for, and which status it answers, is shown by tests.
 #![tactic(auto)]
 
 mod anywhere;
-mod dump;
 mod program;
-mod recover;
 mod told;
 
 pub use program::run;

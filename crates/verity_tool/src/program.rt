@@ -1,11 +1,11 @@
 //! The whole program.
 
-use crate::anywhere::{serve_anywhere, talk_anywhere, verify_anywhere};
-use crate::dump::dump;
-use crate::recover::recover;
+use crate::anywhere::{pull_anywhere, serve_anywhere, talk_anywhere, verify_anywhere};
 use crate::told::Told;
 use clap::Error;
 use clap::error::ErrorKind;
+use cli_dump::dump;
+use cli_recover::recover;
 use os_system::{Notes, check_here};
 use std::fs::File;
 use std::io::{Eprint, IsTerminal, Read, Write};
@@ -16,13 +16,16 @@ use verity_changes::{edit, scratch, update};
 use verity_files::{DONE, Failure, Host, NOT_UNDERSTOOD, REFUSED};
 use verity_format::format;
 use verity_serving::fail;
-use verity_words::{Request, explain, explain_corrupt, explain_usage, explain_words, read_words};
+use verity_words::{
+    Request, explain, explain_block_size, explain_corrupt, explain_usage, explain_words, read_words,
+};
 
 /// Does what the words ask for, of which the first is the program's own name, and answers the status that the process
 /// ends with: 0 done; 1 refused, corrupt, or a fault of a file, a socket or the output; 2 words that were not
 /// understood; 3 want of memory. What the program has to say goes to `output`; to `errors` goes why it refused, in words for
-/// a person; where the status is 0 nothing, but for what `edit` and `update` say of a journal. Where `errors` is a terminal, `format`,
-/// `verify`, `edit` and `update` show on the system's standard error how far they are, unless they are asked not to.
+/// a person; where the status is 0 nothing, but for what `edit` and `update` say of a journal, and `pull` of a line that is of no use.
+/// Where `errors` is a terminal, `format`, `verify`, `edit`, `update` and `pull` show on the system's standard error how far they are,
+/// unless they are asked not to.
 pub fn run<
     R: Files<File = File>
         + Net<Stream = TcpStream, Listener = TcpListener>
@@ -87,9 +90,11 @@ fn answer<
     match request {
         Request::Scratch => scratch(rt, input, output, errors),
         Request::Format(words) => {
-            format(rt, &mut Host::new(rt), &words, output, errors).map(|()| DONE)
+            format(rt, &mut Host::new(rt), &words, output, errors)?;
+            explain_block_size(words.data_block_size, errors);
+            Ok(DONE)
         },
-        Request::Dump(words) => dump(rt, &words, output).map(|()| DONE),
+        Request::Dump(words) => dump(&Host::new(rt), &words, output).map(|()| DONE),
         Request::Edit(words) => edit(rt, &words, output, errors),
         Request::Verify(words) => verify_anywhere(rt, &words, notes, output, errors),
         Request::Serve(words) => serve_anywhere(
@@ -100,8 +105,9 @@ fn answer<
             &mut Told::new(output, errors, words.listen),
         ),
         Request::Talk(words) => talk_anywhere(rt, &words, notes, input, output),
-        Request::Recover(words) => recover(rt, &words, output).map(|()| DONE),
+        Request::Recover(words) => recover(&mut Host::new(rt), &words, output).map(|()| DONE),
         Request::Update(words) => update(rt, &words, output, errors),
+        Request::Pull(words) => pull_anywhere(rt, &words, notes, output, errors).map(|()| DONE),
     }
 }
 
@@ -111,6 +117,7 @@ fn check_written(request: Request<'_>) -> Result<(), Failure> {
         Request::Format(words) => check_here(words.data_path, words.hash_path),
         Request::Edit(words) => check_here(words.data_path, words.hash_path),
         Request::Update(words) => check_here(words.data_path, words.hash_path),
+        Request::Pull(words) => check_here(words.data_path, words.hash_path),
         Request::Recover(words) => check_here(words.data_path, words.hash_path),
         _ => Ok(()),
     }

@@ -1,3 +1,4 @@
 pub mod Lines
 pub mod Opening
 pub mod Refusals
+pub mod Superblocks

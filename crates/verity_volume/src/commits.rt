@@ -4,10 +4,10 @@ ghost use Rattle.verity_files.specs.Errors.{IsOfSystem};
 
 use crate::edits::Edits;
 use crate::staging::StagedEdits;
+use os_journal::{FileKeeper, fault_of_disks, make_journal, names_of_volume};
 use verity_commit::CommitFault;
 use verity_edit::{Committed, EditFault};
-use verity_files::{Fault, Opened, Paths};
-use verity_gate::{FileKeeper, fault_of_disks, make_journal, names_of_volume};
+use verity_files::{Fault, Host, Opened, Paths};
 use verity_store::StoreFault;
 
 /// How the commits of an editor of the type `V` reach a volume's files.
@@ -137,7 +137,8 @@ impl<'a, P: Paths + AllocGlobal> Journalled<'a, P> {
             self.is_staged = false;
         }
         if self.keeper.is_none() {
-            self.keeper = Some(make_journal(self.rt, self.path, &self.data, &self.hash)?);
+            let (data, hash) = self.files()?;
+            self.keeper = Some(make_journal(&mut Host::new(self.rt), self.path, data, hash)?);
         }
         Ok(())
     }
@@ -177,7 +178,7 @@ impl<'a, P: Paths + AllocGlobal, V: StagedEdits> Commits<V> for Journalled<'a, P
             Err(CommitFault::Edit(fault)) => Err(Fault::Edit(fault)),
             Err(CommitFault::Disks(fault)) => {
                 self.is_broken = true;
-                Err(fault_of_disks(keeper, fault))
+                Err(fault_of_disks(&Host::new(self.rt), keeper, fault))
             }
         };
         (editor, answer)

@@ -20,5 +20,5 @@ pub use edits::Edits;
 pub use lines::{Devices, LineParts, committed_line, print_superblock, table_line, table_of};
 pub use opened_volume::{OpenedVolume, Sizes, offset_of, open_both, open_volume};
 pub use staging::{OverFile, StagedEdits, StagedFile};
-pub use superblock::read_superblock;
+pub use superblock::{SUPERBLOCK_SIZE, read_superblock, superblock_in};
 pub use watching::{end_progress, is_watched, progress_of};

@@ -9,7 +9,7 @@ ghost use Rattle.verity_files.specs.Words.{number_in};
 ghost use Rattle.verity_files.specs.declared.failure.Word.TheVariants as word;
 ghost use Rattle.verity_store.specs.declared.fault.Which.TheVariants as which;
 ghost use Rattle.verity_volume.specs.Opening.{AreAt, AreSizes, IsOneFile};
-ghost use Rattle.verity_gate.specs.Refusals.{BlamesNone, BlamesAtMost};
+ghost use Rattle.verity_files.specs.Blames.{BlamesNone, BlamesAtMost};
 
 use crate::superblock::read_superblock;
 use verity_edit::EditFault;

@@ -5,11 +5,11 @@ ghost use Rattle.verity_files.specs.Lengths.{IsRagged};
 ghost use Rattle.verity_volume.specs.Refusals.{IsOfStore, IsOfStores};
 
 use crate::edits::Edits;
+use os_journal::FileKeeper;
 use std::alloc::Global;
 use verity_commit::{CommitFault, commit_editor, commit_line_editor};
 use verity_edit::{Committed, EditFault, Editor};
 use verity_files::{Fault, Opened, Paths, VolumeStore, store_of_most};
-use verity_gate::FileKeeper;
 use verity_line::LineEditor;
 use verity_stage::{Staged, StagedStore};
 use verity_store::{BlockStore, StoreFault, Which};

@@ -22,3 +22,4 @@ detail_text (seen.Fields count) = Some (codes ": this one has " ++ decimal count
 detail_text (seen.Text text) = Some (codes ": " ++ text.now)
 detail_text (seen.Number number) = Some (codes ": " ++ decimal number)
 detail_text (seen.Reason reason) = Some (codes ": " ++ string_bytes reason)
+detail_text seen.NoUuid = Some (codes ": no UUID is found for HASH's superblock; name one with --uuid")

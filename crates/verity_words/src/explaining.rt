@@ -13,7 +13,7 @@ use std::fs::File;
 use std::io;
 use std::io::Write;
 use std::rt::Files;
-use verity_files::{Failure, Fault};
+use verity_files::{Failure, Fault, Word, block_size};
 use verity_script::Line;
 
 /// Says why a command stopped, beside what was seen of devices at servers.
@@ -26,6 +26,7 @@ pub fn explain<R: Files<File = File>, E: Write>(
 ) {
     match failure {
         Failure::Refused(fault) => explain_fault(rt, parts_of(request), notes, fault, errors),
+        Failure::Word(word) if matches!(request, Request::Pull(_)) => explain_made(word, errors),
         failure => explain_words(failure, errors),
     }
 }
@@ -43,6 +44,28 @@ pub fn explain_words<E: Write>(failure: Failure, errors: &mut E) {
     };
 }
 
+/// Says what the words of `pull` can be.
+fn explain_made<E: Write>(word: Word, errors: &mut E) {
+    let wanted = word.wanted();
+    let _ = match word {
+        Word::Data | Word::Hash => {
+            writeln!(
+                errors,
+                "dalgovuun: {word}: {wanted}; and none of the source's files"
+            )
+        }
+        word => writeln!(errors, "dalgovuun: {word}: {wanted}"),
+    };
+}
+
+/// Says that `--table` is of no use to a pull.
+pub fn explain_unused_line<E: Write>(errors: &mut E) {
+    let _ = writeln!(
+        errors,
+        "dalgovuun: --table: DATA and HASH aren't a volume of the sizes, the count, the salt and the algorithm of --to; each block is read"
+    );
+}
+
 /// Says that `clap` didn't understand the words.
 pub fn explain_usage<E: Write>(kind: ErrorKind, errors: &mut E) {
     let _ = writeln!(errors, "dalgovuun: {kind}; see dalgovuun --help");
@@ -56,19 +79,34 @@ pub fn explain_corrupt<E: Write>(errors: &mut E) {
     );
 }
 
+/// The most bytes of a data block that Linux maps on x86-64: a page of memory.
+const PAGE: usize = 4096;
+
+/// Says that Linux doesn't map data blocks of this size, where they are longer than a page of memory.
+pub fn explain_block_size<E: Write>(size: &str, errors: &mut E) {
+    if let Ok(size) = block_size(Word::DataBlockSize, size) {
+        if size > PAGE {
+            let _ = writeln!(
+                errors,
+                "dalgovuun: data blocks of {size} bytes: Linux maps data blocks of at most a page of memory ({PAGE} bytes on x86-64)"
+            );
+        }
+    }
+}
+
 /// Says that commits go without a journal.
 pub fn explain_no_journal<E: Write>(hash_path: &str, errors: &mut E) {
     let _ = writeln!(
         errors,
-        "dalgovuun: {hash_path}: a device, and no --journal: a stop in the middle of a commit can leave a volume that nothing opens"
+        "dalgovuun: {hash_path}: a device, and no --journal: a crash in the middle of a commit can leave a volume that nothing opens"
     );
 }
 
-/// Says that a commit was made whole.
+/// Says that a commit was recovered.
 pub fn explain_recovered<E: Write>(path: &str, errors: &mut E) {
     let _ = writeln!(
         errors,
-        "dalgovuun: {path}: a commit that was cut short was made whole first"
+        "dalgovuun: {path}: a commit that a crash cut short was recovered first"
     );
 }
 

@@ -5,15 +5,16 @@
 mod explaining;
 mod looking;
 mod parts;
+mod pulling;
 mod serving;
 mod words;
 
 pub use explaining::{
-    Refusal, Where, explain, explain_corrupt, explain_line, explain_no_journal, explain_recovered,
-    explain_usage, explain_words,
+    Refusal, Where, explain, explain_block_size, explain_corrupt, explain_line, explain_no_journal,
+    explain_recovered, explain_unused_line, explain_usage, explain_words,
 };
 pub use serving::explain_served;
 pub use words::{
-    DumpWords, EditWords, FormatWords, RecoverWords, Request, ServeWords, TalkWords, UpdateWords,
-    VerifyWords, read_words,
+    DumpWords, EditWords, FormatWords, PullWords, RecoverWords, Request, ServeWords, TalkWords,
+    UpdateWords, VerifyWords, read_words,
 };

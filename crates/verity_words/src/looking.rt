@@ -1,6 +1,7 @@
 //! A second look at what a command was refused for: which file or word it is, and what is seen there.
 
 use crate::parts::{Parts, field};
+use crate::pulling::look_at_pull;
 use os_system::Notes;
 use std::fs::{File, OpenOptions};
 use std::rt::Files;
@@ -39,6 +40,8 @@ pub enum Detail<'a> {
     Number(u64),
     /// Why what lies at a server couldn't be opened.
     Reason(String),
+    /// No UUID is found.
+    NoUuid,
 }
 
 impl fmt::Display for Detail<'_> {
@@ -60,6 +63,9 @@ impl fmt::Display for Detail<'_> {
             Detail::Text(text) => write!(f, ": {text}"),
             Detail::Number(number) => write!(f, ": {number}"),
             Detail::Reason(reason) => write!(f, ": {reason}"),
+            Detail::NoUuid => f.write_str(
+                ": no UUID is found for HASH's superblock; name one with --uuid",
+            ),
         }
     }
 }
@@ -72,6 +78,7 @@ pub fn look<'a, R: Files<File = File>>(
     fault: Fault,
 ) -> (&'a str, Detail<'a>) {
     match fault {
+        fault if parts.command == Command::Pull => look_at_pull(rt, parts, notes, fault),
         Fault::Store(StoreFault::BlockSize) => look_at_sizes(parts),
         Fault::Store(fault) => look_at_files(rt, parts, notes, fault),
         Fault::Check(CheckFault::Lengths) => look_at_lengths(rt, parts, notes),
@@ -82,7 +89,7 @@ pub fn look<'a, R: Files<File = File>>(
 }
 
 /// What a fault is about that needs no second look.
-fn subject_of<'a>(parts: Parts<'a>, fault: Fault) -> &'a str {
+pub(crate) fn subject_of<'a>(parts: Parts<'a>, fault: Fault) -> &'a str {
     match fault {
         Fault::InUse(which) => parts.path(which),
         Fault::NewInUse => parts.read,
@@ -133,7 +140,7 @@ fn look_at_sizes<'a>(parts: Parts<'a>) -> (&'a str, Detail<'a>) {
 }
 
 /// Which of the fields is wrong.
-fn look_at_line<'a>(line: &'a str, fault: TableFault) -> Detail<'a> {
+pub(crate) fn look_at_line<'a>(line: &'a str, fault: TableFault) -> Detail<'a> {
     match fault {
         TableFault::Fields => Detail::Fields(line.split(' ').count()),
         TableFault::Version => Detail::Text(field(line, 0)),
@@ -145,7 +152,7 @@ fn look_at_line<'a>(line: &'a str, fault: TableFault) -> Detail<'a> {
 }
 
 /// The files don't fit the table line: the image where it has too few blocks, else the hash device.
-fn look_at_lengths<'a, R: Files<File = File>>(
+pub(crate) fn look_at_lengths<'a, R: Files<File = File>>(
     rt: &R,
     parts: Parts<'a>,
     notes: &Notes,
@@ -214,7 +221,7 @@ fn look_at_read<'a, R: Files<File = File>>(rt: &R, parts: Parts<'a>) -> (&'a str
 }
 
 /// What is wrong with one of a volume's files, where it is this fault's.
-fn look_at_store<'a, R: Files<File = File>>(
+pub(crate) fn look_at_store<'a, R: Files<File = File>>(
     rt: &R,
     parts: Parts<'a>,
     notes: &Notes,
@@ -252,10 +259,10 @@ fn look_at_device<'a, R: Files<File = File>>(
     }
 }
 
-/// Why a path can't be looked at. `format` makes HASH where there is nothing.
+/// Why a path can't be looked at. `format` makes HASH where there is nothing, `pull` DATA and HASH.
 fn unseen<'a>(command: Command, which: Which, error: io::Error) -> Detail<'a> {
     match (command, which) {
-        (Command::Format, Which::Hash) => Detail::Unmade,
+        (Command::Format, Which::Hash) | (Command::Pull, _) => Detail::Unmade,
         _ => Detail::System(error),
     }
 }

@@ -11,6 +11,9 @@ pub struct Parts<'a> {
     pub command: Command,
     pub data: &'a str,
     pub hash: &'a str,
+    /// The two files that `pull` makes; the other two are its source's.
+    pub made_data: &'a str,
+    pub made_hash: &'a str,
     /// The other file that is read: the script, or NEW.
     pub read: &'a str,
     pub address: &'a str,
@@ -36,6 +39,14 @@ impl<'a> Parts<'a> {
             Command::Verify | Command::Serve | Command::Talk
         );
         reads && is_url(self.path(which))
+    }
+
+    /// The path of one of the two that `pull` makes.
+    pub fn made_path(&self, which: Which) -> &'a str {
+        match which {
+            Which::Data => self.made_data,
+            Which::Hash => self.made_hash,
+        }
     }
 
     /// How many bytes a block of one of them has.
@@ -77,6 +88,12 @@ pub fn parts_of<'a>(request: Request<'a>) -> Parts<'a> {
             hash: words.hash_path,
             read: words.new_path,
             ..parts_of_line(Command::Update, words.table.unwrap_or(""))
+        },
+        Request::Pull(words) => Parts {
+            made_data: words.data_path,
+            made_hash: words.hash_path,
+            line: if words.table.is_some() { "" } else { words.to },
+            ..parts_of_line(Command::Pull, words.to)
         },
         Request::Verify(words) => parts_of_line(Command::Verify, words.table),
         Request::Serve(words) => Parts {
@@ -120,6 +137,8 @@ fn no_parts<'a>(command: Command) -> Parts<'a> {
         command,
         data: "",
         hash: "",
+        made_data: "",
+        made_hash: "",
         read: "",
         address: "",
         line: "",

@@ -4,6 +4,7 @@ mod dump;
 mod edit;
 mod format;
 mod parts;
+mod pull;
 mod recover;
 mod serve;
 mod talk;
@@ -18,6 +19,8 @@ use edit::edit_words;
 pub use format::FormatWords;
 use format::format_words;
 use parts::{Form, command_of};
+pub use pull::PullWords;
+use pull::pull_words;
 pub use recover::RecoverWords;
 use recover::recover_words;
 pub use serve::ServeWords;
@@ -43,17 +46,19 @@ pub enum Request<'a> {
     Talk(TalkWords<'a>),
     Recover(RecoverWords<'a>),
     Update(UpdateWords<'a>),
+    Pull(PullWords<'a>),
 }
 
 /// The program's version.
 const VERSION: &str = "0.1";
 
 /// The commands, in the order in which `--help` shows them.
-const FORMS: [Form<'static>; 8] = [
+const FORMS: [Form<'static>; 9] = [
     format::FORM,
     dump::FORM,
     edit::FORM,
     update::FORM,
+    pull::FORM,
     recover::FORM,
     verify::FORM,
     serve::FORM,
@@ -100,6 +105,7 @@ fn asked_by<'a>(name: &str, below: &ArgMatches<'a>) -> Option<Request<'a>> {
         "talk" => talk_words(below).map(Request::Talk),
         "recover" => recover_words(below).map(Request::Recover),
         "update" => update_words(below).map(Request::Update),
+        "pull" => pull_words(below).map(Request::Pull),
         _ => None,
     }
 }

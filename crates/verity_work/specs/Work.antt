@@ -8,7 +8,7 @@ use Rattle.verity_files.specs.declared.failure.Word.TheVariants as word
 use Rattle.verity_files.specs.declared.identity.Identity.{Identity}
 use Rattle.verity_files.specs.declared.opening.Opened.{Opened}
 use Rattle.verity_files.specs.declared.paths.Paths.{Ghosts}
-use Rattle.verity_gate.specs.Journals.{IsInVolume}
+use Rattle.verity_work.specs.Journals.{IsInVolume}
 use Rattle.verity_volume.specs.Opening.{IsOneFile}
 use Rattle.verity_volume.specs.declared.lines.Devices.{Devices}
 use Rattle.verity_work.specs.declared.work.Words.{Words}

@@ -3,16 +3,17 @@ ghost use Rattle.std.specs.Prelude.{◌≡◌, true, Ok, IfSome, IfOk, IfErr, On
 ghost use Rattle.verity_files.specs.declared.failure.Word.TheVariants as word;
 ghost use Rattle.verity_files.specs.declared.opening.Opened.{Opened};
 ghost use Rattle.verity_files.specs.Errors.{IsOfSystem, IsS1For};
-ghost use Rattle.verity_gate.specs.Journals.{IsJournalPath, IsOneOf};
 ghost use Rattle.verity_gate.specs.Refusals.{BlamesNone, BlamesAtMost};
+ghost use Rattle.verity_work.specs.Journals.{IsJournalPath, IsOneOf};
 ghost use Rattle.verity_work.specs.Work.{BlamesOver, BlamesOwn, IsDoneAt, IsReasonAt, PrintsAsBefore};
 
 use crate::ways::{Given, do_in_place, do_staged};
 use crate::work::{Words, Work};
+use os_journal::{FileKeeper, journal_path, recover_at, volume_names};
 use std::io::{Eprint, Write};
 use std::time::Clock;
 use verity_files::{Failure, Host, Opened, Paths};
-use verity_gate::{FileKeeper, check_other_gate, journal_path, recover_files, volume_names};
+use verity_gate::check_other_gate;
 use verity_store::StoreFault;
 use verity_superblock::Table;
 use verity_volume::{Journalled, open_both};
@@ -83,10 +84,11 @@ fn journal_of<R: Paths + AllocGlobal>(
     ensures refused { IfErr result BlamesNone }
     ensures system { IfErr result (IsS1For ⊥) }
 {
+    let host = Host::new(rt);
     if let Some(named) = words.journal {
-        check_other_gate(&Host::new(rt), words.hash_path, named)?;
+        check_other_gate(&host, words.hash_path, named)?;
     }
-    journal_path(rt, words.journal, hash.identity, words.hash_path)
+    journal_path(&host, words.journal, hash.identity, words.hash_path)
 }
 
 /// Works through a journal, which is removed at the end where its gate is closed.
@@ -112,7 +114,14 @@ fn do_through<R: Paths + Clock + Eprint + AllocGlobal, T: Work, W: Write, E: Wri
     let Ok(data) = data else {
         return do_in_place(rt, words, work, Given { line, data, hash }, output, errors);
     };
-    let names = volume_names(rt, &data, words.data_path, &hash, words.hash_path)?;
+    let host = Host::new(rt);
+    let names = volume_names(
+        &host,
+        data.identity,
+        words.data_path,
+        hash.identity,
+        words.hash_path,
+    )?;
     let mut commits = journalled(rt, words, path, &names, &data, &hash, errors)?;
     let done = do_staged(rt, words, line, work, &mut commits, output, errors);
     commits.end();
@@ -156,7 +165,9 @@ fn make_whole<R: Paths + AllocGlobal, E: Write>(
     ensures refused { IfErr result (BlamesAtMost word.Journal) }
     ensures system { IfErr result (IsS1For (R.refuses rt.now ≡ true)) }
 {
-    let Some(found) = recover_files(rt, path, data, hash, names)? else {
+    let image = rt.again(data)?;
+    let device = rt.again(hash)?;
+    let Some(found) = recover_at(&mut Host::new(rt), path, image, device, names)? else {
         return Ok(None);
     };
     if found.is_recovered {

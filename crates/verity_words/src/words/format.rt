@@ -20,32 +20,41 @@ pub const FORM: Form<'static> = Form {
         Parameter {
             name: "salt",
             help: "The salt in hexadecimal, or 'none'",
-            kind: Kind::Required,
+            kind: Kind::Required("HEX"),
         },
         Parameter {
             name: "uuid",
             help: "The UUID of the volume",
-            kind: Kind::Required,
+            kind: Kind::Required("UUID"),
         },
         Parameter {
             name: "data-blocks",
             help: "How many blocks of DATA, where not all",
-            kind: Kind::Optional,
+            kind: Kind::Optional("COUNT"),
         },
         Parameter {
             name: "data-block-size",
             help: "Bytes in a data block",
-            kind: Kind::Default("4096"),
+            kind: Kind::Default {
+                value: "BYTES",
+                text: "4096",
+            },
         },
         Parameter {
             name: "hash-block-size",
             help: "Bytes in a hash block",
-            kind: Kind::Default("4096"),
+            kind: Kind::Default {
+                value: "BYTES",
+                text: "4096",
+            },
         },
         Parameter {
             name: "algorithm",
             help: "sha256 or sha512",
-            kind: Kind::Default("sha256"),
+            kind: Kind::Default {
+                value: "NAME",
+                text: "sha256",
+            },
         },
         HASH_OFFSET,
         QUIET,

@@ -11,17 +11,17 @@ pub struct Parameter<'a> {
     pub kind: Kind<'a>,
 }
 
-/// What a parameter is, and what stands where it isn't given.
+/// What a parameter is, how `--help` names an option's value, and what stands where it isn't given.
 #[derive(Clone, Copy)]
 pub enum Kind<'a> {
     /// An argument, which has to be given.
     Argument,
-    /// An option that has to be given.
-    Required,
-    /// An option that may be missing.
-    Optional,
-    /// An option with this value where it is missing.
-    Default(&'a str),
+    /// An option that has to be given, with a value of this name.
+    Required(&'a str),
+    /// An option that may be missing, with a value of this name.
+    Optional(&'a str),
+    /// An option with a value of this name, and what it is where it is missing.
+    Default { value: &'a str, text: &'a str },
     /// An option without a value.
     Flag,
 }
@@ -51,9 +51,12 @@ fn arg_of<'a>(alloc: Global, parameter: Parameter<'a>) -> Arg<'a> {
     let arg = Arg::new(alloc, parameter.name).help(parameter.help);
     match parameter.kind {
         Kind::Argument => arg.required(true),
-        Kind::Required => arg.long(parameter.name).required(true),
-        Kind::Optional => arg.long(parameter.name),
-        Kind::Default(value) => arg.long(parameter.name).default_value(value),
+        Kind::Required(value) => arg.long(parameter.name).value_name(value).required(true),
+        Kind::Optional(value) => arg.long(parameter.name).value_name(value),
+        Kind::Default { value, text } => arg
+            .long(parameter.name)
+            .value_name(value)
+            .default_value(text),
         Kind::Flag => arg.long(parameter.name).action(ArgAction::SetTrue),
     }
 }
@@ -75,57 +78,66 @@ pub const HASH: Parameter<'static> = Parameter {
 /// `--hash-offset`, of the commands that read or write a superblock.
 pub const HASH_OFFSET: Parameter<'static> = Parameter {
     name: "hash-offset",
-    help: "The superblock's place in HASH, in bytes",
-    kind: Kind::Default("0"),
+    help: "The superblock's position in HASH, in bytes",
+    kind: Kind::Default {
+        value: "BYTES",
+        text: "0",
+    },
 };
 
 /// `--hash-offset`, of the commands that edit: not beside `--table`.
 pub const OWN_OFFSET: Parameter<'static> = Parameter {
     name: "hash-offset",
-    help: "The superblock's place in HASH, in bytes; 0 where neither it nor a line is named",
-    kind: Kind::Optional,
+    help: "The superblock's position in HASH, in bytes; 0 where neither it nor a line is named",
+    kind: Kind::Optional("BYTES"),
 };
 
 /// `--table`, of the commands that edit.
 pub const OWN_TABLE: Parameter<'static> = Parameter {
     name: "table",
-    help: "The table line of the volume, under which nothing else of it is trusted",
-    kind: Kind::Optional,
+    help: "The trusted table line of the volume; nothing else of it is trusted",
+    kind: Kind::Optional("LINE"),
 };
 
 /// `--journal`, of the commands that commit.
 pub const JOURNAL: Parameter<'static> = Parameter {
     name: "journal",
     help: "The journal's path, or none; HASH.journal where HASH is a file",
-    kind: Kind::Optional,
+    kind: Kind::Optional("PATH"),
 };
 
 /// `--table`, of the commands that trust a table line.
 pub const TABLE: Parameter<'static> = Parameter {
     name: "table",
     help: "The table line of the volume",
-    kind: Kind::Required,
+    kind: Kind::Required("LINE"),
 };
 
 /// `--name`, of the commands that serve.
 pub const NAME: Parameter<'static> = Parameter {
     name: "name",
     help: "The export's name",
-    kind: Kind::Required,
+    kind: Kind::Required("NAME"),
 };
 
 /// `--cache`, of the commands that serve.
 pub const CACHE: Parameter<'static> = Parameter {
     name: "cache",
     help: "How many checked hash blocks are kept",
-    kind: Kind::Default("1024"),
+    kind: Kind::Default {
+        value: "BLOCKS",
+        text: "1024",
+    },
 };
 
 /// `--timeout`, of the commands that read devices at servers.
 pub const TIMEOUT: Parameter<'static> = Parameter {
     name: "timeout",
     help: "How many seconds a server of a device is waited for",
-    kind: Kind::Default("30"),
+    kind: Kind::Default {
+        value: "SECONDS",
+        text: "30",
+    },
 };
 
 /// `--quiet`, of the commands that read a volume whole.

@@ -6,7 +6,7 @@ use clap::ArgMatches;
 /// The command.
 pub const FORM: Form<'static> = Form {
     name: "recover",
-    about: "Makes whole a commit that a stop cut short",
+    about: "Recovers a commit that a crash cut short",
     example: "Example:
   dalgovuun recover image image.hash",
     parameters: &[DATA, HASH, JOURNAL],

@@ -16,24 +16,33 @@ pub const FORM: Form<'static> = Form {
         Parameter {
             name: "listen",
             help: "The address to listen on, as HOST:PORT or unix:PATH",
-            kind: Kind::Required,
+            kind: Kind::Required("ADDRESS"),
         },
         NAME,
         CACHE,
         Parameter {
             name: "sessions",
             help: "How many connections are served",
-            kind: Kind::Default("4294967295"),
+            kind: Kind::Default {
+                value: "COUNT",
+                text: "4294967295",
+            },
         },
         Parameter {
             name: "memory",
             help: "The most MiB of replies that wait to be sent",
-            kind: Kind::Default("128"),
+            kind: Kind::Default {
+                value: "MIB",
+                text: "128",
+            },
         },
         Parameter {
             name: "idle",
             help: "After how many seconds a silent client is left; 0: never",
-            kind: Kind::Default("0"),
+            kind: Kind::Default {
+                value: "SECONDS",
+                text: "0",
+            },
         },
         TIMEOUT,
     ],

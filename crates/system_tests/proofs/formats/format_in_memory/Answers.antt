@@ -12,8 +12,8 @@ returns-in-Ok g c =
         p.table,
         _,
         _,
-        p.left.closed.0 ∙ ap (λ s. s.image.items) p.left.is_opened,
-        p.there.3.1 all ∙ p.there.1 c.requires.data_path,
+        p.left.closed.0 ∙ ap (λ s. s.image.items) p.left.is_opened.0,
+        p.there.3.1 all ∙ p.there.1.image c.requires.data_path,
         p.told p.there.3.0,
         (p.shape, p.left.closed.1 c.requires.hash_path ∙ ap (λ x. Some (concat x)) (p.written p.there.3.0 p.left.there.0)),
       );

@@ -1,6 +1,6 @@
 use Rattle.std.proofs.Common.{inr, rules, subst}
 use Rattle.verity_gate.specs.Shut.{HasGateNow}
-use Rattle.verity_gate.proofs.Volumes.{no_journal, under_way}
+use Rattle.verity_gate.proofs.Unshut.{no_journal, under_way}
 use Rattle.verity_gate.proofs.shut.check_first_bytes.Goals as goal
 
 pub returns-in-Open-clause-refused : goal.returns-in-Open-clause-refused

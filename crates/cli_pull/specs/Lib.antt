@@ -1,0 +1,5 @@
+pub mod Faults
+pub mod Opening
+pub mod Printed
+pub mod Superblocks
+pub mod Words

@@ -1,0 +1,3 @@
+pub mod Blamed
+pub mod Journals
+pub mod Names
