@@ -20,6 +20,8 @@ fn words(data_blocks: Option<&'static str>) -> FormatWords<'static> {
         hash_block_size: "512",
         algorithm: "sha256",
         hash_offset: "0",
+        slice: None,
+        is_joined: false,
         is_quiet: true,
     }
 }

@@ -31,6 +31,7 @@ word_name word.Sessions = codes "--sessions"
 word_name word.Memory = codes "--memory"
 word_name word.Idle = codes "--idle"
 word_name word.Journal = codes "--journal"
+word_name word.Slice = codes "--slice"
 
 -- what can stand for it
 abbrev pub word_wanted : Word → List ℕ
@@ -50,6 +51,7 @@ word_wanted word.Memory = codes "a count of MiB, in decimal digits, from 33 to 1
 word_wanted word.Idle = codes "a count of seconds, in decimal digits"
 word_wanted word.Journal =
     codes "a path that leads neither to DATA nor to HASH; none, of edit and update, for no journal; a device has one only if named"
+word_wanted word.Slice = codes "K/N in decimal digits, the K-th of N, K from 1 to N, and N at most 65536; not beside --join"
 
 -- decimal digits whose value fits 64 bits, however many
 abbrev pub is_decimal : List ℕ → Bool

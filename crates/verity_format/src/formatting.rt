@@ -39,21 +39,21 @@ use verity_words::FormatWords;
 
 /// The numbers and names among the words.
 #[derive(Clone, Copy)]
-struct Shape {
-    data_block_size: usize,
-    hash_block_size: usize,
-    hash_offset: u64,
-    data_blocks: Option<u64>,
-    algorithm: Algorithm,
-    uuid: Uuid,
+pub(crate) struct Shape {
+    pub(crate) data_block_size: usize,
+    pub(crate) hash_block_size: usize,
+    pub(crate) hash_offset: u64,
+    pub(crate) data_blocks: Option<u64>,
+    pub(crate) algorithm: Algorithm,
+    pub(crate) uuid: Uuid,
 }
 
 /// A hash device that was made: of how many data blocks, where its tree begins, and its root hash.
 #[derive(Clone, Copy)]
-struct Made {
-    data_blocks: u64,
-    hash_start_block: u64,
-    root: Digest,
+pub(crate) struct Made {
+    pub(crate) data_blocks: u64,
+    pub(crate) hash_start_block: u64,
+    pub(crate) root: Digest,
 }
 
 /// Makes HASH, the hash device of DATA, and prints the table line.
@@ -89,7 +89,7 @@ pub fn format<R: Clock + Eprint + AllocGlobal, S: System, W: Write, E: IsTermina
 }
 
 /// The table line of a device that was made.
-fn made_line(
+pub(crate) fn made_line(
     alloc: Global,
     words: &FormatWords<'_>,
     shape: &Shape,
@@ -113,7 +113,7 @@ fn made_line(
 }
 
 #[tactic(auto, using(crate::proofs::Blaming::of_hash_block_size, crate::proofs::Blaming::of_hash_offset, crate::proofs::Blaming::of_uuid))]
-fn read_shape(words: &FormatWords<'_>) -> Result<Shape, Failure>
+pub(crate) fn read_shape(words: &FormatWords<'_>) -> Result<Shape, Failure>
     ensures asked { IfOk result (IsAsked words.now) }
     ensures blames { IfErr result (Misreads words.now) }
     ensures system { IfErr result (IsS1For ⊥) }
@@ -283,4 +283,21 @@ fn lock_or_unmake<S: System>(
         system.unmake(path);
     }
     taken
+}
+
+/// A store over all of DATA, or over as many blocks as were asked for, opened and locked for a command, and which file it is.
+pub(crate) fn open_data_for<S: System>(
+    system: &S,
+    path: &str,
+    shape: &Shape,
+    command: Command,
+) -> Result<(S::Store, Identity), Fault> {
+    check_block_size(shape.data_block_size)?;
+    let data = open_to_read(system, path, command, Which::Data)?;
+    let identity = system.identity_of(&data);
+    let part = match shape.data_blocks {
+        Some(blocks) => Part::First(blocks),
+        None => Part::All,
+    };
+    Ok((system.store(data, part, shape.data_block_size)?, identity))
 }

@@ -8,6 +8,11 @@
 //! (what is printed), `Blamed` (which words are blamed).
 #![tactic(auto)]
 
+mod asked;
 mod formatting;
+mod joining;
+mod slicing;
 
 pub use formatting::format;
+pub use joining::format_join;
+pub use slicing::format_slice;

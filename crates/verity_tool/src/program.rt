@@ -12,9 +12,9 @@ use std::rt::Files;
 use std::time::Clock;
 use verity_changes::{edit, scratch, update};
 use verity_files::{DONE, Failure, Host, NOT_UNDERSTOOD, REFUSED};
-use verity_format::format;
+use verity_format::{format, format_join, format_slice};
 use verity_serving::{CountedReader, CountedWriter, fail, serve, talk, verify};
-use verity_words::{Request, explain, explain_corrupt, explain_usage, explain_words, read_words};
+use verity_words::{FormatWords, Request, explain, explain_corrupt, explain_usage, explain_words, read_words};
 
 /// Does what the words ask for, of which the first is the program's own name, and answers the status that the process
 /// ends with: 0 done; 1 refused, corrupt, or a fault of a file, a socket or the output; 2 words that were not
@@ -82,7 +82,7 @@ fn answer<
     match request {
         Request::Scratch => scratch(rt, input, output, errors),
         Request::Format(words) => {
-            format(rt, &mut Host::new(rt), &words, output, errors).map(|()| DONE)
+            format_as_asked(rt, &words, input, output, errors).map(|()| DONE)
         },
         Request::Dump(words) => dump(rt, &words, output).map(|()| DONE),
         Request::Edit(words) => edit(rt, &words, output, errors),
@@ -101,6 +101,29 @@ fn answer<
         ),
         Request::Recover(words) => recover(rt, &words, output).map(|()| DONE),
         Request::Update(words) => update(rt, &words, output, errors),
+    }
+}
+
+/// Makes a hash device: whole, a slice of it, or all but the slices.
+fn format_as_asked<
+    R: Files<File = File> + Clock + Eprint + AllocGlobal,
+    I: Read,
+    W: Write,
+    E: Write + IsTerminal,
+>(
+    rt: &R,
+    words: &FormatWords<'_>,
+    input: &mut I,
+    output: &mut W,
+    errors: &E,
+) -> Result<(), Failure> {
+    let mut system = Host::new(rt);
+    match words.slice {
+        Some(asked) => format_slice(rt, &mut system, words, asked, output, errors),
+        None if words.is_joined => {
+            format_join(rt.alloc(), &mut system, words, input, output)
+        }
+        None => format(rt, &mut system, words, output, errors),
     }
 }
 

@@ -86,6 +86,7 @@ fn subject_of<'a>(parts: Parts<'a>, fault: Fault) -> &'a str {
         Fault::Superblock(SuperFault::Offset) => "--hash-offset",
         Fault::Superblock(_) => parts.hash,
         Fault::Build(fault) => built(parts, fault),
+        Fault::Uncovered => "standard input",
         Fault::Check(CheckFault::Store(which)) => parts.path(which),
         Fault::Check(CheckFault::CacheSize) => "--cache",
         Fault::Check(_) => "the volume",
@@ -217,7 +218,7 @@ fn look_at_device<'a, R: Files<File = File>>(
 /// Why a path can't be looked at. `format` makes HASH where there is nothing.
 fn unseen<'a>(command: Command, which: Which, error: io::Error) -> Detail<'a> {
     match (command, which) {
-        (Command::Format, Which::Hash) => Detail::Unmade,
+        (Command::Format | Command::Slice, Which::Hash) => Detail::Unmade,
         _ => Detail::System(error),
     }
 }

@@ -48,6 +48,16 @@ pub const FORM: Form<'static> = Form {
             kind: Kind::Default("sha256"),
         },
         HASH_OFFSET,
+        Parameter {
+            name: "slice",
+            help: "K/N: makes the blocks of level 0 of the K-th of N slices, and prints 'slice A B'",
+            kind: Kind::Optional,
+        },
+        Parameter {
+            name: "join",
+            help: "Makes all but level 0; the standard input has the lines of the slices",
+            kind: Kind::Flag,
+        },
         QUIET,
     ],
 };
@@ -64,6 +74,8 @@ pub struct FormatWords<'a> {
     pub hash_block_size: &'a str,
     pub algorithm: &'a str,
     pub hash_offset: &'a str,
+    pub slice: Option<&'a str>,
+    pub is_joined: bool,
     pub is_quiet: bool,
 }
 
@@ -78,6 +90,8 @@ pub fn format_words<'a>(matches: &ArgMatches<'a>) -> Option<FormatWords<'a>> {
         hash_block_size: matches.get_str("hash-block-size")?,
         algorithm: matches.get_str("algorithm")?,
         hash_offset: matches.get_str("hash-offset")?,
+        slice: matches.get_str("slice"),
+        is_joined: matches.get_flag("join"),
         is_quiet: matches.get_flag("quiet"),
     })
 }
