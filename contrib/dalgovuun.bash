@@ -8,18 +8,18 @@ _dalgovuun() {
     case $before in
     --algorithm) mapfile -t COMPREPLY < <(compgen -W 'sha256 sha512' -- "$current"); return ;;
     --journal) mapfile -t COMPREPLY < <(compgen -f -- "$current"); return ;;
-    --cache | --data-block-size | --data-blocks | --hash-block-size | --hash-offset | --idle | --listen | --memory | --name | --salt | --sessions | --table | --to | --uuid) return ;;
+    --cache | --data-block-size | --data-blocks | --hash-block-size | --hash-offset | --idle | --listen | --memory | --name | --salt | --sessions | --table | --timeout | --to | --uuid) return ;;
     esac
     case ${COMP_WORDS[1]} in
     format) options='--salt --uuid --data-blocks --data-block-size --hash-block-size --algorithm --hash-offset --quiet --help' ;;
     dump) options='--hash-offset --help' ;;
     edit) options='--hash-offset --table --journal --quiet --help' ;;
     update) options='--hash-offset --table --journal --quiet --help' ;;
-    pull) options='--to --table --uuid --hash-offset --quiet --help' ;;
+    pull) options='--to --table --uuid --hash-offset --timeout --quiet --help' ;;
     recover) options='--journal --help' ;;
-    verify) options='--table --quiet --help' ;;
-    serve) options='--table --listen --name --cache --sessions --memory --idle --help' ;;
-    talk) options='--table --name --cache --help' ;;
+    verify) options='--table --timeout --quiet --help' ;;
+    serve) options='--table --listen --name --cache --sessions --memory --idle --timeout --help' ;;
+    talk) options='--table --name --cache --timeout --help' ;;
     *) options= ;;
     esac
     case $current in

@@ -6,7 +6,7 @@ use Rattle.plain_words.specs.declared.number.Number.TheVariants.{G1, G2}
 use Rattle.plain_words.specs.declared.number.Number.TheVariants.{M1, M2, M3}
 use Rattle.plain_words.specs.declared.number.Number.TheVariants.{B1, B2, B3, B4, B5, B6, B7, B8, B9, B10}
 use Rattle.plain_words.specs.declared.number.Number.TheVariants.{L1, L2, L3, L4, L5, L6, L7, L8, L9}
-use Rattle.plain_words.specs.declared.number.Number.TheVariants.{U1, U2, U3, U4}
+use Rattle.plain_words.specs.declared.number.Number.TheVariants.{U1, U2, U3, U4, J1}
 use Rattle.plain_words.specs.declared.number.Number.TheVariants.{E1, E2, E3, E4, E5, E6, E7, E8, E9, E10, E11, E12, E13, E14}
 use Rattle.plain_words.specs.declared.number.Number.TheVariants.{V1, V2, V3, V4, V5}
 use Rattle.plain_words.specs.declared.number.Number.TheVariants.{P1, P2}
@@ -50,6 +50,7 @@ number_text U1 = codes "U1"
 number_text U2 = codes "U2"
 number_text U3 = codes "U3"
 number_text U4 = codes "U4"
+number_text J1 = codes "J1"
 number_text E1 = codes "E1"
 number_text E2 = codes "E2"
 number_text E3 = codes "E3"

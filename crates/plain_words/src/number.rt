@@ -48,6 +48,8 @@ pub enum Number {
     U2,
     U3,
     U4,
+    // slices that are joined
+    J1,
     // an editor
     E1,
     E2,
@@ -173,6 +175,9 @@ impl Number {
             Number::U3 => Meaning::new("U3", "memory was refused"),
             Number::U4 => Meaning::new("U4", "no superblock can stand at this offset").advising(
                 "name a multiple of the hash block size",
+            ),
+            Number::J1 => Meaning::new("J1", "the slices leave blocks of level 0 out").advising(
+                "make the slices that are missing, and join again",
             ),
             Number::E1 => Meaning::new("E1", "the block isn't below the count").advising(
                 "grow the image first",

@@ -40,6 +40,7 @@ impl<D: Dial + Drop> HttpSource<D> {
         target: &str,
         patience: Patience,
     ) -> Result<HttpSource<D>, RemoteFault>
+        ensures dial { IfOk result (λ s. s.dial ≡ dial) }
         ensures host { IfOk result (λ s. string_bytes s.host ≡ host.now) }
         ensures target { IfOk result (λ s. string_bytes s.target ≡ target.now) }
     {
@@ -77,6 +78,7 @@ impl<D: Dial + Drop> HttpSource<D> {
     ) -> Result<Given, RangeFault>
         requires some { 0 < length out.old }
         requires fits { at + length out.old ≤ 2 ^ 64 }
+        ensures dial { self.new.dial ≡ self.old.dial }
         ensures host { self.new.host ≡ self.old.host }
         ensures target { self.new.target ≡ self.old.target }
         ensures given { IfOk result (λ g. GivesRange (D.Wire.remaining wire.old) (D.Wire.remaining wire.new) at out.new g.total) }

@@ -39,7 +39,8 @@ impl<D: Dial + Drop> NbdSource<D> {
         name: &str,
         patience: Patience,
     ) -> Result<NbdSource<D>, RemoteFault>
-        ensures { IfOk result (λ s. string_bytes s.name ≡ name.now) }
+        ensures dial { IfOk result (λ s. s.dial ≡ dial) }
+        ensures name { IfOk result (λ s. string_bytes s.name ≡ name.now) }
     {
         let mut source = NbdSource {
             alloc,

@@ -28,7 +28,8 @@ impl<S: Source> Patient<S> {
     pub fn new(source: S, patience: Patience) -> Patient<S>
     where
         S: Drop,
-        ensures { ⟦<Patient<S> as RawFile>⟧.bytes result ≡ S.bytes source }
+        ensures source { result.source ≡ source }
+        ensures bytes { ⟦<Patient<S> as RawFile>⟧.bytes result ≡ S.bytes source }
     {
         Patient {
             source,

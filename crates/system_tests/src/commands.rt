@@ -20,6 +20,8 @@ fn words(data_blocks: Option<&'static str>) -> FormatWords<'static> {
         hash_block_size: "512",
         algorithm: "sha256",
         hash_offset: "0",
+        slice: None,
+        is_joined: false,
         is_quiet: true,
     }
 }
@@ -41,6 +43,8 @@ fn verified(rt: &HostRuntime, system: &MemSystem, line: &[u8]) -> (Vec<u8>, Resu
     let table = str::from_utf8(line).unwrap_or("").trim_end();
     let words = VerifyWords {
         table,
+        slice: None,
+        timeout: "30",
         is_quiet: true,
     };
     let status = verify(rt, system, &words, &mut output, &rt.stderr());

@@ -3,14 +3,16 @@ use Rattle.std.specs.Prelude.{Bool, true, false}
 use Rattle.verity_store.specs.declared.fault.Which.{Which}
 use Rattle.verity_store.specs.declared.fault.Which.TheVariants as which
 use Rattle.verity_files.specs.declared.command.Command.{Command}
-use Rattle.verity_files.specs.declared.command.Command.TheVariants.{Format, Dump, Edit, Verify, Serve, Talk, Recover, Update, Pull}
+use Rattle.verity_files.specs.declared.command.Command.TheVariants.{Format, Slice, Dump, Edit, Verify, Serve, Talk, Recover, Update, Pull}
 use Rattle.verity_files.specs.declared.command.Lock.{Lock}
 use Rattle.verity_files.specs.declared.command.Lock.TheVariants as lock
 
--- `format` writes the hash device, `edit`, `update`, `recover` and `pull` both; the others only read
+-- `format` and its slices write the hash device, `edit`, `update`, `recover` and `pull` both; the others only read
 abbrev pub writes : Command → Which → Bool
 writes Format which.Data = false
 writes Format which.Hash = true
+writes Slice which.Data = false
+writes Slice which.Hash = true
 writes Dump w = false
 writes Edit w = true
 writes Verify w = false
@@ -20,9 +22,11 @@ writes Recover w = true
 writes Update w = true
 writes Pull w = true
 
--- one that writes works alone; those that read a volume shut out whoever writes; `dump` takes what stands there
+-- one that writes works alone, but for slices, which work beside one another; those that read a volume shut out whoever writes but a
+-- slice; `dump` takes what stands there
 abbrev pub lock_of : Command → Lock
 lock_of Format = lock.Alone
+lock_of Slice = lock.Shared
 lock_of Dump = lock.Open
 lock_of Edit = lock.Alone
 lock_of Verify = lock.Shared

@@ -18,7 +18,7 @@ use Rattle.verity_superblock.specs.declared.faults.TableFault.TheVariants as tab
 use Rattle.verity_superblock.specs.Texts.{super_text, table_text}
 use Rattle.verity_files.specs.declared.fault.Fault.{Fault}
 use Rattle.verity_files.specs.declared.fault.Fault.TheVariants.{Store, InUse, NewInUse, UnderWay, Journal}
-use Rattle.verity_files.specs.declared.fault.Fault.TheVariants.{Salt, Superblock, Table, Build, Check, Edit, Session, Socket}
+use Rattle.verity_files.specs.declared.fault.Fault.TheVariants.{Salt, Superblock, Table, Build, Uncovered, Check, Edit, Session, Socket}
 use Rattle.verity_files.specs.declared.failure.Failure.{Failure}
 use Rattle.verity_files.specs.declared.failure.Failure.TheVariants.{Word, Refused, NoMemory, Output}
 use Rattle.verity_files.specs.Words.{word_name}
@@ -34,6 +34,7 @@ fault_text (Salt fault) = salt_text fault
 fault_text (Superblock fault) = super_text fault
 fault_text (Table fault) = table_text fault
 fault_text (Build fault) = build_text fault
+fault_text Uncovered = codes "J1"
 fault_text (Check fault) = check_text fault
 fault_text (Edit fault) = edit_text fault
 fault_text (Session fault) = session_text fault

@@ -1,6 +1,6 @@
 -- Texts that aren't understood as a word of a command.
 use Rattle.std.specs.Prelude.{◌≡◌, ◌≢◌, ℕ, List, codes, None, Err}
-use Rattle.verity_files.specs.Words.{number_in, sessions_in, memory_in, salt_of, uuid_in}
+use Rattle.verity_files.specs.Words.{number_in, sessions_in, memory_in, timeout_in, salt_of, uuid_in}
 use Rattle.verity_files.specs.declared.failure.Failure.TheVariants as failure
 use Rattle.verity_files.specs.declared.failure.Word.{Word}
 use Rattle.verity_files.specs.declared.failure.Word.TheVariants as word
@@ -12,4 +12,5 @@ IsMisread word.Uuid text = uuid_in text ≡ Err (failure.Word word.Uuid)
 IsMisread word.Algorithm text = (text ≢ codes "sha256") × (text ≢ codes "sha512")
 IsMisread word.Sessions text = sessions_in text ≡ Err (failure.Word word.Sessions)
 IsMisread word.Memory text = memory_in text ≡ Err (failure.Word word.Memory)
+IsMisread word.Timeout text = timeout_in text ≡ Err (failure.Word word.Timeout)
 IsMisread number text = number_in number text ≡ Err (failure.Word number)

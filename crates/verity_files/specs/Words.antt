@@ -31,6 +31,8 @@ word_name word.Sessions = codes "--sessions"
 word_name word.Memory = codes "--memory"
 word_name word.Idle = codes "--idle"
 word_name word.Journal = codes "--journal"
+word_name word.Timeout = codes "--timeout"
+word_name word.Slice = codes "--slice"
 
 -- what can stand for it
 abbrev pub word_wanted : Word → List ℕ
@@ -50,6 +52,8 @@ word_wanted word.Memory = codes "a count of MiB, in decimal digits, from 33 to 1
 word_wanted word.Idle = codes "a count of seconds, in decimal digits"
 word_wanted word.Journal =
     codes "a path that leads neither to DATA nor to HASH; none, of edit and update, for no journal; a device has one only if named"
+word_wanted word.Timeout = codes "a count of seconds, in decimal digits, from 1 to 86400"
+word_wanted word.Slice = codes "K/N in decimal digits, the K-th of N, K from 1 to N, and N at most 65536; not beside --join"
 
 -- decimal digits whose value fits 64 bits, however many
 abbrev pub is_decimal : List ℕ → Bool
@@ -71,6 +75,13 @@ memory_in digits =
     if is_decimal digits && (nat_lt 32 (digits_value 10 digits) && nat_lt (digits_value 10 digits) (2 ^ 20 + 1))
     then Ok (digits_value 10 digits)
     else Err (failure.Word word.Memory)
+
+-- for how many seconds a server is waited: at least 1, and at most a day
+abbrev pub timeout_in : List ℕ → Result ℕ Failure
+timeout_in digits =
+    if is_decimal digits && (nat_lt 0 (digits_value 10 digits) && nat_lt (digits_value 10 digits) 86401)
+    then Ok (digits_value 10 digits)
+    else Err (failure.Word word.Timeout)
 
 -- the bytes of a salt: `none` for no bytes, else hexadecimal digits, two for a byte
 abbrev pub salt_of : List ℕ → Option (List ℕ)

@@ -8,6 +8,7 @@ use verity_store::Which;
 #[derive(Clone, Copy, Debug, PartialEq, Eq)]
 pub enum Command {
     Format,
+    Slice,
     Dump,
     Edit,
     Verify,
@@ -40,6 +41,10 @@ impl Command {
                 Which::Data => false,
                 Which::Hash => true,
             },
+            Command::Slice => match which {
+                Which::Data => false,
+                Which::Hash => true,
+            },
             Command::Edit => true,
             Command::Dump => false,
             Command::Verify => false,
@@ -57,6 +62,7 @@ impl Command {
     {
         match self {
             Command::Format => Lock::Alone,
+            Command::Slice => Lock::Shared,
             Command::Dump => Lock::Open,
             Command::Edit => Lock::Alone,
             Command::Verify => Lock::Shared,

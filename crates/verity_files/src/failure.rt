@@ -38,6 +38,8 @@ pub enum Word {
     Memory,
     Idle,
     Journal,
+    Timeout,
+    Slice,
 }
 
 impl fmt::Display for Word {
@@ -63,6 +65,8 @@ impl fmt::Display for Word {
             Word::Memory => "--memory",
             Word::Idle => "--idle",
             Word::Journal => "--journal",
+            Word::Timeout => "--timeout",
+            Word::Slice => "--slice",
         })
     }
 }
@@ -89,6 +93,9 @@ impl Word {
             Word::Idle => "a count of seconds, in decimal digits",
             Word::Journal =>
                 "a path that leads neither to DATA nor to HASH; none, of edit and update, for no journal; a device has one only if named",
+            Word::Timeout => "a count of seconds, in decimal digits, from 1 to 86400",
+            Word::Slice =>
+                "K/N in decimal digits, the K-th of N, K from 1 to N, and N at most 65536; not beside --join",
         }
     }
 }

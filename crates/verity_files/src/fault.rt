@@ -23,7 +23,7 @@ use verity_geometry::GeometryFault;
 use verity_store::{StoreFault, Which};
 use verity_superblock::{SuperFault, TableFault};
 
-/// A numbered fault: of a layer below, whose text it has, or S5 to S7 or N6.
+/// A numbered fault: of a layer below, whose text it has, or S5 to S7, J1 or N6.
 #[derive(Clone, Copy, Debug, PartialEq, Eq, Error)]
 pub enum Fault {
     /// S1 to S4.
@@ -44,6 +44,8 @@ pub enum Fault {
     Table(TableFault),
     /// U1 to U4.
     Build(BuildFault),
+    /// J1: slices don't have each block of level 0 among them.
+    Uncovered,
     /// V1 to V5.
     Check(CheckFault),
     /// E1 to E14.
@@ -88,6 +90,7 @@ impl Fault {
             Fault::Superblock(fault) => of_superblock(fault),
             Fault::Table(fault) => of_table(fault),
             Fault::Build(fault) => of_build(fault),
+            Fault::Uncovered => Number::J1,
             Fault::Check(fault) => of_check(fault),
             Fault::Edit(fault) => of_edit(fault),
             Fault::Session(fault) => of_session(fault),
@@ -240,6 +243,7 @@ impl fmt::Display for Fault {
             Fault::Session(fault) => write!(f, "{fault}"),
             Fault::UnderWay => f.write_str("S6"),
             Fault::Journal => f.write_str("S7"),
+            Fault::Uncovered => f.write_str("J1"),
             Fault::Socket => f.write_str("N6"),
         }
     }

@@ -35,11 +35,12 @@ pub use read_only::open_to_read;
 pub use reading::read_script;
 pub use status::{DONE, NO_MEMORY, NOT_UNDERSTOOD, REFUSED};
 pub use stores::{
-    AskedStore, VolumeStore, asked_store, check_block_size, len_by_now, len_of_most, new_store,
-    room_of, store_of_first, store_of_most, whole_file, whole_store,
+    AskedStore, VolumeStore, asked_store, check_block_size, file_of_first, file_of_most,
+    len_by_now, len_of_most, new_store, room_of, store_of_first, store_of_most, whole_file,
+    whole_store,
 };
 pub use system::System;
 pub use values::{
-    algorithm, block_size, check_paths, memory, number, salt, salt_bytes, sessions, uuid,
+    algorithm, block_size, check_paths, memory, number, salt, salt_bytes, sessions, timeout, uuid,
 };
 pub use volume_file::{RegularFile, VolumeFile};

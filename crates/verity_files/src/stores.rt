@@ -158,7 +158,7 @@ pub fn whole_file(opened: Opened) -> VolumeFile<File>
 }
 
 /// A file as it stands, or the first blocks of a device, at most so many.
-fn file_of_most(opened: Opened, size: usize, blocks: u64) -> VolumeFile<File>
+pub fn file_of_most(opened: Opened, size: usize, blocks: u64) -> VolumeFile<File>
     requires { IsBlockSize size }
     ensures lies { LiesIn opened.identity opened.file false opened.len (min blocks (opened.len / size) * size) result }
     ensures unknown { ⟦<VolumeFile<File> as RawFile>⟧.bytes result ≡ None }
@@ -173,7 +173,7 @@ fn file_of_most(opened: Opened, size: usize, blocks: u64) -> VolumeFile<File>
 }
 
 /// The first blocks of a file or a device.
-fn file_of_first(opened: Opened, size: usize, blocks: u64) -> VolumeFile<File>
+pub fn file_of_first(opened: Opened, size: usize, blocks: u64) -> VolumeFile<File>
     requires size { IsBlockSize size }
     requires enough { blocks ≤ opened.len / size }
     ensures lies { IsPart opened.file opened.len (blocks * size) result }

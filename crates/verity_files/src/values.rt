@@ -5,7 +5,7 @@ ghost use Rattle.std.specs.List.{list_all};
 ghost use Rattle.std.specs.Char.{is_ascii_digit};
 ghost use Rattle.std.specs.Result.{result_err};
 ghost use Rattle.verity_superblock.specs.Line.{is_path};
-ghost use Rattle.verity_files.specs.Words.{number_in, sessions_in, memory_in, salt_of, uuid_in, paths_refusal};
+ghost use Rattle.verity_files.specs.Words.{number_in, sessions_in, memory_in, timeout_in, salt_of, uuid_in, paths_refusal};
 
 use crate::failure::{Failure, Word};
 use crate::fault::Fault;
@@ -19,6 +19,11 @@ use verity_superblock::path_fits;
 const LEAST_MEMORY: u64 = 33;
 
 const MOST_MEMORY: u64 = 1 << 20;
+
+/// The least and the most seconds for which a server is waited.
+const LEAST_TIMEOUT: u64 = 1;
+
+const MOST_TIMEOUT: u64 = 86_400;
 
 /// The most connections that `serve` may be asked to serve.
 const MOST_SESSIONS: u64 = 4294967295;
@@ -78,6 +83,22 @@ pub fn memory(text: &str) -> Result<u64, Failure>
                 Ok(mebibytes)
             } else {
                 Err(Failure::Word(Word::Memory))
+            }
+        }
+        Err(failure) => Err(failure),
+    }
+}
+
+/// The number of seconds for which a server is waited that a word is: at least 1, and at most 86,400, a day.
+pub fn timeout(text: &str) -> Result<u64, Failure>
+    ensures { result ≡ timeout_in text.now }
+{
+    match number(Word::Timeout, text) {
+        Ok(seconds) => {
+            if (LEAST_TIMEOUT..=MOST_TIMEOUT).contains(&seconds) {
+                Ok(seconds)
+            } else {
+                Err(Failure::Word(Word::Timeout))
             }
         }
         Err(failure) => Err(failure),

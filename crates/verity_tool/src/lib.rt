@@ -7,6 +7,7 @@
 //! What they print clauses of theirs say; that `run` calls the one that is asked for, and which status it answers, is shown by tests.
 #![tactic(auto)]
 
+mod anywhere;
 mod program;
 mod told;
 

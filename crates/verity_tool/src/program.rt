@@ -1,11 +1,12 @@
 //! The whole program.
 
+use crate::anywhere::{pull_anywhere, serve_anywhere, talk_anywhere, verify_anywhere};
 use crate::told::Told;
 use clap::Error;
 use clap::error::ErrorKind;
 use cli_dump::dump;
-use cli_pull::pull;
 use cli_recover::recover;
+use os_system::{Notes, check_here};
 use std::fs::File;
 use std::io::{Eprint, IsTerminal, Read, Write};
 use std::net::{Net, TcpListener, TcpStream};
@@ -14,7 +15,7 @@ use std::time::Clock;
 use verity_changes::{edit, scratch, update};
 use verity_files::{DONE, Failure, Host, NOT_UNDERSTOOD, REFUSED};
 use verity_format::format;
-use verity_serving::{CountedReader, CountedWriter, fail, serve, talk, verify};
+use verity_serving::fail;
 use verity_words::{
     Request, explain, explain_block_size, explain_corrupt, explain_usage, explain_words, read_words,
 };
@@ -52,7 +53,8 @@ fn do_request<
     W: Write,
     E: Write + IsTerminal,
 >(rt: &R, request: Request<'_>, input: &mut I, output: &mut W, errors: &mut E) -> u8 {
-    match answer(rt, request, input, output, errors) {
+    let notes = Notes::new(rt.alloc());
+    match answer(rt, request, &notes, input, output, errors) {
         Ok(status) => {
             if status == REFUSED && matches!(request, Request::Verify(_)) {
                 explain_corrupt(errors);
@@ -61,7 +63,7 @@ fn do_request<
         }
         Err(failure) => {
             let status = fail(failure, output);
-            explain(rt, request, failure, errors);
+            explain(rt, request, &notes, failure, errors);
             status
         }
     }
@@ -79,10 +81,12 @@ fn answer<
 >(
     rt: &R,
     request: Request<'_>,
+    notes: &Notes,
     input: &mut I,
     output: &mut W,
     errors: &mut E,
 ) -> Result<u8, Failure> {
+    check_written(request)?;
     match request {
         Request::Scratch => scratch(rt, input, output, errors),
         Request::Format(words) => {
@@ -92,24 +96,30 @@ fn answer<
         },
         Request::Dump(words) => dump(&Host::new(rt), &words, output).map(|()| DONE),
         Request::Edit(words) => edit(rt, &words, output, errors),
-        Request::Verify(words) => verify(rt, &Host::new(rt), &words, output, errors),
-        Request::Serve(words) => serve(
+        Request::Verify(words) => verify_anywhere(rt, &words, notes, output, errors),
+        Request::Serve(words) => serve_anywhere(
             rt,
-            &Host::new(rt),
+            rt,
             &words,
+            notes,
             &mut Told::new(output, errors, words.listen),
         ),
-        Request::Talk(words) => talk(
-            &Host::new(rt),
-            &words,
-            &mut CountedReader::new(input),
-            &mut CountedWriter::new(output),
-        ),
+        Request::Talk(words) => talk_anywhere(rt, &words, notes, input, output),
         Request::Recover(words) => recover(&mut Host::new(rt), &words, output).map(|()| DONE),
         Request::Update(words) => update(rt, &words, output, errors),
-        Request::Pull(words) => {
-            pull(rt, &mut Host::new(rt), &words, output, errors).map(|()| DONE)
-        },
+        Request::Pull(words) => pull_anywhere(rt, &words, notes, output, errors).map(|()| DONE),
+    }
+}
+
+/// That a command that writes names DATA and HASH by paths, and by no URLs.
+fn check_written(request: Request<'_>) -> Result<(), Failure> {
+    match request {
+        Request::Format(words) => check_here(words.data_path, words.hash_path),
+        Request::Edit(words) => check_here(words.data_path, words.hash_path),
+        Request::Update(words) => check_here(words.data_path, words.hash_path),
+        Request::Pull(words) => check_here(words.data_path, words.hash_path),
+        Request::Recover(words) => check_here(words.data_path, words.hash_path),
+        _ => Ok(()),
     }
 }
 

@@ -1,5 +1,5 @@
 -- What is said of what is seen, behind the words on a refusal.
-use Rattle.std.specs.Prelude.{ℕ, List, [], ◌++◌, Option, Some, None, codes}
+use Rattle.std.specs.Prelude.{ℕ, List, [], ◌++◌, Option, Some, None, codes, string_bytes}
 use Rattle.std.specs.Fmt.{decimal}
 use Rattle.verity_words.specs.declared.looking.Detail.{Detail as Seen}
 use Rattle.verity_words.specs.declared.looking.Detail.TheVariants as seen
@@ -21,4 +21,5 @@ detail_text (seen.Few found wanted) = Some (two_numbers (codes ": ") found (code
 detail_text (seen.Fields count) = Some (codes ": this one has " ++ decimal count)
 detail_text (seen.Text text) = Some (codes ": " ++ text.now)
 detail_text (seen.Number number) = Some (codes ": " ++ decimal number)
+detail_text (seen.Reason reason) = Some (codes ": " ++ string_bytes reason)
 detail_text seen.NoUuid = Some (codes ": no UUID is found for HASH's superblock; name one with --uuid")

@@ -8,6 +8,7 @@ use crate::looking::{Detail, look};
 use crate::parts::{Parts, parts_of};
 use crate::words::Request;
 use clap::error::ErrorKind;
+use os_system::Notes;
 use std::fs::File;
 use std::io;
 use std::io::Write;
@@ -15,15 +16,16 @@ use std::rt::Files;
 use verity_files::{Failure, Fault, Word, block_size};
 use verity_script::Line;
 
-/// Says why a command stopped.
+/// Says why a command stopped, beside what was seen of devices at servers.
 pub fn explain<R: Files<File = File>, E: Write>(
     rt: &R,
     request: Request<'_>,
+    notes: &Notes,
     failure: Failure,
     errors: &mut E,
 ) {
     match failure {
-        Failure::Refused(fault) => explain_fault(rt, parts_of(request), fault, errors),
+        Failure::Refused(fault) => explain_fault(rt, parts_of(request), notes, fault, errors),
         Failure::Word(word) if matches!(request, Request::Pull(_)) => explain_made(word, errors),
         failure => explain_words(failure, errors),
     }
@@ -111,10 +113,11 @@ pub fn explain_recovered<E: Write>(path: &str, errors: &mut E) {
 fn explain_fault<R: Files<File = File>, E: Write>(
     rt: &R,
     parts: Parts<'_>,
+    notes: &Notes,
     fault: Fault,
     errors: &mut E,
 ) {
-    let (subject, detail) = look(rt, parts, fault);
+    let (subject, detail) = look(rt, parts, notes, fault);
     let _ = tell(errors, subject, &detail, fault);
 }
 

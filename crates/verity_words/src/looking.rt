@@ -2,6 +2,7 @@
 
 use crate::parts::{Parts, field};
 use crate::pulling::look_at_pull;
+use os_system::Notes;
 use std::fs::{File, OpenOptions};
 use std::rt::Files;
 use std::{fmt, fs, io};
@@ -37,6 +38,8 @@ pub enum Detail<'a> {
     Text(&'a str),
     /// The number that was found.
     Number(u64),
+    /// Why what lies at a server couldn't be opened.
+    Reason(String),
     /// No UUID is found.
     NoUuid,
 }
@@ -59,6 +62,7 @@ impl fmt::Display for Detail<'_> {
             Detail::Fields(count) => write!(f, ": this one has {count}"),
             Detail::Text(text) => write!(f, ": {text}"),
             Detail::Number(number) => write!(f, ": {number}"),
+            Detail::Reason(reason) => write!(f, ": {reason}"),
             Detail::NoUuid => f.write_str(
                 ": no UUID is found for HASH's superblock; name one with --uuid",
             ),
@@ -70,13 +74,14 @@ impl fmt::Display for Detail<'_> {
 pub fn look<'a, R: Files<File = File>>(
     rt: &R,
     parts: Parts<'a>,
+    notes: &Notes,
     fault: Fault,
 ) -> (&'a str, Detail<'a>) {
     match fault {
-        fault if parts.command == Command::Pull => look_at_pull(rt, parts, fault),
+        fault if parts.command == Command::Pull => look_at_pull(rt, parts, notes, fault),
         Fault::Store(StoreFault::BlockSize) => look_at_sizes(parts),
-        Fault::Store(fault) => look_at_files(rt, parts, fault),
-        Fault::Check(CheckFault::Lengths) => look_at_lengths(rt, parts),
+        Fault::Store(fault) => look_at_files(rt, parts, notes, fault),
+        Fault::Check(CheckFault::Lengths) => look_at_lengths(rt, parts, notes),
         Fault::Table(fault) => ("the table line", look_at_line(parts.line, fault)),
         Fault::Socket => (parts.address, Detail::None),
         fault => (subject_of(parts, fault), Detail::None),
@@ -93,6 +98,7 @@ pub(crate) fn subject_of<'a>(parts: Parts<'a>, fault: Fault) -> &'a str {
         Fault::Superblock(SuperFault::Offset) => "--hash-offset",
         Fault::Superblock(_) => parts.hash,
         Fault::Build(fault) => built(parts, fault),
+        Fault::Uncovered => "standard input",
         Fault::Check(CheckFault::Store(which)) => parts.path(which),
         Fault::Check(CheckFault::CacheSize) => "--cache",
         Fault::Check(_) => "the volume",
@@ -150,8 +156,9 @@ pub(crate) fn look_at_line<'a>(line: &'a str, fault: TableFault) -> Detail<'a> {
 pub(crate) fn look_at_lengths<'a, R: Files<File = File>>(
     rt: &R,
     parts: Parts<'a>,
+    notes: &Notes,
 ) -> (&'a str, Detail<'a>) {
-    match blocks_of(rt, parts, Which::Data) {
+    match blocks_of(rt, parts, notes, Which::Data) {
         Some(blocks) if blocks < parts.data_blocks => {
             (parts.data, Detail::Few(blocks, parts.data_blocks))
         }
@@ -159,11 +166,31 @@ pub(crate) fn look_at_lengths<'a, R: Files<File = File>>(
     }
 }
 
-fn blocks_of<R: Files<File = File>>(rt: &R, parts: Parts<'_>, which: Which) -> Option<u64> {
+fn blocks_of<R: Files<File = File>>(
+    rt: &R,
+    parts: Parts<'_>,
+    notes: &Notes,
+    which: Which,
+) -> Option<u64> {
     let size = parts.size(which);
-    match open_there(rt, parts.path(which), Command::Dump, which) {
-        Ok(opened) if size > 0 => Some(opened.len / size),
-        _ => None,
+    let len = len_seen(rt, parts, notes, which)?;
+    if size > 0 { Some(len / size) } else { None }
+}
+
+/// How many bytes one of a volume's files has, or had at its server when it was opened.
+fn len_seen<R: Files<File = File>>(
+    rt: &R,
+    parts: Parts<'_>,
+    notes: &Notes,
+    which: Which,
+) -> Option<u64> {
+    let path = parts.path(which);
+    match notes.len_of(path) {
+        Some(len) => Some(len),
+        None => match open_there(rt, path, Command::Dump, which) {
+            Ok(opened) => Some(opened.len),
+            Err(_) => None,
+        },
     }
 }
 
@@ -171,10 +198,11 @@ fn blocks_of<R: Files<File = File>>(rt: &R, parts: Parts<'_>, which: Which) -> O
 fn look_at_files<'a, R: Files<File = File>>(
     rt: &R,
     parts: Parts<'a>,
+    notes: &Notes,
     fault: StoreFault,
 ) -> (&'a str, Detail<'a>) {
-    let data = look_at_store(rt, parts, Which::Data, fault);
-    let hash = look_at_store(rt, parts, Which::Hash, fault);
+    let data = look_at_store(rt, parts, notes, Which::Data, fault);
+    let hash = look_at_store(rt, parts, notes, Which::Hash, fault);
     match (data, hash) {
         (Some(detail), _) => (parts.data, detail),
         (None, Some(detail)) => (parts.hash, detail),
@@ -197,20 +225,28 @@ fn look_at_read<'a, R: Files<File = File>>(rt: &R, parts: Parts<'a>) -> (&'a str
 pub(crate) fn look_at_store<'a, R: Files<File = File>>(
     rt: &R,
     parts: Parts<'a>,
+    notes: &Notes,
     which: Which,
     fault: StoreFault,
 ) -> Option<Detail<'a>> {
     match fault {
-        StoreFault::Device => look_at_device(rt, parts, which),
-        StoreFault::Ragged => look_at_length(rt, parts, which),
+        StoreFault::Device if parts.may_be_far(which) => look_at_server(parts, notes, which),
+        StoreFault::Device => look_at_device(rt, parts, notes, which),
+        StoreFault::Ragged => look_at_length(rt, parts, notes, which),
         StoreFault::NoMemory | StoreFault::BlockSize => None,
     }
+}
+
+/// Why what a URL names couldn't be opened.
+fn look_at_server<'a>(parts: Parts<'a>, notes: &Notes, which: Which) -> Option<Detail<'a>> {
+    notes.reason_for(parts.path(which)).map(Detail::Reason)
 }
 
 /// Why a file can't be opened, or has too few blocks.
 fn look_at_device<'a, R: Files<File = File>>(
     rt: &R,
     parts: Parts<'a>,
+    notes: &Notes,
     which: Which,
 ) -> Option<Detail<'a>> {
     let path = parts.path(which);
@@ -220,14 +256,14 @@ fn look_at_device<'a, R: Files<File = File>>(
     match fs::metadata(rt, path) {
         Err(error) => Some(unseen(parts.command, which, error)),
         Ok(metadata) if file_identity(&metadata).is_none() => Some(Detail::NoFile),
-        Ok(_) => look_at_opening(rt, parts, which),
+        Ok(_) => look_at_opening(rt, parts, notes, which),
     }
 }
 
 /// Why a path can't be looked at. `format` makes HASH where there is nothing, `pull` DATA and HASH.
 fn unseen<'a>(command: Command, which: Which, error: io::Error) -> Detail<'a> {
     match (command, which) {
-        (Command::Format, Which::Hash) | (Command::Pull, _) => Detail::Unmade,
+        (Command::Format | Command::Slice, Which::Hash) | (Command::Pull, _) => Detail::Unmade,
         _ => Detail::System(error),
     }
 }
@@ -235,6 +271,7 @@ fn unseen<'a>(command: Command, which: Which, error: io::Error) -> Detail<'a> {
 fn look_at_opening<'a, R: Files<File = File>>(
     rt: &R,
     parts: Parts<'a>,
+    notes: &Notes,
     which: Which,
 ) -> Option<Detail<'a>> {
     let opened = OpenOptions::new()
@@ -243,7 +280,7 @@ fn look_at_opening<'a, R: Files<File = File>>(
         .open(rt, parts.path(which));
     match opened {
         Err(error) => Some(Detail::System(error)),
-        Ok(_) => look_at_count(rt, parts, which),
+        Ok(_) => look_at_count(rt, parts, notes, which),
     }
 }
 
@@ -251,9 +288,10 @@ fn look_at_opening<'a, R: Files<File = File>>(
 fn look_at_count<'a, R: Files<File = File>>(
     rt: &R,
     parts: Parts<'a>,
+    notes: &Notes,
     which: Which,
 ) -> Option<Detail<'a>> {
-    match (which, blocks_of(rt, parts, which)) {
+    match (which, blocks_of(rt, parts, notes, which)) {
         (Which::Data, Some(blocks)) if blocks < parts.data_blocks => {
             Some(Detail::Few(blocks, parts.data_blocks))
         }
@@ -265,11 +303,12 @@ fn look_at_count<'a, R: Files<File = File>>(
 fn look_at_length<'a, R: Files<File = File>>(
     rt: &R,
     parts: Parts<'a>,
+    notes: &Notes,
     which: Which,
 ) -> Option<Detail<'a>> {
     let size = parts.size(which);
-    match open_there(rt, parts.path(which), Command::Dump, which) {
-        Ok(opened) if size > 0 && opened.len % size != 0 => Some(Detail::Bytes(opened.len, size)),
+    match len_seen(rt, parts, notes, which) {
+        Some(len) if size > 0 && len % size != 0 => Some(Detail::Bytes(len, size)),
         _ => None,
     }
 }

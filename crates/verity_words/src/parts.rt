@@ -1,6 +1,7 @@
 //! What a command works on, as its words name it.
 
 use crate::words::Request;
+use os_system::is_url;
 use verity_files::Command;
 use verity_store::Which;
 
@@ -29,6 +30,15 @@ impl<'a> Parts<'a> {
             Which::Data => self.data,
             Which::Hash => self.hash,
         }
+    }
+
+    /// Whether one of them is named by a URL, where the command reads devices at servers.
+    pub fn may_be_far(&self, which: Which) -> bool {
+        let reads = matches!(
+            self.command,
+            Command::Verify | Command::Serve | Command::Talk
+        );
+        reads && is_url(self.path(which))
     }
 
     /// The path of one of the two that `pull` makes.

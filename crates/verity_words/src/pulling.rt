@@ -2,6 +2,7 @@
 
 use crate::looking::{Detail, look_at_lengths, look_at_line, look_at_store, subject_of};
 use crate::parts::Parts;
+use os_system::Notes;
 use std::fs::File;
 use std::rt::Files;
 use verity_build::BuildFault;
@@ -18,17 +19,18 @@ const JOURNALS: &str = "a journal beside HASH or beside the source's hash device
 pub(crate) fn look_at_pull<'a, R: Files<File = File>>(
     rt: &R,
     parts: Parts<'a>,
+    notes: &Notes,
     fault: Fault,
 ) -> (&'a str, Detail<'a>) {
     match fault {
-        Fault::Store(fault) => look_at_four(rt, parts, fault),
+        Fault::Store(fault) => look_at_four(rt, parts, notes, fault),
         Fault::InUse(which) => (in_use(rt, parts, which), Detail::None),
         Fault::UnderWay | Fault::Journal => (JOURNALS, Detail::None),
         Fault::Superblock(SuperFault::Offset) => ("--hash-offset", Detail::None),
         Fault::Superblock(_) | Fault::Edit(EditFault::Line) => (parts.hash, Detail::NoUuid),
         Fault::Build(BuildFault::Store(which)) => (parts.made_path(which), Detail::None),
         Fault::Check(CheckFault::Mismatch(_)) => ("the source", Detail::None),
-        Fault::Check(CheckFault::Lengths) => look_at_lengths(rt, of_source(parts)),
+        Fault::Check(CheckFault::Lengths) => look_at_lengths(rt, of_source(parts), notes),
         Fault::Table(fault) => look_at_lines(parts, fault),
         fault => (subject_of(parts, fault), Detail::None),
     }
@@ -56,11 +58,12 @@ fn of_made<'a>(parts: Parts<'a>) -> Parts<'a> {
 fn look_at_four<'a, R: Files<File = File>>(
     rt: &R,
     parts: Parts<'a>,
+    notes: &Notes,
     fault: StoreFault,
 ) -> (&'a str, Detail<'a>) {
     for parts in [of_source(parts), of_made(parts)] {
         for which in [Which::Data, Which::Hash] {
-            if let Some(detail) = look_at_store(rt, parts, which, fault) {
+            if let Some(detail) = look_at_store(rt, parts, notes, which, fault) {
                 return (parts.path(which), detail);
             }
         }

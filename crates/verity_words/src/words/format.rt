@@ -57,6 +57,16 @@ pub const FORM: Form<'static> = Form {
             },
         },
         HASH_OFFSET,
+        Parameter {
+            name: "slice",
+            help: "Makes the blocks of level 0 of the K-th of N slices, and prints 'slice A B'",
+            kind: Kind::Optional("K/N"),
+        },
+        Parameter {
+            name: "join",
+            help: "Makes all but level 0; standard input has the lines of the slices",
+            kind: Kind::Flag,
+        },
         QUIET,
     ],
 };
@@ -73,6 +83,8 @@ pub struct FormatWords<'a> {
     pub hash_block_size: &'a str,
     pub algorithm: &'a str,
     pub hash_offset: &'a str,
+    pub slice: Option<&'a str>,
+    pub is_joined: bool,
     pub is_quiet: bool,
 }
 
@@ -87,6 +99,8 @@ pub fn format_words<'a>(matches: &ArgMatches<'a>) -> Option<FormatWords<'a>> {
         hash_block_size: matches.get_str("hash-block-size")?,
         algorithm: matches.get_str("algorithm")?,
         hash_offset: matches.get_str("hash-offset")?,
+        slice: matches.get_str("slice"),
+        is_joined: matches.get_flag("join"),
         is_quiet: matches.get_flag("quiet"),
     })
 }

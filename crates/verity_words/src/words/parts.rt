@@ -130,6 +130,16 @@ pub const CACHE: Parameter<'static> = Parameter {
     },
 };
 
+/// `--timeout`, of the commands that read devices at servers.
+pub const TIMEOUT: Parameter<'static> = Parameter {
+    name: "timeout",
+    help: "How many seconds a server of a device is waited for",
+    kind: Kind::Default {
+        value: "SECONDS",
+        text: "30",
+    },
+};
+
 /// `--quiet`, of the commands that read a volume whole.
 pub const QUIET: Parameter<'static> = Parameter {
     name: "quiet",

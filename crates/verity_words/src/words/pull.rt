@@ -1,6 +1,6 @@
 //! The words of `pull`.
 
-use super::parts::{Form, Kind, OWN_OFFSET, Parameter, QUIET};
+use super::parts::{Form, Kind, OWN_OFFSET, Parameter, QUIET, TIMEOUT};
 use clap::ArgMatches;
 
 /// The command.
@@ -37,6 +37,7 @@ pub const FORM: Form<'static> = Form {
             kind: Kind::Optional("UUID"),
         },
         OWN_OFFSET,
+        TIMEOUT,
         QUIET,
     ],
 };
@@ -50,6 +51,7 @@ pub struct PullWords<'a> {
     pub table: Option<&'a str>,
     pub uuid: Option<&'a str>,
     pub hash_offset: Option<&'a str>,
+    pub timeout: &'a str,
     pub is_quiet: bool,
 }
 
@@ -61,6 +63,7 @@ pub fn pull_words<'a>(matches: &ArgMatches<'a>) -> Option<PullWords<'a>> {
         table: matches.get_str("table"),
         uuid: matches.get_str("uuid"),
         hash_offset: matches.get_str("hash-offset"),
+        timeout: matches.get_str("timeout")?,
         is_quiet: matches.get_flag("quiet"),
     })
 }

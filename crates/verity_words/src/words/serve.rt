@@ -1,6 +1,6 @@
 //! The words of `serve`.
 
-use super::parts::{CACHE, Form, Kind, NAME, Parameter, TABLE};
+use super::parts::{CACHE, Form, Kind, NAME, Parameter, TABLE, TIMEOUT};
 use clap::ArgMatches;
 
 /// The command.
@@ -44,6 +44,7 @@ pub const FORM: Form<'static> = Form {
                 text: "0",
             },
         },
+        TIMEOUT,
     ],
 };
 
@@ -57,6 +58,7 @@ pub struct ServeWords<'a> {
     pub sessions: &'a str,
     pub memory: &'a str,
     pub idle: &'a str,
+    pub timeout: &'a str,
 }
 
 pub fn serve_words<'a>(matches: &ArgMatches<'a>) -> Option<ServeWords<'a>> {
@@ -68,5 +70,6 @@ pub fn serve_words<'a>(matches: &ArgMatches<'a>) -> Option<ServeWords<'a>> {
         sessions: matches.get_str("sessions")?,
         memory: matches.get_str("memory")?,
         idle: matches.get_str("idle")?,
+        timeout: matches.get_str("timeout")?,
     })
 }

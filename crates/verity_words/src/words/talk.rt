@@ -1,6 +1,6 @@
 //! The words of `talk`.
 
-use super::parts::{CACHE, Form, NAME, TABLE};
+use super::parts::{CACHE, Form, NAME, TABLE, TIMEOUT};
 use clap::ArgMatches;
 
 /// The command.
@@ -11,7 +11,7 @@ pub const FORM: Form<'static> = Form {
   nbdsh -c 'h.connect_command([\"dalgovuun\", \"talk\", \"--table\",
     open(\"image.table\").read().strip(), \"--name\", \"vol\"])' \\
     -c 'print(h.get_size())'",
-    parameters: &[TABLE, NAME, CACHE],
+    parameters: &[TABLE, NAME, CACHE, TIMEOUT],
 };
 
 /// The words of `talk`.
@@ -20,6 +20,7 @@ pub struct TalkWords<'a> {
     pub table: &'a str,
     pub name: &'a str,
     pub cache: &'a str,
+    pub timeout: &'a str,
 }
 
 pub fn talk_words<'a>(matches: &ArgMatches<'a>) -> Option<TalkWords<'a>> {
@@ -27,5 +28,6 @@ pub fn talk_words<'a>(matches: &ArgMatches<'a>) -> Option<TalkWords<'a>> {
         table: matches.get_str("table")?,
         name: matches.get_str("name")?,
         cache: matches.get_str("cache")?,
+        timeout: matches.get_str("timeout")?,
     })
 }

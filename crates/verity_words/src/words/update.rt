@@ -1,6 +1,6 @@
 //! The words of `update`.
 
-use super::parts::{DATA, Form, HASH, JOURNAL, Kind, OWN_OFFSET, OWN_TABLE, Parameter, QUIET};
+use super::parts::{DATA, Form, HASH, JOURNAL, Kind, OWN_OFFSET, OWN_TABLE, Parameter, QUIET, TIMEOUT};
 use clap::ArgMatches;
 
 /// The command.
@@ -22,6 +22,7 @@ pub const FORM: Form<'static> = Form {
         OWN_OFFSET,
         OWN_TABLE,
         JOURNAL,
+        TIMEOUT,
         QUIET,
     ],
 };
@@ -35,6 +36,7 @@ pub struct UpdateWords<'a> {
     pub hash_offset: Option<&'a str>,
     pub table: Option<&'a str>,
     pub journal: Option<&'a str>,
+    pub timeout: &'a str,
     pub is_quiet: bool,
 }
 
@@ -46,6 +48,7 @@ pub fn update_words<'a>(matches: &ArgMatches<'a>) -> Option<UpdateWords<'a>> {
         hash_offset: matches.get_str("hash-offset"),
         table: matches.get_str("table"),
         journal: matches.get_str("journal"),
+        timeout: matches.get_str("timeout")?,
         is_quiet: matches.get_flag("quiet"),
     })
 }

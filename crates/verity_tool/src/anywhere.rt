@@ -1,0 +1,85 @@
+//! The commands that read devices here and at servers.
+//!
+//! The system's type is a deep one, so each is named in a function of its own that asks no more of what it is given than it needs.
+
+use cli_pull::pull;
+use os_system::{Network, Notes, OsSystem, patience};
+use std::fs::File;
+use std::io::{Eprint, IsTerminal, Read, Write};
+use std::net::{Net, TcpListener, TcpStream};
+use std::rt::Files;
+use std::time::Clock;
+use verity_files::Failure;
+use verity_serving::{CountedReader, CountedWriter, serve, talk, verify};
+use verity_words::{PullWords, ServeWords, TalkWords, VerifyWords};
+
+/// `verify` over the real system.
+pub fn verify_anywhere<
+    R: Files<File = File> + Net + Clock + Eprint + AllocGlobal,
+    W: Write,
+    E: IsTerminal,
+>(
+    rt: &R,
+    words: &VerifyWords<'_>,
+    notes: &Notes,
+    output: &mut W,
+    errors: &E,
+) -> Result<u8, Failure> {
+    let network = Network::new(rt, patience(words.timeout)?);
+    verify(
+        rt,
+        &OsSystem::new(rt, &network, notes),
+        words,
+        output,
+        errors,
+    )
+}
+
+/// `serve` over the real system, which clients reach by the network of `rt`, and it its devices by that of `net`.
+pub fn serve_anywhere<
+    N: Files<File = File> + Net + Clock + AllocGlobal,
+    R: Files<File = File> + Net<Stream = TcpStream, Listener = TcpListener> + Clock + AllocGlobal,
+    W: Write,
+>(net: &N, rt: &R, words: &ServeWords<'_>, notes: &Notes, output: &mut W) -> Result<u8, Failure> {
+    let network = Network::new(net, patience(words.timeout)?);
+    serve(rt, &OsSystem::new(net, &network, notes), words, output)
+}
+
+/// `talk` over the real system.
+pub fn talk_anywhere<R: Files<File = File> + Net + Clock + AllocGlobal, I: Read, W: Write>(
+    rt: &R,
+    words: &TalkWords<'_>,
+    notes: &Notes,
+    input: &mut I,
+    output: &mut W,
+) -> Result<u8, Failure> {
+    let network = Network::new(rt, patience(words.timeout)?);
+    talk(
+        &OsSystem::new(rt, &network, notes),
+        words,
+        &mut CountedReader::new(input),
+        &mut CountedWriter::new(output),
+    )
+}
+
+/// `pull` over the real system: the source's devices may lie at servers.
+pub fn pull_anywhere<
+    R: Files<File = File> + Net + Clock + Eprint + AllocGlobal,
+    W: Write,
+    E: Write + IsTerminal,
+>(
+    rt: &R,
+    words: &PullWords<'_>,
+    notes: &Notes,
+    output: &mut W,
+    errors: &mut E,
+) -> Result<(), Failure> {
+    let network = Network::new(rt, patience(words.timeout)?);
+    pull(
+        rt,
+        &mut OsSystem::new(rt, &network, notes),
+        words,
+        output,
+        errors,
+    )
+}
