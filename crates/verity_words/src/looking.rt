@@ -2,7 +2,7 @@
 
 use crate::parts::{Parts, field};
 use crate::pulling::look_at_pull;
-use os_system::Notes;
+use os_system::{Notes, is_url};
 use std::fs::{File, OpenOptions};
 use std::rt::Files;
 use std::{fmt, fs, io};
@@ -206,14 +206,22 @@ fn look_at_files<'a, R: Files<File = File>>(
     match (data, hash) {
         (Some(detail), _) => (parts.data, detail),
         (None, Some(detail)) => (parts.hash, detail),
-        (None, None) => look_at_read(rt, parts),
+        (None, None) => look_at_read(rt, parts, notes),
     }
 }
 
 /// The script or NEW, where it can't be read; else nothing that is seen.
-fn look_at_read<'a, R: Files<File = File>>(rt: &R, parts: Parts<'a>) -> (&'a str, Detail<'a>) {
+fn look_at_read<'a, R: Files<File = File>>(
+    rt: &R,
+    parts: Parts<'a>,
+    notes: &Notes,
+) -> (&'a str, Detail<'a>) {
     if parts.read.is_empty() {
         return ("the volume", Detail::None);
+    }
+    if parts.command == Command::Update && is_url(parts.read) {
+        let detail = notes.reason_for(parts.read).map(Detail::Reason);
+        return (parts.read, detail.unwrap_or(Detail::None));
     }
     match fs::metadata(rt, parts.read) {
         Ok(_) => (parts.read, Detail::None),
