@@ -220,8 +220,10 @@ fn look_at_read<'a, R: Files<File = File>>(
         return ("the volume", Detail::None);
     }
     if parts.command == Command::Update && is_url(parts.read) {
-        let detail = notes.reason_for(parts.read).map(Detail::Reason);
-        return (parts.read, detail.unwrap_or(Detail::None));
+        return match notes.reason_for(parts.read) {
+            Some(reason) => (parts.read, Detail::Reason(reason)),
+            None => (parts.read, Detail::None),
+        };
     }
     match fs::metadata(rt, parts.read) {
         Ok(_) => (parts.read, Detail::None),
@@ -247,7 +249,10 @@ pub(crate) fn look_at_store<'a, R: Files<File = File>>(
 
 /// Why what a URL names couldn't be opened.
 fn look_at_server<'a>(parts: Parts<'a>, notes: &Notes, which: Which) -> Option<Detail<'a>> {
-    notes.reason_for(parts.path(which)).map(Detail::Reason)
+    match notes.reason_for(parts.path(which)) {
+        Some(reason) => Some(Detail::Reason(reason)),
+        None => None,
+    }
 }
 
 /// Why a file can't be opened, or has too few blocks.
