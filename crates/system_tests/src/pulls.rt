@@ -39,13 +39,14 @@ fn source(alloc: Global) -> Result<(FourFiles, String), Fail> {
     ))
 }
 
-// Pulls, and gives what was printed.
-fn pulled<'a>(
+// Pulls, over a volume of the same line or without an old line, and gives what was printed.
+fn pulled(
     rt: &HostRuntime,
     system: &mut FourFiles,
-    line: &'a str,
-    table: Option<&'a str>,
+    line: &str,
+    is_over: bool,
 ) -> (Vec<u8>, Result<(), Failure>) {
+    let table = if is_over { Some(line) } else { None };
     let mut output = Vec::new(rt.alloc());
     let words = PullWords {
         data_path: "data",
@@ -77,13 +78,13 @@ fn are_made(system: &FourFiles) -> bool {
 fn pull_makes_the_volume(rt: HostRuntime) -> Result<(), Fail> {
     let alloc = rt.alloc();
     let (mut system, line) = source(alloc)?;
-    let (output, done) = pulled(&rt, &mut system, &line, None);
+    let (output, done) = pulled(&rt, &mut system, &line, false);
     assert!(rt; done.is_ok());
     assert!(rt; are_made(&system));
     // Block 0 is zeros.
     let begins = b"fetched 16\nkept 1\npulled 1 data hash 512 512 17 1 sha256 ";
     assert!(rt; output.as_slice().starts_with(begins.as_slice()));
-    let (output, done) = pulled(&rt, &mut system, &line, None);
+    let (output, done) = pulled(&rt, &mut system, &line, false);
     assert!(rt; done.is_ok());
     assert!(rt; are_made(&system));
     assert!(rt;
@@ -102,7 +103,7 @@ fn pull_mends_the_volume(rt: HostRuntime) -> Result<(), Fail> {
         let mut bytes = image(alloc, blocks)?;
         flip(&mut bytes, 512);
         system.image = Some(bytes);
-        let (_, done) = pulled(&rt, &mut system, &line, None);
+        let (_, done) = pulled(&rt, &mut system, &line, false);
         assert!(rt; done.is_ok());
         assert!(rt; are_made(&system));
     }
@@ -113,9 +114,9 @@ fn pull_mends_the_volume(rt: HostRuntime) -> Result<(), Fail> {
 fn pull_goes_over_an_old_volume(rt: HostRuntime) -> Result<(), Fail> {
     let alloc = rt.alloc();
     let (mut system, line) = source(alloc)?;
-    let (_, done) = pulled(&rt, &mut system, &line, None);
+    let (_, done) = pulled(&rt, &mut system, &line, false);
     assert!(rt; done.is_ok());
-    let (output, done) = pulled(&rt, &mut system, &line, Some(&line));
+    let (output, done) = pulled(&rt, &mut system, &line, true);
     assert!(rt; done.is_ok());
     assert!(rt; are_made(&system));
     assert!(rt;
@@ -132,7 +133,7 @@ fn pull_refuses_what_a_source_says_wrongly(rt: HostRuntime) -> Result<(), Fail> 
     for n in 1..BLOCKS {
         let (mut system, line) = source(alloc)?;
         flip(&mut system.from, n * 512);
-        let (output, done) = pulled(&rt, &mut system, &line, None);
+        let (output, done) = pulled(&rt, &mut system, &line, false);
         let place = Place::Data(n as u64);
         assert!(rt; done == Err(Failure::Refused(Fault::Check(CheckFault::Mismatch(place)))));
         assert!(rt; output.as_slice().is_empty());
@@ -140,7 +141,7 @@ fn pull_refuses_what_a_source_says_wrongly(rt: HostRuntime) -> Result<(), Fail> 
     for (block, level, index) in [(1, 1, 0), (2, 0, 0), (3, 0, 1)] {
         let (mut system, line) = source(alloc)?;
         flip(&mut system.from_hash, block * 512);
-        let (_, done) = pulled(&rt, &mut system, &line, None);
+        let (_, done) = pulled(&rt, &mut system, &line, false);
         let place = Place::Hash { level, index };
         assert!(rt; done == Err(Failure::Refused(Fault::Check(CheckFault::Mismatch(place)))));
         assert!(rt; system.image.is_none() && system.device.is_none());
@@ -166,7 +167,7 @@ fn pull_fails_at_each_call(rt: HostRuntime) -> Result<(), Fail> {
         for due in 1..100 {
             let (mut system, line) = source(alloc)?;
             system.failing = (name, due);
-            let (output, done) = pulled(&rt, &mut system, &line, None);
+            let (output, done) = pulled(&rt, &mut system, &line, false);
             if done.is_ok() {
                 assert!(rt; are_made(&system));
                 break;
