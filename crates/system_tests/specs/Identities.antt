@@ -2,6 +2,8 @@
 use Rattle.std.specs.Prelude.{ℕ}
 use Rattle.verity_files.specs.declared.identity.Identity.{Identity}
 use Rattle.verity_files.specs.declared.identity.Identity.TheVariants.{File}
+use Rattle.system_tests.specs.declared.four_files.Four.{Four}
+use Rattle.system_tests.specs.declared.four_files.Four.TheVariants as four
 use Rattle.system_tests.specs.declared.memory.Name.{Name}
 use Rattle.system_tests.specs.declared.memory.Name.TheVariants.{Data, Hash, Journal}
 
@@ -9,3 +11,9 @@ abbrev pub identity_of : Name → Identity
 identity_of Data = File 0 0
 identity_of Hash = File 0 1
 identity_of Journal = File 0 2
+
+abbrev pub identity_of_four : Four → Identity
+identity_of_four four.From = File 0 0
+identity_of_four four.FromHash = File 0 1
+identity_of_four four.Data = File 0 2
+identity_of_four four.Hash = File 0 3

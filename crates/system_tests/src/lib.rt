@@ -3,6 +3,8 @@
 //! [`MemSystem`] has three files, `data`, `hash` and `hash.journal`; each store over one fails at the call that it is told. The devices of
 //! a journal end after so many calls, and of what was done to them since their last sync nothing is kept. What a command promises over any
 //! system is, over this one, said of its files: [`format_in_memory`], [`recover_in_memory`].
+//!
+//! [`FourFiles`] has a source's two files and the two that `pull` makes of it, for tests alone.
 #![tactic(auto)]
 
 #[cfg(test)]
@@ -10,9 +12,13 @@ mod commands;
 #[cfg(test)]
 mod crashes;
 mod formats;
+mod four_files;
 mod memory;
+#[cfg(test)]
+mod pulls;
 mod recovers;
 
 pub use formats::format_in_memory;
+pub use four_files::{Four, FourFiles, FourOpened};
 pub use memory::{MemOpened, MemSystem, Name};
 pub use recovers::recover_in_memory;

@@ -43,7 +43,7 @@ pub struct MemOpened {
 }
 
 /// A store of the first blocks of these bytes, so many. S1 where there are fewer, S4 for all but the block sizes of the profile.
-fn first_blocks(bytes: Vec<u8>, blocks: u64, size: usize) -> Result<MemStore, StoreFault>
+pub(crate) fn first_blocks(bytes: Vec<u8>, blocks: u64, size: usize) -> Result<MemStore, StoreFault>
     ensures count { IfOk result (λ store. length (⟦<MemStore as BlockStore>⟧.content store) ≡ blocks) }
     ensures size { IfOk result (λ store. ⟦<MemStore as BlockStore>⟧.size store ≡ size) }
     ensures tells { IfOk result (λ store. ⟦<MemStore as BlockStore>⟧.tells store ≡ true) }
