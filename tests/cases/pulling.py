@@ -14,7 +14,7 @@ VOLUME = volume(17)
 HASHES = VOLUME.device(DATA)
 LINE = VOLUME.line(DATA, "from", "from.hash")
 OTHER = "99999999-9999-9999-9999-999999999999"
-UNUSED = ("dalgovuun: --table isn't used: its sizes, count, salt or algorithm aren't those of --to, or DATA or HASH is shorter; "
+UNUSED = ("dalgovuun: --table isn't used: its sizes, count, salt or algorithm aren't those of --to, or a file is shorter; "
           "each block is read")
 
 

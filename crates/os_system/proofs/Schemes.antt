@@ -11,7 +11,8 @@ pub of_http : (text : List ℕ) (server : Authority) (path : Bor (List ℕ)) →
 of_http text server path named = (server.text.now ++ (47 ∷ path.now), inl named.0)
 
 of_export : (text : List ℕ) (server : Authority) (name : Escaped)
-    → (text ≡ codes "nbd://" ++ (server.text.now ++ (47 ∷ name.text.now))) ⊎ ((text ≡ codes "nbd://" ++ server.text.now) × (name.text.now ≡ []))
+    → (text ≡ codes "nbd://" ++ (server.text.now ++ (47 ∷ name.text.now)))
+    ⊎ ((text ≡ codes "nbd://" ++ server.text.now) × (name.text.now ≡ []))
     → HasScheme text
 of_export text server name (inl is) = (server.text.now ++ (47 ∷ name.text.now), inr (inl is))
 of_export text server name (inr is) = (server.text.now, inr (inl is.0))

@@ -43,7 +43,6 @@ fn verified(rt: &HostRuntime, system: &MemSystem, line: &[u8]) -> (Vec<u8>, Resu
     let table = str::from_utf8(line).unwrap_or("").trim_end();
     let words = VerifyWords {
         table,
-        slice: None,
         timeout: "30",
         is_quiet: true,
     };

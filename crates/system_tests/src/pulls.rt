@@ -55,6 +55,7 @@ fn pulled(
         table,
         uuid: None,
         hash_offset: None,
+        timeout: "30",
         is_quiet: true,
     };
     let done = pull(rt, system, &words, &mut output, &mut rt.stderr());

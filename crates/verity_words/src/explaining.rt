@@ -62,7 +62,7 @@ fn explain_made<E: Write>(word: Word, errors: &mut E) {
 pub fn explain_unused_line<E: Write>(errors: &mut E) {
     let _ = writeln!(
         errors,
-        "dalgovuun: --table isn't used: its sizes, count, salt or algorithm aren't those of --to, or DATA or HASH is shorter; each block is read"
+        "dalgovuun: --table isn't used: its sizes, count, salt or algorithm aren't those of --to, or a file is shorter; each block is read"
     );
 }
 

@@ -1,6 +1,6 @@
 //! The words of `verify`.
 
-use super::parts::{Form, Kind, Parameter, QUIET, TABLE, TIMEOUT};
+use super::parts::{Form, QUIET, TABLE, TIMEOUT};
 use clap::ArgMatches;
 
 /// The command.
@@ -9,23 +9,13 @@ pub const FORM: Form<'static> = Form {
     about: "Reports what is wrong in a volume",
     example: "Example:
   dalgovuun verify --table \"$(cat image.table)\"",
-    parameters: &[
-        TABLE,
-        Parameter {
-            name: "slice",
-            help: "Reports on the data blocks of the K-th of N slices, and on the hash blocks above them",
-            kind: Kind::Optional("K/N"),
-        },
-        TIMEOUT,
-        QUIET,
-    ],
+    parameters: &[TABLE, TIMEOUT, QUIET],
 };
 
 /// The words of `verify`.
 #[derive(Clone, Copy, Debug)]
 pub struct VerifyWords<'a> {
     pub table: &'a str,
-    pub slice: Option<&'a str>,
     pub timeout: &'a str,
     pub is_quiet: bool,
 }
@@ -33,7 +23,6 @@ pub struct VerifyWords<'a> {
 pub fn verify_words<'a>(matches: &ArgMatches<'a>) -> Option<VerifyWords<'a>> {
     Some(VerifyWords {
         table: matches.get_str("table")?,
-        slice: matches.get_str("slice"),
         timeout: matches.get_str("timeout")?,
         is_quiet: matches.get_flag("quiet"),
     })

@@ -22,6 +22,8 @@ returns-in_ok-len-in-AtMost-clause-len g c =
     let opened = c.args.opened in
     let paths = c.args.paths.now in
     let size = c.args.size in
-    λ more. subst (λ (part : Part). IsRaggedPart part ((len : ℕ) × IsLenOf g.P.Paths paths opened.identity opened.file opened.len len × (len % size ≢ 0)))
-        (sym c.in-AtMost.is) (ragged g.P.Paths paths opened.identity opened.file (min c.in-AtMost.blocks (opened.len / size)) opened.len size
-        (omega (arith, low)) (c.in_ok-len-in-AtMost.len, c.in_ok-len-in-AtMost.ensures.len, more))
+    λ more. subst (λ (part : Part). IsRaggedPart part
+            ((len : ℕ) × IsLenOf g.P.Paths paths opened.identity opened.file opened.len len × (len % size ≢ 0)))
+        (sym c.in-AtMost.is)
+        (ragged g.P.Paths paths opened.identity opened.file (min c.in-AtMost.blocks (opened.len / size)) opened.len size
+            (omega (arith, low)) (c.in_ok-len-in-AtMost.len, c.in_ok-len-in-AtMost.ensures.len, more))
