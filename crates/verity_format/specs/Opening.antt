@@ -10,8 +10,8 @@ use Rattle.verity_format.specs.Made.{hash_part}
 use Rattle.verity_format.specs.declared.formatting.Shape.{Shape}
 
 -- DATA was opened to be read and locked for a command, as this store, and is this file
-pub record IsOpenedAsked {S F D J : Type 0} (facts : Ghosts S F D J) (command : Command) (s : S) (path : List ℕ) (shape : Shape) (source : D)
-    (identity : Identity) : Type 0 where
+pub record IsOpenedAsked {S F D J : Type 0} (facts : Ghosts S F D J) (command : Command) (s : S) (path : List ℕ) (shape : Shape)
+    (source : D) (identity : Identity) : Type 0 where
   pub opened : F
   pub is_opened : facts.opens s path opened
   pub locked : facts.locks s opened (lock_of command)
