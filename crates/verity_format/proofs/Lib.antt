@@ -1,2 +1,3 @@
 pub mod Blaming
 pub mod Formatted
+pub mod Slicing

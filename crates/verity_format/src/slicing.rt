@@ -142,5 +142,6 @@ fn slice_watched<R: Clock + Eprint + AllocGlobal, D: BlockStore + Drop>(
         slice,
     );
     end_progress(progress.as_ref());
-    made
+    let run = made?;
+    Ok(run)
 }
