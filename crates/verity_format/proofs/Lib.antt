@@ -1,3 +1,4 @@
 pub mod Blaming
 pub mod Formatted
 pub mod Slicing
+pub mod Told

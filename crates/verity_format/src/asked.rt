@@ -17,7 +17,9 @@ pub(crate) fn slice(text: &str) -> Result<Slice, Failure>
     let Some((index, count)) = around(text, '/') else {
         return Err(Failure::Word(Word::Slice));
     };
-    match Slice::new(number(Word::Slice, index)?, number(Word::Slice, count)?) {
+    let index = number(Word::Slice, index)?;
+    let count = number(Word::Slice, count)?;
+    match Slice::new(index, count) {
         Some(slice) => Ok(slice),
         None => Err(Failure::Word(Word::Slice)),
     }

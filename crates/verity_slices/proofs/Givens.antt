@@ -5,7 +5,8 @@ use Rattle.std.proofs.lemmas.List.{get_or_append_left, get_or-append-add, length
 use Rattle.verity_store.specs.Given.{GoesOn, GaveSince}
 use Rattle.verity_store.proofs.GivenLemmas.{since_on}
 use Rattle.verity_store.specs.declared.store.BlockStore as store
-use Rattle.verity_slices.specs.Given.{AreGivenFrom}
+use Rattle.verity_digest.specs.Tree.{Hashing, root}
+use Rattle.verity_slices.specs.Given.{AreGivenFrom, IsRootOfGivenLevel}
 use Rattle.verity_slices.proofs.Parts.{since_before}
 
 module _ {S : Type 0} (facts : store.Ghosts S) where
@@ -69,3 +70,15 @@ module _ {S : Type 0} (facts : store.Ghosts S) where
         subst (λ m. GaveSince (facts.given new) (length (facts.given old)) (first + m) (get_or (block ∷ []) m [])) (sym none)
         (subst (λ m. GaveSince (facts.given new) (length (facts.given old)) m block) at gave);
   }
+
+-- a root hash of a level that was given since an earlier moment too
+pub root_earlier : {S : Type 0} (facts : store.Ghosts S) (old now new : S) (first first' count count' : ℕ) (h h' : Hashing)
+    (digest : List ℕ) → facts.given now ≡ facts.given old → facts.size now ≡ facts.size old → first ≡ first' → count ≡ count'
+    → h ≡ h' → IsRootOfGivenLevel facts now new first count h digest → IsRootOfGivenLevel facts old new first' count' h' digest
+root_earlier facts old now new first first' count count' h h' digest same size firsts counts hashes x = record {
+  level = x.level;
+  len = x.len ∙ counts;
+  given = subst (λ n. AreGivenFrom facts old new n x.level) firsts
+      (given_earlier facts old now new first x.level (omega (arith, ap length same)) size x.given);
+  is = x.is ∙ ap (λ y. root y x.level) hashes;
+}

@@ -3,9 +3,11 @@ use Rattle.std.proofs.Common.{◌≡◌, ℕ, ◌+◌, ◌-◌, ◌*◌, ◌<◌
 use Rattle.std.proofs.Common.{refl, sym, ap, ◌∙◌, subst, arith}
 use Rattle.std.specs.Prelude.{Option, None}
 use Rattle.std.specs.Fork.{slice_chunk}
+use Rattle.std.proofs.Math.Nat.{mul-le-mul_right, add-mul}
 use Rattle.std.proofs.lemmas.Bool.{cases_lt}
 use Rattle.std.proofs.lemmas.List.{get_or_append_left, get_or-append-add, length-append}
 use Rattle.verity_digest.specs.Tree.{Hashing, tree}
+use Rattle.verity_digest.proofs.Sized.{length-run}
 use Rattle.verity_geometry.specs.Geometry.{Shape}
 use Rattle.verity_store.specs.Blocks.{cut}
 use Rattle.verity_store.specs.Given.{GoesOn, GaveSince, run_of}
@@ -15,7 +17,6 @@ use Rattle.verity_store.proofs.RunLemmas.{since_run, goes_on_more}
 use Rattle.verity_store.specs.declared.store.BlockStore as store
 use Rattle.verity_tree.specs.Open.{Open}
 use Rattle.verity_tree.specs.Climb.{open_at, AreEmpty}
-use Rattle.verity_tree.proofs.Ahead.{length_chunk}
 use Rattle.verity_build.specs.Progress.{IsRight}
 use Rattle.verity_build.specs.Device.{AreStored}
 use Rattle.verity_build.proofs.Rightly.{right_empty}
@@ -23,6 +24,15 @@ use Rattle.verity_slices.specs.Given.{AreGivenFrom}
 use Rattle.verity_slices.specs.Taking.{AreDigests}
 use Rattle.verity_slices.specs.Walked.{Walked, IsLevel}
 use Rattle.verity_slices.proofs.Givens.{given_nothing, given_on, given_then}
+
+-- a block of a run has its size
+length_chunk : (run : List ℕ) (size j count : ℕ) → length run ≡ count * size → j < count → length (slice_chunk run size j) ≡ size
+length_chunk run size j count whole below =
+    let next : j + 1 ≤ count = omega (arith, below) in
+    let fits : (j + 1) * size ≤ count * size = mul-le-mul_right size next in
+    let more : (j + 1) * size ≡ j * size + 1 * size = add-mul j 1 size in
+    let least = length-run run size j in
+    omega (arith, least, whole, fits, more)
 
 module _ {S : Type 0} (facts : store.Ghosts S) (old : S) (s : Shape) (start level : ℕ) (h : Hashing) where
   -- none yet

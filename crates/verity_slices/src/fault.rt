@@ -1,5 +1,5 @@
 //! Why slices weren't joined.
-ghost use Rattle.std.specs.Prelude.{Some};
+ghost use Rattle.std.specs.Prelude.{◌≡◌, Some};
 
 use std::fmt;
 use thiserror::Error;

@@ -70,7 +70,6 @@ fn join_tree<A: Allocator, H: BlockStore>(
     let size = tree.geometry.data_size();
     let blocks = tree.geometry.blocks();
     let level = start + tree.geometry.total();
-    let mut digests = [Digest::from_bytes([0; 32]); 128];
     let mut n = 0;
     while n < blocks {
         let count = (buffer.len() / size)
@@ -78,6 +77,7 @@ fn join_tree<A: Allocator, H: BlockStore>(
             .min((blocks - n) as usize);
         let run = &mut buffer[..count * size];
         hash_store.read_run(level + n, count, run)?;
+        let mut digests = [Digest::from_bytes([0; 32]); AT_A_TIME];
         let made = &mut digests[..count];
         tree.digest_run(run, made);
         take_all(tree, hash_store, start, n, made)?;

@@ -1,5 +1,5 @@
 //! What slices and joins begin with.
-ghost use Rattle.std.specs.Prelude.{◌≡◌, ℕ, ◌^◌, ◌≤◌, ◌<◌, length, None, OnOk, IfOk, IfErr};
+ghost use Rattle.std.specs.Prelude.{◌≡◌, ℕ, ◌^◌, ◌≤◌, ◌<◌, length, None, OnOk, OnErr, IfOk, IfErr};
 ghost use Rattle.verity_build.specs.Faults.{CanBuild, Explains};
 ghost use Rattle.verity_build.specs.Parameters.{salted_by, shape_over, volume};
 ghost use Rattle.verity_digest.specs.Hash.{size_of};
@@ -43,6 +43,7 @@ pub(crate) fn above(geometry: &Geometry) -> Geometry
     let size = geometry.hash_size();
     let blocks = geometry.level_len(0);
     let _ = geometry.blocks();
+    let _shaped = geometry.levels();
     match Geometry::with_digest(size, size, blocks, geometry.digest_size()) {
         Ok(above) => above,
         Err(_) => unreachable!(),
@@ -58,6 +59,7 @@ pub(crate) fn geometry_over<P: Allocator, D: BlockStore, H: BlockStore>(
     ensures value { IfOk result (λ geometry. geometry ≡ shape_over params.now (D.size data_store.now) (H.size hash_store.now)
         (length (D.content data_store.now))) }
     ensures ok { OnOk result (IsBlockCount (length (D.content data_store.now))) }
+    ensures none { OnErr result (¬ (IsBlockCount (length (D.content data_store.now)))) }
     ensures fault { IfErr result (λ fault. (offset : ℕ) → Explains (length (D.content data_store.now)) offset
         (H.size hash_store.now) ⊥ ⊥ fault) }
 {

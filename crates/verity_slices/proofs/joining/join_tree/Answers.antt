@@ -6,6 +6,7 @@ use Rattle.std.proofs.lemmas.Result.{err_from_is_err_and}
 use Rattle.std.specs.Fork.{slice_chunk}
 use Rattle.verity_digest.specs.Hash.{Salted, hashing, salted_digest}
 use Rattle.verity_digest.specs.Tree.{Hashing, tree}
+use Rattle.verity_digest.proofs.Sha.{length-digest_of}
 use Rattle.verity_geometry.specs.Geometry.{Shape, digests_per_block, total_of}
 use Rattle.verity_geometry.proofs.Shapes.{wide, some}
 use Rattle.verity_store.specs.Given.{run_of}
@@ -90,8 +91,8 @@ loop-n-preserved g c =
     let size : ℕ = c.data_size-size.result in
     let run : List ℕ = c.read_run.new.out in
     let digests : List (List ℕ) = c.digest_run.new.out in
-    let room : length (take count c.loop-n.digests) ≡ count = length-take-le count c.loop-n.digests (omega arith) in
-    let many : length digests ≡ count = c.digest_run.auto.out ∙ room in
+    let few : count ≤ 128 = omega (arith, c.min-count.ensures, c.min.ensures) in
+    let many : length digests ≡ count = c.digest_run.auto.out ∙ length-take-le count _ few in
     let all : ℕ = length c.loop-n.buffer in
     let most : count ≤ all / size = omega (arith, c.min-count.ensures, c.min.ensures) in
     let fits : count * size ≤ all = omega (arith, div-add-mod' all size, mul-le-mul_right size most) in
@@ -147,7 +148,7 @@ loop-n-preserved g c =
           (took.grown (omega (arith, last, many, ap (λ t. t.blocks) geometry))));
       walked = walked_more H device s start level h store read_store new_store n count size run digests (opens now) (opens new) now.root
           new.root many
-          (λ j below. hashed.digests j (omega (arith, below, room))
+          (λ j below. hashed.digests j (omega (arith, below, many, c.digest_run.auto.out))
           ∙ (λ i. salted_digest (kept.salted i) (slice_chunk run (ap (λ (t : Shape). t.data_size) kept.geometry i) j))
           ∙ ap (λ z. salted_digest salted (slice_chunk run z j)) (sym sized))
           device_size long
@@ -167,3 +168,56 @@ loop-n-preserved g c =
       reads = omega (arith, writes.reads, read.counted, kept.reads);
       unfailed = took.unfailed ∙ read.unfailed ∙ kept.unfailed;
     }
+
+pub digest_run-requires : goal.digest_run-requires
+digest_run-requires g c =
+    let s : Shape = c.args.tree.now.geometry in
+    let kept = c.loop-n.invariant in
+    let count : ℕ = c.min-count.result in
+    let size : ℕ = c.data_size-size.result in
+    let few : count ≤ 128 = omega (arith, c.min-count.ensures, c.min.ensures) in
+    let all : ℕ = length c.loop-n.buffer in
+    let most : count ≤ all / size = omega (arith, c.min-count.ensures, c.min.ensures) in
+    let fits : count * size ≤ all = omega (arith, div-add-mod' all size, mul-le-mul_right size most) in
+    let long : length c.read_run.new.out ≡ count * size =
+    c.read_run.auto.out ∙ length-take-le (count * size) c.loop-n.buffer fits in
+    let sized : size ≡ c.loop-n.tree.geometry.data_size =
+    c.data_size-size.ensures.value ∙ sym (ap (λ (t : Shape). t.data_size) kept.geometry) in
+    long ∙ ap (λ z. count * z) sized
+    ∙ sym (ap (λ m. m * c.loop-n.tree.geometry.data_size) (length-take-le count _ few))
+
+pub take_all-requires-clause-sized : goal.take_all-requires-clause-sized
+take_all-requires-clause-sized g c = λ j below.
+    ap length (c.digest_run.ensures.digests j (omega (arith, below, c.digest_run.auto.out)))
+    ∙ length-digest_of c.loop-n.tree.hasher.salted.algorithm _
+    ∙ c.loop-n.tree.sized
+    ∙ sym (ap (λ (t : Shape). t.digest_size) c.digest_run.ensures.geometry)
+
+pub returns-in_err-take_all-clause-joins : goal.returns-in_err-take_all-clause-joins
+returns-in_err-take_all-clause-joins g c =
+    let H = g.H.BlockStore in
+    let s : Shape = c.args.tree.now.geometry in
+    let device = c.args.hash_store.now in
+    let start : ℕ = c.args.start in
+    let level : ℕ = start + total_of s in
+    let store = c.loop-n.hash_store in
+    let read_store = c.read_run.new.self in
+    let new_store = c.take_all.new.hash_store in
+    let kept = c.loop-n.invariant in
+    let read = c.in_ok-read_run.ensures in
+    let geometry = c.digest_run.ensures.geometry ∙ kept.geometry in
+    let later : IsLater H store read_store =
+    record {
+      tells = read.tells;
+      size = read.size;
+      fixed = read.fixed;
+      gave = read.gave;
+      failures = read.failures;
+      reads = read.counted_least;
+      changes = omega (arith, read.changes);
+      room = omega (arith, read.room);
+    } in
+    let writes : WritesPart H start level read_store new_store =
+    subst (λ t. WritesPart H start (start + total_of t) read_store new_store) geometry c.take_all.ensures.writes in
+    joins_write H start level device read_store new_store
+    (joins_read H start level device store read_store kept.joins read.content read.room later) writes

@@ -16,12 +16,12 @@ invariant-loop-index g l =
     let h = hashing l.fn.tree.hasher.salted s.hash_size in
     let first = l.start + start_of s 0 in
     record {
-      stored : D.tells l.fn.data_store ≡ true → H.tells l.fn.hash_store ≡ true → (i : ℕ) → l.run.first ≤ i → i < l.index
+      stored : D.tells l.fn.data_store ≡ true → H.tells l.fn.hash_store ≡ true → (i : ℕ) → l.fn.run.first ≤ i → i < l.index
           → get_or (H.content l.hash_store) (l.start + place_of s 0 i) [] ≡ block_at h (D.content l.fn.data_store) 1 i;
-      given : H.tells l.fn.hash_store ≡ true → (i : ℕ) → l.run.first ≤ i → i < l.index
+      given : H.tells l.fn.hash_store ≡ true → (i : ℕ) → l.fn.run.first ≤ i → i < l.index
           → IsGivenLeaf D l.fn.data_store l.data_store h (i * per_block h) (min (per_block h) (s.blocks - i * per_block h))
           (get_or (H.content l.hash_store) (l.start + place_of s 0 i) []);
-      writes : WritesPart H (first + l.run.first) (first + l.run.end) l.fn.hash_store l.hash_store;
+      writes : WritesPart H (first + l.fn.run.first) (first + l.fn.run.end) l.fn.hash_store l.hash_store;
       data_store : IsOnlyRead D l.fn.data_store l.data_store;
       data_unfailed : D.failures l.data_store ≡ D.failures l.fn.data_store;
       hash_unfailed : H.failures l.hash_store ≡ H.failures l.fn.hash_store;

@@ -34,7 +34,7 @@ returns-in_err-write_run g c =
     let H = g.H.BlockStore in
     let s : Shape = c.args.tree.now.geometry in
     let device = c.args.hash_store.now in
-    let p = err_from_is_err_and c.from_residual-2.result c.from_residual-2.ensures.1 in
+    let p = err_from_is_err_and c.from_residual-in_err-write_run.result c.from_residual-in_err-write_run.ensures.1 in
     let grown = c.grow.ensures in
     let wrote = c.write_run.ensures in
     rw (p.1, p.2) record {
@@ -47,9 +47,9 @@ returns-in_err-write_run g c =
       hash_store = later_then H device c.grow.new.hash_store c.write_run.new.hash_store grown.later wrote.writes.later;
       hash_reads = wrote.writes.reads ∙ grown.reads;
       hash_given = wrote.writes.given ∙ grown.given;
-      data_failed = λ is. wrote.data_failed (ap (λ which. Err which) (same_fault _ _ is));
+      data_failed = λ is. wrote.data_failed (c.in_err-write_run.was ∙ ap (λ which. Err which) (same_fault _ _ is));
       hash_failed = λ is. subst (λ n. n < H.failures c.write_run.new.hash_store) c.in_ok-grow.ensures.unfailed
-          (wrote.hash_failed (ap (λ which. Err which) (same_fault _ _ is)));
+          (wrote.hash_failed (c.in_err-write_run.was ∙ ap (λ which. Err which) (same_fault _ _ is)));
       data_unfailed = tt;
       hash_unfailed = tt;
       hash_synced = tt;

@@ -40,9 +40,9 @@ write_done-requires-clause-come g c =
     let kept = c.loop-j.invariant in
     let n : ℕ = c.args.first + c.loop-j.j in
     let same = c.take.ensures.geometry ∙ kept.geometry in
-    let growing = kept.growing (omega (arith, c.loop-j-test.true, c.len-j-end.ensures, c.requires.within)) in
+    let growing = kept.growing (omega (arith, c.loop-j-test.true, c.requires.within)) in
     subst (λ t. Settling (digests_per_block t) (n + 1) t.blocks 0 (opens mid) mid.root) (sym same)
-    (settling_from (digests_per_block s) n c.index-j.result (opens now) (opens mid) now.root mid.root growing c.take.ensures.comes s.blocks)
+    (settling_from (digests_per_block s) n c.index-digests-j.result (opens now) (opens mid) now.root mid.root growing c.take.ensures.comes s.blocks)
 
 pub loop-j-preserved : goal.loop-j-preserved
 loop-j-preserved g c =
@@ -59,11 +59,11 @@ loop-j-preserved g c =
     let start : ℕ = c.args.start in
     let j : ℕ = c.loop-j.j in
     let n : ℕ = c.args.first + j in
-    let digest : List ℕ = c.index-j.result in
-    let inside : j < length c.args.digests.now = omega (arith, c.loop-j-test.true, c.len-j-end.ensures) in
+    let digest : List ℕ = c.index-digests-j.result in
+    let inside : j < length c.args.digests.now = omega (arith, c.loop-j-test.true) in
     let below : n < s.blocks = omega (arith, inside, c.requires.within) in
     let next : n + 1 ≡ c.args.first + (j + 1) = omega arith in
-    let is : get_or c.args.digests.now j [] ≡ digest = get_or_default c.args.digests.now j [] digest inside ∙ sym c.index-j.is in
+    let is : get_or c.args.digests.now j [] ≡ digest = get_or_default c.args.digests.now j [] digest inside ∙ sym c.index-digests-j.is in
     let growing = kept.growing below in
     let geometry = c.take.ensures.geometry ∙ kept.geometry in
     let same_salted = c.take.ensures.salted ∙ kept.salted in
@@ -134,7 +134,7 @@ returns g c =
     let now = c.loop-j.tree in
     let s : Shape = c.args.tree.now.geometry in
     let kept = c.loop-j.invariant in
-    let all : c.loop-j.j ≡ length c.args.digests.now = omega (arith, c.loop-j-test.false, c.len-j-end.ensures) in
+    let all : c.loop-j.j ≡ length c.args.digests.now = omega (arith, c.loop-j-test.false) in
     record {
       growing = λ more. subst (λ m. Growing (digests_per_block s) (c.args.first + m) (opens now) now.root) all
           (kept.growing (omega (arith, more, all)));
