@@ -1,4 +1,4 @@
 pub mod Blaming
 pub mod Formatted
-pub mod Slicing
+pub mod Moving
 pub mod Told
