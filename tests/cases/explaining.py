@@ -10,7 +10,7 @@ LINE = volume(17).line(DATA)
 FILES = {"data": DATA, "hash": HASHES}
 SCRIPT = "no line of a script; these are write N HEX, fill N HH, grow C, shrink C, discard, commit"
 CUT = "was a commit cut short? where the image is what it should be, make the hash device anew with format"
-TAKE = "take the line that format or edit printed, in quotes"
+TAKE = "take the line that format, edit, update or pull printed, in quotes"
 
 
 def told(name, words, output, text, status=1, files=None, leaves=None):
@@ -79,13 +79,13 @@ def of_lines():
     yield refused("a shorter image", ["verify", "--table", LINE], "V1", "data: the files don't fit the table line: 16 blocks, not 17 (V1); "
                   "name the files that were formatted, by the line that was printed for them last", {**FILES, "data": DATA[:-512]})
     yield told("a corrupt volume", ["verify", "--table", LINE], "bad data 3\nunchecked 0\ncorrupt\n",
-               "the volume isn't the one that the table line vouches for", files={**FILES, "data": flipped(DATA, 3 * 512)})
+               "not every block could be checked to be the one that the table line vouches for", files={**FILES, "data": flipped(DATA, 3 * 512)})
     for command in (["serve", "--listen", "127.0.0.1:0"], ["talk"]):
         yield refused(f"{command[0]}, a name", [*command, "--table", LINE, "--name", ""], "P1", "--name: an export's name has 1 to 255 bytes (P1)")
         yield refused(f"{command[0]}, a cache", [*command, "--table", LINE, "--name", "vol", "--cache", "0"], "V5",
                       "--cache: the cache has from 1 to 65536 blocks (V5)")
     yield refused("an address", ["serve", "--table", LINE, "--name", "vol", "--listen", "nowhere"], "N6", "nowhere: a socket couldn't be had "
-                  "or failed (N6); name an address of this machine as HOST:PORT, whose port is free")
+                  "or failed (N6); name an address of this machine as HOST:PORT, whose port is free, or unix:PATH where no file is yet")
 
 
 def cases():

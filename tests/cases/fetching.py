@@ -26,6 +26,11 @@ def unopened():
     for command in (["serve", "--listen", "127.0.0.1:0"], ["talk"]):
         yield refused(f"{command[0]}, no server", [*command, "--table", LINE.replace(" data ", " nbd://127.0.0.1:1 "), "--name", "vol"],
                       "S1", f"nbd://127.0.0.1:1: {FAILED}: Connection refused (os error 111) (S1)")
+    for url in ("http://127.0.0.1:1/x", "nbd://127.0.0.1:1", "http:///x", "nbd+unix:///x"):
+        text = f"{url}: {FAILED}: {NO_URLS[url]} (S1)"
+        yield refused(f"{url} as NEW", ["update", "data", "hash", url], "S1", text)
+        for field in (" data ", " hash "):
+            yield refused(f"pull, {url} as{field}", ["pull", "made", "made.hash", "--to", LINE.replace(field, f" {url} ")], "S1", text)
     for path in ("https://127.0.0.1:1/x", "ftp://h/x", "HTTP://h/x"):
         yield refused(f"{path}, a path", ["verify", "--table", LINE.replace(" data ", f" {path} ")], "S1",
                       f"{path}: {FAILED}: No such file or directory (os error 2) (S1)")
@@ -43,6 +48,10 @@ def not_understood():
         for command in (["verify"], ["serve", "--listen", "nowhere", "--name", "vol"], ["talk", "--name", "vol"]):
             yield Case(f"{command[0]}: timeout {timeout!r}", [*command, "--table", LINE, f"--timeout={timeout}"],
                        "error: the value of --timeout is not understood\n", 2, FILES,
+                       errors=["dalgovuun: --timeout: a count of seconds, in decimal digits, from 1 to 86400"])
+        for command in (["pull", "made", "made.hash", "--to", LINE], ["update", "data", "hash", "script"]):
+            yield Case(f"{command[0]}: timeout {timeout!r}", [*command, f"--timeout={timeout}"],
+                       "error: the value of --timeout is not understood\n", 2, files,
                        errors=["dalgovuun: --timeout: a count of seconds, in decimal digits, from 1 to 86400"])
     for timeout in ("1", "86400", "00030"):
         yield Case(f"verify: timeout {timeout}", ["verify", "--table", LINE, f"--timeout={timeout}"], "unchecked 0\nverified\n", 0, FILES)

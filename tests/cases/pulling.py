@@ -14,7 +14,7 @@ VOLUME = volume(17)
 HASHES = VOLUME.device(DATA)
 LINE = VOLUME.line(DATA, "from", "from.hash")
 OTHER = "99999999-9999-9999-9999-999999999999"
-UNUSED = ("dalgovuun: --table: DATA and HASH aren't a volume of the sizes, the count, the salt and the algorithm of --to; "
+UNUSED = ("dalgovuun: --table isn't used: its sizes, count, salt or algorithm aren't those of --to, or DATA or HASH is shorter; "
           "each block is read")
 
 
@@ -132,8 +132,8 @@ def refusals():
                 ["--hash-offset", "0", "--table", VOLUME.line(DATA)], both, 2)
     yield plain("a UUID that is none", "error: the value of --uuid is not understood\n", ["--uuid", "x"], status=2)
     yield plain("a line with eleven fields", "refused L1\n", line=LINE + " x", errors=[
-        "dalgovuun: --to: a table line has ten fields, apart by one space each: this one has 11 (L1); take the line that format or edit "
-        "printed, in quotes"])
+        "dalgovuun: --to: a table line has ten fields, apart by one space each: this one has 11 (L1); take the line that format, edit, "
+        "update or pull printed, in quotes"])
     yield plain("an old line with eleven fields", "refused L1\n", ["--table", LINE + " x"])
     for path in ("hash.journal", "from.hash.journal"):
         yield plain(f"{path} that is none", "refused S7\n", files={**both, path: b"a shopping list"})

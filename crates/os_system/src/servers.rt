@@ -24,7 +24,7 @@ pub trait Servers {
     ///
     /// `OriginFault`.
     fn reach(&self, source: Source<'_>) -> Result<(Self::File, u64), OriginFault>
-        ensures { IfOk result (λ reached. reaches self.now source reached.0 reached.1) };
+        ensures { IfOk result (λ reached. reaches self.now source.entry reached.0 reached.1) };
 }
 
 /// The servers of the network.

@@ -11,8 +11,8 @@ use read_ahead::Ahead;
 use std::alloc::Global;
 use std::fs::File;
 use verity_files::{
-    Opened, Part, Paths, VolumeFile, check_block_size, file_of_first, file_of_most, len_by_now,
-    len_of_most, whole_file,
+    Opened, Part, Paths, VolumeFile, check_block_size, file_anew, file_of_first, file_of_most,
+    len_anew, len_by_now, len_of_most, whole_file,
 };
 use verity_store::{BlockStore, FileStore, RawFile, StoreFault};
 
@@ -72,7 +72,10 @@ fn part_here<P: Paths>(
             let len = len_of_most(paths, &opened, size, blocks)?;
             Ok((file_of_most(opened, size, blocks), len))
         }
-        Part::New => Err(StoreFault::Device),
+        Part::New => {
+            let len = len_anew(&opened, size);
+            Ok((file_anew(opened, size), len))
+        }
     }
 }
 

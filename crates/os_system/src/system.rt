@@ -51,7 +51,7 @@ impl<'a, P: Paths, V: Servers> OsSystem<'a, P, V> {
 
     /// Opens what lies at a server.
     fn reach(&self, url: &str, source: Source<'_>) -> Result<Remote<V::File>, StoreFault>
-        requires named { Names url.now source.entry }
+        requires named { Names url.now source }
         requires scheme { HasScheme url.now }
         ensures reached { IfOk result (IsReached (V.reaches self.now.servers.now) url.now) }
         ensures refused { IfErr result (IsOfSystem (true ≡ true)) }
@@ -82,7 +82,7 @@ fn store_fault(fault: &OriginFault) -> StoreFault
 
 // A store is over what was opened at that path or URL, and nothing at a server is opened to be written.
 impl<'a, P: Paths + AllocGlobal, V: Servers> System for OsSystem<'a, P, V> {
-    ghost use Rattle.std.specs.Prelude.{◌≡◌, ◌⊎◌, true, ⊤, length};
+    ghost use Rattle.std.specs.Prelude.{◌≡◌, ◌⊎◌, true, false, ⊤, length};
     ghost use Rattle.remote_url.specs.Grammar.{HasScheme};
     ghost use Rattle.verity_store.specs.RawFile.{Reads};
     ghost use Rattle.verity_files.specs.Lengths.{IsLenOf};

@@ -146,7 +146,7 @@ impl Number {
             Number::L1 => Meaning::new(
                 "L1",
                 "a table line has ten fields, apart by one space each",
-            ).advising("take the line that format or edit printed, in quotes"),
+            ).advising("take the line that format, edit, update or pull printed, in quotes"),
             Number::L2 => Meaning::new("L2", "its version isn't 1"),
             Number::L3 => Meaning::new(
                 "L3",
@@ -188,7 +188,7 @@ impl Number {
             Number::E5 => Meaning::new("E5", "memory was refused; nothing was changed"),
             Number::E6 => Meaning::new("E6", "a read or a write of this store failed"),
             Number::E7 => Meaning::new("E7", "a commit failed past its first change").advising(
-                "make the hash device anew with format",
+                "run recover; where the commit had no journal, make the hash device anew with format",
             ),
             Number::E8 => Meaning::new(
                 "E8",
@@ -240,11 +240,11 @@ impl Number {
             ),
             Number::N1 => Meaning::new("N1", "the client's bytes couldn't be read"),
             Number::N2 => Meaning::new("N2", "the client took no more bytes"),
-            Number::N3 => Meaning::new("N3", "more turns than the limit allows"),
+            Number::N3 => Meaning::new("N3", "the session took more turns than the limit allows"),
             Number::N4 => Meaning::new("N4", "memory was refused to the session"),
             Number::N5 => Meaning::new("N5", "no session could be opened"),
             Number::N6 => Meaning::new("N6", "a socket couldn't be had or failed").advising(
-                "name an address of this machine as HOST:PORT, whose port is free",
+                "name an address of this machine as HOST:PORT, whose port is free, or unix:PATH where no file is yet",
             ),
         }
     }

@@ -1,13 +1,14 @@
 -- Which words the commands that change a volume blame, and when.
-use Rattle.std.specs.Prelude.{◌≡◌, ℕ, List, Some, None, MatchOption, ⊤}
+use Rattle.std.specs.Prelude.{◌≡◌, ◌<◌, ◌⊎◌, ℕ, List, true, Some, None, MatchOption, ⊤}
 use Rattle.verity_files.specs.Misread.{IsMisread}
 use Rattle.verity_files.specs.Words.{paths_refusal}
 use Rattle.verity_files.specs.declared.failure.Failure.{Failure}
 use Rattle.verity_files.specs.declared.failure.Failure.TheVariants as failure
 use Rattle.verity_files.specs.declared.failure.Word.TheVariants as word
 use Rattle.verity_files.specs.declared.identity.Identity.{Identity}
-use Rattle.verity_files.specs.declared.opening.Opened.{Opened}
 use Rattle.verity_files.specs.declared.paths.Paths.{Ghosts}
+use Rattle.verity_files.specs.declared.system.System as system
+use Rattle.verity_store.specs.declared.store.BlockStore as store
 use Rattle.verity_volume.specs.Opening.{MisnamesHash}
 use Rattle.verity_work.specs.Work.{IsReasonAt, IsTakenForJournal}
 use Rattle.verity_words.specs.declared.words.edit.EditWords.{EditWords}
@@ -23,18 +24,24 @@ EditBlames facts p words (failure.Word word.HashOffset) = MatchOption words.hash
 EditBlames facts p words (failure.Word _) = ⊥
 EditBlames facts p words _ = ⊤
 
--- what was opened at a path is a file that is taken
-abbrev pub IsTaken : List ℕ → (List ℕ → Opened → Type 0) → (Identity → Type 0) → Type 0
-IsTaken path opens is_taken = (opened : Opened) × opens path opened × is_taken opened.identity
+-- what a system opened at a path is a file that is taken
+abbrev pub IsTaken : {S F D J : Type 0} → system.Ghosts S F D J → S → List ℕ → (Identity → Type 0) → Type 0
+IsTaken facts s path is_taken = (opened : _) × facts.opens s path opened × is_taken (facts.identity opened)
 
--- `update`, likewise
-abbrev pub UpdateBlames : {P : Type 0} → Ghosts P → P → UpdateWords → Failure → Type 0
-UpdateBlames facts p words (failure.Word word.Data) = paths_refusal words.data_path.now words.hash_path.now ≡ Some (failure.Word word.Data)
-UpdateBlames facts p words (failure.Word word.Hash) = MisnamesHash facts p words.data_path.now words.hash_path.now
-UpdateBlames facts p words (failure.Word word.New) = IsReasonAt (IsTaken words.new_path.now (facts.opens p)) (facts.opens p)
+-- the system of NEW refused a call, or a store over it failed one
+abbrev pub NewFails : {S F D J : Type 0} → system.Ghosts S F D J → store.Ghosts D → S → Type 0
+NewFails facts stores s = (facts.refuses s ≡ true) ⊎ ((after : _) × (0 < stores.failures after))
+
+-- `update`, likewise, where NEW is opened by a system of its own
+abbrev pub UpdateBlames : {P S F D J : Type 0} → Ghosts P → P → system.Ghosts S F D J → S → UpdateWords → Failure → Type 0
+UpdateBlames facts p news s words (failure.Word word.Data) =
+    paths_refusal words.data_path.now words.hash_path.now ≡ Some (failure.Word word.Data)
+UpdateBlames facts p news s words (failure.Word word.Hash) = MisnamesHash facts p words.data_path.now words.hash_path.now
+UpdateBlames facts p news s words (failure.Word word.New) = IsReasonAt (IsTaken news s words.new_path.now) (facts.opens p)
     words.data_path.now words.hash_path.now
-UpdateBlames facts p words (failure.Word word.Journal) = IsTakenForJournal facts p words.journal words.data_path.now words.hash_path.now
-UpdateBlames facts p words (failure.Word word.HashOffset) = MatchOption words.hash_offset ⊥
+UpdateBlames facts p news s words (failure.Word word.Journal) =
+    IsTakenForJournal facts p words.journal words.data_path.now words.hash_path.now
+UpdateBlames facts p news s words (failure.Word word.HashOffset) = MatchOption words.hash_offset ⊥
     (λ text. words.table ≡ None → IsMisread word.HashOffset text.now)
-UpdateBlames facts p words (failure.Word _) = ⊥
-UpdateBlames facts p words _ = ⊤
+UpdateBlames facts p news s words (failure.Word _) = ⊥
+UpdateBlames facts p news s words _ = ⊤

@@ -79,6 +79,8 @@ impl<'a> Work for Lines<'a> {
 
     ghost reason = { λ _ _ _. ⊥ };
 
+    ghost fails = { λ _. ⊥ };
+
     ghost begun = { λ _. ⊤ };
 
     ghost seen = { λ _. ⊤ };

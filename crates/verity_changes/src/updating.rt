@@ -1,11 +1,10 @@
 //! The command `update`: makes a volume that of another image.
-ghost use Rattle.std.specs.Prelude.{◌≡◌, ◌<◌, ◌%◌, true, Err, IfOk, IfErr, OnOk};
-ghost use Rattle.verity_profile.specs.Profile.{IsBlockSize};
+ghost use Rattle.std.specs.Prelude.{◌≡◌, ◌⊎◌, ◌<◌, true, Err, IfOk, IfErr, OnOk};
 ghost use Rattle.verity_files.specs.Commands.{lock_of};
 ghost use Rattle.verity_files.specs.Errors.{IsOfSystem, IsS1For};
 ghost use Rattle.verity_gate.specs.Refusals.{BlamesNone};
 ghost use Rattle.verity_work.specs.Work.{IsDoneAt};
-ghost use Rattle.verity_changes.specs.Blamed.{UpdateBlames};
+ghost use Rattle.verity_changes.specs.Blamed.{NewFails, UpdateBlames};
 ghost use Rattle.verity_changes.specs.Printing.{IsUpdated};
 
 use std::io::{Eprint, IsTerminal, Write};
@@ -14,8 +13,7 @@ use verity_answers::{commit, print_update};
 use verity_chain::{Tree, geometry_of};
 use verity_edit::EditFault;
 use verity_files::{
-    Command, DONE, Failure, Fault, Opened, Paths, Word, asked_store, check_block_size, check_paths,
-    len_by_now, open_there, store_of_most,
+    Command, DONE, Failure, Fault, Opened, Part, Paths, System, Word, check_paths, store_of_most,
 };
 use verity_store::{BlockStore, StoreFault, Which};
 use verity_update::{Edited, UpdateFault};
@@ -27,30 +25,42 @@ use verity_words::UpdateWords;
 use verity_work::{Words, Work, do_over};
 
 /// Makes the volume in DATA and HASH that of the image NEW, with one commit of what differs, and prints how many blocks that was and
-/// the new table line.
+/// the new table line. NEW is opened by a system of its own, `sources`, which is only read.
 ///
 /// The words are read first, then all three files opened and told apart, what stands in the journal is made whole, the superblock
 /// and NEW's length looked at, the volume opened, and then each block of NEW read. The journal is that of `edit`. Where `errors` is a
 /// terminal, the opening shows how much of DATA was read, and then it is shown how much of NEW was.
-pub fn update<R: Paths + Clock + Eprint + AllocGlobal, W: Write, E: Write + IsTerminal>(
+pub fn update<
+    R: Paths + Clock + Eprint + AllocGlobal,
+    S: System,
+    W: Write,
+    E: Write + IsTerminal,
+>(
     rt: &R,
+    sources: &S,
     words: &UpdateWords<'_>,
     output: &mut W,
     errors: &mut E,
 ) -> Result<u8, Failure>
     ensures done { IfOk result (λ status. IsDoneAt IsUpdated words.now.data_path.now words.now.hash_path.now (W.contents output.old)
         (W.contents output.new) status) }
-    ensures blames { IfErr result (UpdateBlames R.Paths rt.now words.now) }
-    ensures system { IfErr result (IsS1For (R.refuses rt.now ≡ true)) }
+    ensures blames { IfErr result (UpdateBlames R.Paths rt.now S.System sources.now words.now) }
+    ensures system { IfErr result (IsS1For ((R.refuses rt.now ≡ true) ⊎ NewFails S.System S.Store.BlockStore sources.now)) }
 {
     check_paths(words.data_path, words.hash_path)?;
     let offset = offset_of(words.table, words.hash_offset)?;
-    update_at(rt, words, offset, output, errors)
+    update_at(rt, sources, words, offset, output, errors)
 }
 
 /// Makes it that of NEW where it lies at an offset of HASH.
-fn update_at<R: Paths + Clock + Eprint + AllocGlobal, W: Write, E: Write + IsTerminal>(
+fn update_at<
+    R: Paths + Clock + Eprint + AllocGlobal,
+    S: System,
+    W: Write,
+    E: Write + IsTerminal,
+>(
     rt: &R,
+    sources: &S,
     words: &UpdateWords<'_>,
     offset: u64,
     output: &mut W,
@@ -58,8 +68,8 @@ fn update_at<R: Paths + Clock + Eprint + AllocGlobal, W: Write, E: Write + IsTer
 ) -> Result<u8, Failure>
     ensures done { IfOk result (λ status. IsDoneAt IsUpdated words.now.data_path.now words.now.hash_path.now (W.contents output.old)
         (W.contents output.new) status) }
-    ensures blames { IfErr result (UpdateBlames R.Paths rt.now words.now) }
-    ensures system { IfErr result (IsS1For (R.refuses rt.now ≡ true)) }
+    ensures blames { IfErr result (UpdateBlames R.Paths rt.now S.System sources.now words.now) }
+    ensures system { IfErr result (IsS1For ((R.refuses rt.now ≡ true) ⊎ NewFails S.System S.Store.BlockStore sources.now)) }
 {
     let is_watched = is_watched(words.is_quiet, errors.is_terminal());
     let over = Words {
@@ -72,80 +82,76 @@ fn update_at<R: Paths + Clock + Eprint + AllocGlobal, W: Write, E: Write + IsTer
         is_watched,
     };
     let mut taking = Taking {
+        sources,
         path: words.new_path,
         is_trusted: words.table.is_some(),
         is_watched,
         opened: None,
-        image: None,
+        new_store: None,
     };
     do_over(rt, &over, &mut taking, output, errors)
 }
 
 /// The image at a path, as far as it is opened.
 #[derive(Drop)]
-struct Taking<'a> {
+struct Taking<'a, S: System> {
+    sources: &'a S,
     path: &'a str,
     /// Whether the volume is opened under a table line.
     is_trusted: bool,
     /// Whether someone looks on.
     is_watched: bool,
-    opened: Option<Opened>,
-    image: Option<Image>,
+    opened: Option<S::File>,
+    /// NEW, whose length is that of whole blocks.
+    new_store: Option<S::Store>,
 }
 
-/// NEW, whose length is that of whole blocks.
-#[derive(Drop)]
-struct Image {
-    opened: Opened,
-    len: u64,
-    size: usize,
-    ghost profile: { IsBlockSize size },
-    ghost whole: { len % size ≡ 0 },
-}
-
-impl<'a> Work for Taking<'a> {
+impl<'a, S: System> Work for Taking<'a, S> {
     ghost use Rattle.std.specs.Prelude.{◌≡◌, ⊤, IsSome};
     ghost use Rattle.verity_files.specs.declared.failure.Word.TheVariants as word;
-    ghost use Rattle.verity_changes.specs.Blamed.{IsTaken};
+    ghost use Rattle.verity_changes.specs.Blamed.{IsTaken, NewFails};
     ghost use Rattle.verity_changes.specs.Printing.{IsUpdated};
 
     ghost prints = { λ _ _. IsUpdated };
 
     ghost blamed = { λ w. w ≡ word.New };
 
-    ghost reason = { λ taking. IsTaken taking.path.now };
+    ghost reason = { λ taking _. IsTaken S.System taking.sources.now taking.path.now };
+
+    ghost fails = { λ taking. NewFails S.System S.Store.BlockStore taking.sources.now };
 
     ghost begun = { λ taking. IsSome taking.opened };
 
-    ghost seen = { λ taking. IsSome taking.image };
+    ghost seen = { λ taking. IsSome taking.new_store };
 
     fn begin<R: Paths + AllocGlobal>(
         &mut self,
-        rt: &R,
+        _rt: &R,
         data: Option<&Opened>,
         hash: &Opened,
     ) -> Result<(), Failure> {
-        let opened = open_new(rt, self.path)?;
-        if opened.identity == hash.identity {
+        let opened = open_new(self.sources, self.path)?;
+        let identity = self.sources.identity_of(&opened);
+        if identity == hash.identity {
             return Err(Failure::Word(Word::New));
         }
         if let Some(data) = data {
-            if opened.identity == data.identity {
+            if identity == data.identity {
                 return Err(Failure::Word(Word::New));
             }
         }
-        lock_new(rt, &opened)?;
+        lock_new(self.sources, &opened)?;
         self.opened = Some(opened);
         Ok(())
     }
 
     fn see<R: Paths + AllocGlobal>(
         &mut self,
-        rt: &R,
+        _rt: &R,
         data_block_size: usize,
     ) -> Result<(), Failure> {
         let opened = self.opened.take().unwrap();
-        self.image = Some(whole_image(rt, opened, data_block_size)?);
+        self.new_store = Some(self.sources.store(opened, Part::All, data_block_size)?);
         Ok(())
     }
 
@@ -165,9 +171,9 @@ impl<'a> Work for Taking<'a> {
         output: &mut W,
         _errors: &mut E,
     ) -> Result<u8, Failure> {
-        let image = self.image.take().unwrap();
+        let new_store = self.new_store.take().unwrap();
         let mut editor = editor;
-        let taken = take_watched(rt, self.is_watched, &mut editor, image, hash, devices)?;
+        let taken = take_watched(rt, self.is_watched, &mut editor, new_store, hash, devices)?;
         let changed = taken.map_err(|fault| failure_of(fault, self.is_trusted))?;
         let (editor, done) = commit(editor, commits, devices);
         let committed = done?;
@@ -185,57 +191,41 @@ impl<'a> Work for Taking<'a> {
 }
 
 /// Opens NEW to be read.
-fn open_new<R: Paths>(rt: &R, path: &str) -> Result<Opened, StoreFault>
-    ensures opened { IfOk result (R.opens rt.now path.now) }
-    ensures refused { IfErr result (IsOfSystem (R.refuses rt.now ≡ true)) }
+fn open_new<S: System>(sources: &S, path: &str) -> Result<S::File, StoreFault>
+    ensures opened { IfOk result (S.opens sources.now path.now) }
+    ensures refused { IfErr result (IsOfSystem (S.refuses sources.now ≡ true)) }
 {
-    open_there(rt, path, Command::Verify, Which::Data)
+    sources.open(path)
 }
 
 /// Takes the lock on NEW that those have that only read.
-fn lock_new<R: Paths>(rt: &R, opened: &Opened) -> Result<(), Fault>
-    ensures locked { OnOk result (R.locks rt.now opened.now (lock_of Command.Verify)) }
-    ensures refused { IfErr result (λ e. e ≡ Fault.Store StoreFault.Device → R.refuses rt.now ≡ true) }
+fn lock_new<S: System>(sources: &S, opened: &S::File) -> Result<(), Fault>
+    ensures locked { OnOk result (S.locks sources.now opened.now (lock_of Command.Verify)) }
+    ensures refused { IfErr result (λ e. e ≡ Fault.Store StoreFault.Device → S.refuses sources.now ≡ true) }
 {
-    match rt.lock(opened, Command::Verify.lock(), Which::Data) {
+    match sources.lock(opened, Command::Verify.lock(), Which::Data) {
         Err(Fault::InUse(_)) => Err(Fault::NewInUse),
         taken => taken,
     }
 }
 
-/// NEW, where its length is that of whole blocks: S2 where it isn't, S4 where they are of no size of the profile, S1 where the system
-/// doesn't say how long it is.
-fn whole_image<R: Paths>(rt: &R, opened: Opened, size: usize) -> Result<Image, StoreFault>
-    ensures size { IfOk result (λ image. image.size ≡ size) }
-    ensures system { IfErr result (λ fault. fault ≡ StoreFault.Device → R.refuses rt.now ≡ true) }
-{
-    check_block_size(size)?;
-    let len = len_by_now(rt, &opened)?;
-    if len % size as u64 != 0 {
-        return Err(StoreFault::Ragged);
-    }
-    Ok(Image { opened, len, size })
-}
-
 /// Writes to an editor that was opened what differs in NEW, and answers how many blocks that was. Where someone looks on, it shows
 /// how much of NEW was read.
-fn take_watched<R: Paths + Clock + Eprint + AllocGlobal, V: Edits + Edited>(
+fn take_watched<R: Paths + Clock + Eprint + AllocGlobal, V: Edits + Edited, N: BlockStore + Drop>(
     rt: &R,
     is_watched: bool,
     editor: &mut V,
-    image: Image,
+    new_store: N,
     hash: Opened,
     devices: Devices<'_>,
 ) -> Result<Result<u64, UpdateFault>, Failure>
-    ensures new { IfOk result (λ taken. taken ≡ Err UpdateFault.New → R.refuses rt.now ≡ true) }
+    ensures new { IfOk result (λ taken. taken ≡ Err UpdateFault.New → (after : N) × (0 < N.failures after)) }
     ensures blames { IfErr result BlamesNone }
     ensures system { IfErr result (IsS1For (R.refuses rt.now ≡ true)) }
 {
-    let new_store = asked_store(rt, image.opened, image.len, image.size)?;
     let progress = progress_of(rt, is_watched, &new_store);
     let mut watched = Watched::new(new_store, progress.as_ref());
     let taken = take(rt, editor, &mut watched, hash, devices);
-    watched.store().facts();
     end_progress(progress.as_ref());
     taken
 }
@@ -249,7 +239,6 @@ fn take<R: Paths + AllocGlobal, V: Edits + Edited, N: BlockStore>(
     devices: Devices<'_>,
 ) -> Result<Result<u64, UpdateFault>, Failure>
     ensures new { IfOk result (λ taken. taken ≡ Err UpdateFault.New → 0 < N.failures new_store.new) }
-    ensures bound { N.fixed new_store.new ≡ N.fixed new_store.old }
     ensures blames { IfErr result BlamesNone }
     ensures system { IfErr result (IsS1For (R.refuses rt.now ≡ true)) }
 {

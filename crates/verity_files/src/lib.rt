@@ -35,9 +35,9 @@ pub use read_only::open_to_read;
 pub use reading::read_script;
 pub use status::{DONE, NO_MEMORY, NOT_UNDERSTOOD, REFUSED};
 pub use stores::{
-    AskedStore, VolumeStore, asked_store, check_block_size, file_of_first, file_of_most,
-    len_by_now, len_of_most, new_store, room_of, store_of_first, store_of_most, whole_file,
-    whole_store,
+    AskedStore, VolumeStore, asked_store, check_block_size, file_anew, file_of_first, file_of_most,
+    len_anew, len_by_now, len_of_most, new_store, room_of, store_of_first, store_of_most,
+    whole_file, whole_store,
 };
 pub use system::System;
 pub use values::{

@@ -105,11 +105,20 @@ pub fn new_store(opened: Opened, size: usize) -> Result<VolumeStore, StoreFault>
     ensures system { result ≢ Err StoreFault.Device }
 {
     check_block_size(size)?;
-    let len = match opened.identity {
+    let len = len_anew(&opened, size);
+    FileStore::of_len(file_anew(opened, size), len, size)
+}
+
+/// How many bytes a store to be filled anew begins with: none over a file, all whole blocks over a device.
+pub fn len_anew(opened: &Opened, size: usize) -> u64
+    requires { IsBlockSize size }
+    ensures device { IsDevice opened.now.identity → result ≡ opened.now.len / size * size }
+    ensures file { ¬ IsDevice opened.now.identity → result ≡ 0 }
+{
+    match opened.identity {
         Identity::File(_, _) => 0,
         Identity::Device(_) => whole_blocks(opened.len, size, u64::MAX),
-    };
-    FileStore::of_len(file_anew(opened, size), len, size)
+    }
 }
 
 /// How many bytes there are: of a file by now, of a device as when it was opened. S1 where the system doesn't say.
@@ -184,7 +193,7 @@ pub fn file_of_first(opened: Opened, size: usize, blocks: u64) -> VolumeFile<Fil
 }
 
 /// A file that is replaced, or all whole blocks of a device.
-fn file_anew(opened: Opened, size: usize) -> VolumeFile<File>
+pub fn file_anew(opened: Opened, size: usize) -> VolumeFile<File>
     requires { IsBlockSize size }
     ensures lies { LiesIn opened.identity opened.file true opened.len (opened.len / size * size) result }
     ensures unknown { ⟦<VolumeFile<File> as RawFile>⟧.bytes result ≡ None }

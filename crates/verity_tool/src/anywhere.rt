@@ -9,9 +9,10 @@ use std::io::{Eprint, IsTerminal, Read, Write};
 use std::net::{Net, TcpListener, TcpStream};
 use std::rt::Files;
 use std::time::Clock;
+use verity_changes::update;
 use verity_files::Failure;
 use verity_serving::{CountedReader, CountedWriter, serve, talk, verify};
-use verity_words::{PullWords, ServeWords, TalkWords, VerifyWords};
+use verity_words::{PullWords, ServeWords, TalkWords, UpdateWords, VerifyWords};
 
 /// `verify` over the real system.
 pub fn verify_anywhere<
@@ -82,4 +83,21 @@ pub fn pull_anywhere<
         output,
         errors,
     )
+}
+
+/// `update` over the real system: NEW may lie at a server.
+pub fn update_anywhere<
+    R: Files<File = File> + Net + Clock + Eprint + AllocGlobal,
+    W: Write,
+    E: Write + IsTerminal,
+>(
+    rt: &R,
+    words: &UpdateWords<'_>,
+    notes: &Notes,
+    output: &mut W,
+    errors: &mut E,
+) -> Result<u8, Failure> {
+    let network = Network::new(rt, patience(words.timeout)?);
+    let sources = OsSystem::new(rt, &network, notes);
+    update(rt, &sources, words, output, errors)
 }

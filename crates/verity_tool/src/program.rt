@@ -1,6 +1,8 @@
 //! The whole program.
 
-use crate::anywhere::{pull_anywhere, serve_anywhere, talk_anywhere, verify_anywhere};
+use crate::anywhere::{
+    pull_anywhere, serve_anywhere, talk_anywhere, update_anywhere, verify_anywhere,
+};
 use crate::told::Told;
 use clap::Error;
 use clap::error::ErrorKind;
@@ -12,7 +14,7 @@ use std::io::{Eprint, IsTerminal, Read, Write};
 use std::net::{Net, TcpListener, TcpStream};
 use std::rt::Files;
 use std::time::Clock;
-use verity_changes::{edit, scratch, update};
+use verity_changes::{edit, scratch};
 use verity_files::{DONE, Failure, Host, NOT_UNDERSTOOD, REFUSED};
 use verity_format::{format, format_join, format_slice};
 use verity_serving::fail;
@@ -106,7 +108,7 @@ fn answer<
         ),
         Request::Talk(words) => talk_anywhere(rt, &words, notes, input, output),
         Request::Recover(words) => recover(&mut Host::new(rt), &words, output).map(|()| DONE),
-        Request::Update(words) => update(rt, &words, output, errors),
+        Request::Update(words) => update_anywhere(rt, &words, notes, output, errors),
         Request::Pull(words) => pull_anywhere(rt, &words, notes, output, errors).map(|()| DONE),
     }
 }

@@ -62,7 +62,7 @@ fn explain_made<E: Write>(word: Word, errors: &mut E) {
 pub fn explain_unused_line<E: Write>(errors: &mut E) {
     let _ = writeln!(
         errors,
-        "dalgovuun: --table: DATA and HASH aren't a volume of the sizes, the count, the salt and the algorithm of --to; each block is read"
+        "dalgovuun: --table isn't used: its sizes, count, salt or algorithm aren't those of --to, or DATA or HASH is shorter; each block is read"
     );
 }
 
@@ -75,7 +75,7 @@ pub fn explain_usage<E: Write>(kind: ErrorKind, errors: &mut E) {
 pub fn explain_corrupt<E: Write>(errors: &mut E) {
     let _ = writeln!(
         errors,
-        "dalgovuun: the volume isn't the one that the table line vouches for"
+        "dalgovuun: not every block could be checked to be the one that the table line vouches for"
     );
 }
 
@@ -98,7 +98,7 @@ pub fn explain_block_size<E: Write>(size: &str, errors: &mut E) {
 pub fn explain_no_journal<E: Write>(hash_path: &str, errors: &mut E) {
     let _ = writeln!(
         errors,
-        "dalgovuun: {hash_path}: a device, and no --journal: a crash in the middle of a commit can leave a volume that nothing opens"
+        "dalgovuun: {hash_path}: a device, and no --journal: a crash in the middle of a commit can leave a volume that can't be opened"
     );
 }
 

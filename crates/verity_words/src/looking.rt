@@ -2,7 +2,7 @@
 
 use crate::parts::{Parts, field};
 use crate::pulling::look_at_pull;
-use os_system::Notes;
+use os_system::{Notes, is_url};
 use std::fs::{File, OpenOptions};
 use std::rt::Files;
 use std::{fmt, fs, io};
@@ -206,14 +206,24 @@ fn look_at_files<'a, R: Files<File = File>>(
     match (data, hash) {
         (Some(detail), _) => (parts.data, detail),
         (None, Some(detail)) => (parts.hash, detail),
-        (None, None) => look_at_read(rt, parts),
+        (None, None) => look_at_read(rt, parts, notes),
     }
 }
 
 /// The script or NEW, where it can't be read; else nothing that is seen.
-fn look_at_read<'a, R: Files<File = File>>(rt: &R, parts: Parts<'a>) -> (&'a str, Detail<'a>) {
+fn look_at_read<'a, R: Files<File = File>>(
+    rt: &R,
+    parts: Parts<'a>,
+    notes: &Notes,
+) -> (&'a str, Detail<'a>) {
     if parts.read.is_empty() {
         return ("the volume", Detail::None);
+    }
+    if parts.command == Command::Update && is_url(parts.read) {
+        return match notes.reason_for(parts.read) {
+            Some(reason) => (parts.read, Detail::Reason(reason)),
+            None => (parts.read, Detail::None),
+        };
     }
     match fs::metadata(rt, parts.read) {
         Ok(_) => (parts.read, Detail::None),
@@ -239,7 +249,10 @@ pub(crate) fn look_at_store<'a, R: Files<File = File>>(
 
 /// Why what a URL names couldn't be opened.
 fn look_at_server<'a>(parts: Parts<'a>, notes: &Notes, which: Which) -> Option<Detail<'a>> {
-    notes.reason_for(parts.path(which)).map(Detail::Reason)
+    match notes.reason_for(parts.path(which)) {
+        Some(reason) => Some(Detail::Reason(reason)),
+        None => None,
+    }
 }
 
 /// Why a file can't be opened, or has too few blocks.

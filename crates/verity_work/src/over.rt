@@ -1,5 +1,5 @@
 //! A volume, opened to be edited, and its journal.
-ghost use Rattle.std.specs.Prelude.{◌≡◌, true, Ok, IfSome, IfOk, IfErr, OnOk, string_bytes};
+ghost use Rattle.std.specs.Prelude.{◌≡◌, ◌⊎◌, true, Ok, IfSome, IfOk, IfErr, OnOk, string_bytes};
 ghost use Rattle.verity_files.specs.declared.failure.Word.TheVariants as word;
 ghost use Rattle.verity_files.specs.declared.opening.Opened.{Opened};
 ghost use Rattle.verity_files.specs.Errors.{IsOfSystem, IsS1For};
@@ -31,7 +31,7 @@ pub fn do_over<R: Paths + Clock + Eprint + AllocGlobal, T: Work, W: Write, E: Wr
         (W.contents output.old) (W.contents output.new) status) }
     ensures blames { IfErr result (BlamesOver R.Paths rt.now words.now T.blamed (IsReasonAt (T.reason work.old (R.opens rt.now))
         (R.opens rt.now) words.now.data_path.now words.now.hash_path.now)) }
-    ensures system { IfErr result (IsS1For (R.refuses rt.now ≡ true)) }
+    ensures system { IfErr result (IsS1For ((R.refuses rt.now ≡ true) ⊎ T.fails work.old)) }
 {
     let line = match words.table {
         Some(text) => Some(Table::parse(rt.alloc(), text)?),
@@ -63,9 +63,10 @@ fn begin<R: Paths + AllocGlobal, T: Work>(
     requires hash { R.opens rt.now words.now.hash_path.now hash.now }
     ensures begun { OnOk result (T.begun work.new) }
     ensures prints { PrintsAsBefore T.prints work.old work.new }
+    ensures fails { T.fails work.new → T.fails work.old }
     ensures blames { IfErr result (BlamesOwn T.blamed (IsReasonAt (T.reason work.old (R.opens rt.now)) (R.opens rt.now)
         words.now.data_path.now words.now.hash_path.now)) }
-    ensures system { IfErr result (IsS1For (R.refuses rt.now ≡ true)) }
+    ensures system { IfErr result (IsS1For ((R.refuses rt.now ≡ true) ⊎ T.fails work.old)) }
 {
     match data {
         Ok(image) => work.begin(rt, Some(image), hash),
@@ -108,7 +109,7 @@ fn do_through<R: Paths + Clock + Eprint + AllocGlobal, T: Work, W: Write, E: Wri
     ensures word { IfErr result (λ e. e ≡ Failure.Word word.Journal → (image : Opened) × (given.«data» ≡ Ok image)
         × IsOneOf R.Paths rt.now path.now image.identity given.hash.identity) }
     ensures refused { IfErr result (BlamesAtMost word.Journal) }
-    ensures system { IfErr result (IsS1For (R.refuses rt.now ≡ true)) }
+    ensures system { IfErr result (IsS1For ((R.refuses rt.now ≡ true) ⊎ T.fails work.old)) }
 {
     let Given { line, data, hash } = given;
     let Ok(data) = data else {

@@ -1,5 +1,5 @@
 //! The two ways to a volume's files: at once, or by what is staged and a journal.
-ghost use Rattle.std.specs.Prelude.{◌≡◌, true, IfOk, IfErr};
+ghost use Rattle.std.specs.Prelude.{◌≡◌, ◌⊎◌, true, IfOk, IfErr};
 ghost use Rattle.verity_files.specs.Errors.{IsOfSystem, IsS1For};
 ghost use Rattle.verity_gate.specs.Refusals.{BlamesNone};
 ghost use Rattle.verity_work.specs.Work.{IsDoneAt};
@@ -42,7 +42,7 @@ pub(crate) fn do_in_place<R: Paths + Clock + Eprint + AllocGlobal, T: Work, W: W
     ensures done { IfOk result (λ status. IsDoneAt (T.prints work.old (R.text rt.now)) words.now.data_path.now words.now.hash_path.now
         (W.contents output.old) (W.contents output.new) status) }
     ensures blames { IfErr result BlamesNone }
-    ensures system { IfErr result (IsS1For (R.refuses rt.now ≡ true)) }
+    ensures system { IfErr result (IsS1For ((R.refuses rt.now ≡ true) ⊎ T.fails work.old)) }
 {
     let Given { line, data, hash } = given;
     let volume = open_volume(rt, &line, words.offset, data, hash)?;
@@ -64,7 +64,7 @@ fn run_in_place<R: Paths + Clock + Eprint + AllocGlobal, T: Work, W: Write, E: W
     ensures done { IfOk result (λ status. IsDoneAt (T.prints work.old (R.text rt.now)) words.now.data_path.now words.now.hash_path.now
         (W.contents output.old) (W.contents output.new) status) }
     ensures blames { IfErr result BlamesNone }
-    ensures system { IfErr result (IsS1For (R.refuses rt.now ≡ true)) }
+    ensures system { IfErr result (IsS1For ((R.refuses rt.now ≡ true) ⊎ T.fails work.old)) }
 {
     let rest = rest_of(words, volume.again, volume.sizes);
     let is_watched = words.is_watched && line.is_none();
@@ -108,7 +108,7 @@ fn run_opened<
     ensures done { IfOk result (λ status. T.prints work.old (R.text rt.now) rest.entry.devices
         (W.contents output.old) (W.contents output.new) status) }
     ensures blames { IfErr result BlamesNone }
-    ensures system { IfErr result (IsS1For (R.refuses rt.now ≡ true)) }
+    ensures system { IfErr result (IsS1For ((R.refuses rt.now ≡ true) ⊎ T.fails work.old)) }
 {
     match line {
         Some(table) => {
@@ -138,7 +138,7 @@ pub(crate) fn do_staged<R: Paths + Clock + Eprint + AllocGlobal, T: Work, W: Wri
     ensures done { IfOk result (λ status. IsDoneAt (T.prints work.old (R.text rt.now)) words.now.data_path.now words.now.hash_path.now
         (W.contents output.old) (W.contents output.new) status) }
     ensures blames { IfErr result BlamesNone }
-    ensures system { IfErr result (IsS1For (R.refuses rt.now ≡ true)) }
+    ensures system { IfErr result (IsS1For ((R.refuses rt.now ≡ true) ⊎ T.fails work.old)) }
 {
     let (data, hash) = commits.files()?;
     let volume = open_volume(rt, &line, words.offset, Ok(data), hash)?;
@@ -163,7 +163,7 @@ fn run_through<R: Paths + Clock + Eprint + AllocGlobal, T: Work, W: Write, E: Wr
     ensures done { IfOk result (λ status. IsDoneAt (T.prints work.old (R.text rt.now)) words.now.data_path.now words.now.hash_path.now
         (W.contents output.old) (W.contents output.new) status) }
     ensures blames { IfErr result BlamesNone }
-    ensures system { IfErr result (IsS1For (R.refuses rt.now ≡ true)) }
+    ensures system { IfErr result (IsS1For ((R.refuses rt.now ≡ true) ⊎ T.fails work.old)) }
 {
     let rest = rest_of(words, volume.again, volume.sizes);
     let is_watched = words.is_watched && line.is_none();
@@ -210,7 +210,7 @@ fn run_over<
     ensures done { IfOk result (λ status. T.prints work.old (R.text rt.now) rest.entry.devices
         (W.contents output.old) (W.contents output.new) status) }
     ensures blames { IfErr result BlamesNone }
-    ensures system { IfErr result (IsS1For (R.refuses rt.now ≡ true)) }
+    ensures system { IfErr result (IsS1For ((R.refuses rt.now ≡ true) ⊎ T.fails work.old)) }
 {
     let data = staged(rt.alloc(), data_store, Which::Data)?;
     let hash = staged(rt.alloc(), hash_store, Which::Hash)?;
@@ -255,7 +255,7 @@ fn run_staged<
     ensures done { IfOk result (λ status. T.prints work.old (R.text rt.now) rest.entry.devices
         (W.contents output.old) (W.contents output.new) status) }
     ensures blames { IfErr result BlamesNone }
-    ensures system { IfErr result (IsS1For (R.refuses rt.now ≡ true)) }
+    ensures system { IfErr result (IsS1For ((R.refuses rt.now ≡ true) ⊎ T.fails work.old)) }
 {
     match line {
         Some(table) => {

@@ -35,13 +35,17 @@ pub trait Work {
     /// Why it blames one.
     ghost reason: { Reason Self };
 
+    /// What more it reads failed, which the system of the volume needn't have refused.
+    ghost fails: { Self → Type 0 };
+
     /// What more is read was opened.
     ghost begun: { Self → Type 0 };
 
     /// What more is read can be read.
     ghost seen: { Self → Type 0 };
 
-    /// Opens what more is read, once both files are opened, of which DATA may be missing. S1 where the system refuses a call.
+    /// Opens what more is read, once both files are opened, of which DATA may be missing. S1 where the system refuses a call,
+    /// or what more is read fails.
     fn begin<R: Paths + AllocGlobal>(
         &mut self,
         rt: &R,
@@ -50,19 +54,21 @@ pub trait Work {
     ) -> Result<(), Failure>
         ensures begun { OnOk result (begun self.new) }
         ensures prints { PrintsAsBefore prints self.old self.new }
-        ensures system { IfErr result (IsS1For (R.refuses rt.now ≡ true)) }
+        ensures fails { fails self.new → fails self.old }
+        ensures system { IfErr result (IsS1For ((R.refuses rt.now ≡ true) ⊎ fails self.old)) }
         ensures blames { IfErr result (BlamesOwn blamed (reason self.old (R.opens rt.now) (λ identity. (identity ≡ hash.now.identity)
             ⊎ MatchOption «data».entry ⊥ (λ opened. identity ≡ opened.now.identity)))) };
 
-    /// Makes it ready to be read, once the size of a data block is known. S1 where the system refuses a call.
+    /// Makes it ready to be read, once the size of a data block is known. S1 as above.
     fn see<R: Paths + AllocGlobal>(&mut self, rt: &R, data_block_size: usize) -> Result<(), Failure>
         requires { begun self.old }
         ensures seen { OnOk result (seen self.new) }
-        ensures system { IfErr result (IsS1For (R.refuses rt.now ≡ true)) }
+        ensures system { IfErr result (IsS1For ((R.refuses rt.now ≡ true) ⊎ fails self.old)) }
         ensures prints { PrintsAsBefore prints self.old self.new }
+        ensures fails { fails self.new → fails self.old }
         ensures blames { IfErr result BlamesNone };
 
-    /// Does it. `hash` is HASH, to be read once more. S1 where the system refuses a call, of this or of a commit.
+    /// Does it. `hash` is HASH, to be read once more. S1 as above, and where the system refuses a call of a commit.
     fn run<
         R: Paths + Clock + Eprint + AllocGlobal,
         V: Edits + Edited,
@@ -82,6 +88,6 @@ pub trait Work {
         requires { seen self.old }
         ensures done { IfOk result (λ status. prints self.old (R.text rt.now) devices.entry
             (W.contents output.old) (W.contents output.new) status) }
-        ensures system { IfErr result (IsS1For ((R.refuses rt.now ≡ true) ⊎ (C.refuses commits.old ≡ true))) }
+        ensures system { IfErr result (IsS1For ((R.refuses rt.now ≡ true) ⊎ ((C.refuses commits.old ≡ true) ⊎ fails self.old))) }
         ensures blames { IfErr result BlamesNone };
 }

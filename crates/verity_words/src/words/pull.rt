@@ -28,7 +28,7 @@ pub const FORM: Form<'static> = Form {
         },
         Parameter {
             name: "table",
-            help: "The trusted table line of the volume as it stands, of which nothing is read that both lines name alike",
+            help: "The trusted table line of the volume as it is now; blocks that are the same under both lines aren't read",
             kind: Kind::Optional("LINE"),
         },
         Parameter {

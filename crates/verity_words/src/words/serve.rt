@@ -38,7 +38,7 @@ pub const FORM: Form<'static> = Form {
         },
         Parameter {
             name: "idle",
-            help: "After how many seconds a silent client is left; 0: never",
+            help: "After how many seconds a silent client is disconnected; 0: never",
             kind: Kind::Default {
                 value: "SECONDS",
                 text: "0",

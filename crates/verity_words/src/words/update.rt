@@ -16,7 +16,7 @@ pub const FORM: Form<'static> = Form {
         HASH,
         Parameter {
             name: "NEW",
-            help: "The image to be held",
+            help: "The new image",
             kind: Kind::Argument,
         },
         OWN_OFFSET,
