@@ -87,7 +87,8 @@ returns-in-Ok-join_device-clause-level g c = λ there i below inside.
     let levels : 0 < levels_of t = omega (arith, c.levels.ensures.value, c.if-levels-eq0.false) in
     let all : total_of (upper t) ≡ start_of t 0 = upper_total t c.levels.ensures.shaped levels (salted_by p)
     (sym (ap (λ (x : Shape). x.digest_size) value)) in
-    let start : made.start ≡ start_behind c.args.offset size = ready.start ∙ ap (λ (x : Shape). start_behind c.args.offset x.hash_size) value in
+    let start : made.start ≡ start_behind c.args.offset size =
+    ready.start ∙ ap (λ (x : Shape). start_behind c.args.offset x.hash_size) value in
     let total : total_of made.tree.geometry ≡ start_of s 0 = ap total_of ready.geometry ∙ all ∙ ap (λ (x : Shape). start_of x 0) value in
     let blocks : made.tree.geometry.blocks ≡ len_of s 0 =
     ap (λ (x : Shape). x.blocks) ready.geometry ∙ ap (λ (x : Shape). len_of x 0) value in
@@ -113,7 +114,8 @@ returns-clause-level g c = λ there i below inside.
     let levels : 0 < levels_of t = omega (arith, c.levels.ensures.value, c.if-levels-eq0.false) in
     let all : total_of (upper t) ≡ start_of t 0 = upper_total t c.levels.ensures.shaped levels (salted_by p)
     (sym (ap (λ (x : Shape). x.digest_size) value)) in
-    let start : made.start ≡ start_behind c.args.offset size = ready.start ∙ ap (λ (x : Shape). start_behind c.args.offset x.hash_size) value in
+    let start : made.start ≡ start_behind c.args.offset size =
+    ready.start ∙ ap (λ (x : Shape). start_behind c.args.offset x.hash_size) value in
     let total : total_of made.tree.geometry ≡ start_of s 0 = ap total_of ready.geometry ∙ all ∙ ap (λ (x : Shape). start_of x 0) value in
     let blocks : made.tree.geometry.blocks ≡ len_of s 0 =
     ap (λ (x : Shape). x.blocks) ready.geometry ∙ ap (λ (x : Shape). len_of x 0) value in
@@ -139,7 +141,8 @@ returns-in-Ok-join_device-clause-given g c = λ there.
     let levels : 0 < levels_of t = omega (arith, c.levels.ensures.value, c.if-levels-eq0.false) in
     let all : total_of (upper t) ≡ start_of t 0 = upper_total t c.levels.ensures.shaped levels (salted_by p)
     (sym (ap (λ (x : Shape). x.digest_size) value)) in
-    let start : made.start ≡ start_behind c.args.offset size = ready.start ∙ ap (λ (x : Shape). start_behind c.args.offset x.hash_size) value in
+    let start : made.start ≡ start_behind c.args.offset size =
+    ready.start ∙ ap (λ (x : Shape). start_behind c.args.offset x.hash_size) value in
     let total : total_of made.tree.geometry ≡ start_of s 0 = ap total_of ready.geometry ∙ all ∙ ap (λ (x : Shape). start_of x 0) value in
     let blocks : made.tree.geometry.blocks ≡ len_of s 0 =
     ap (λ (x : Shape). x.blocks) ready.geometry ∙ ap (λ (x : Shape). len_of x 0) value in
@@ -167,7 +170,8 @@ returns-in-Ok-join_device-clause-joined g c = λ told_data tells.
     let levels : 0 < levels_of t = omega (arith, c.levels.ensures.value, c.if-levels-eq0.false) in
     let all : total_of (upper t) ≡ start_of t 0 = upper_total t c.levels.ensures.shaped levels (salted_by p)
     (sym (ap (λ (x : Shape). x.digest_size) value)) in
-    let start : made.start ≡ start_behind c.args.offset size = ready.start ∙ ap (λ (x : Shape). start_behind c.args.offset x.hash_size) value in
+    let start : made.start ≡ start_behind c.args.offset size =
+    ready.start ∙ ap (λ (x : Shape). start_behind c.args.offset x.hash_size) value in
     let total : total_of made.tree.geometry ≡ start_of s 0 = ap total_of ready.geometry ∙ all ∙ ap (λ (x : Shape). start_of x 0) value in
     let blocks : made.tree.geometry.blocks ≡ len_of s 0 =
     ap (λ (x : Shape). x.blocks) ready.geometry ∙ ap (λ (x : Shape). len_of x 0) value in

@@ -41,7 +41,12 @@ returns-clause-ready g c =
       empty = start.ensures.empty;
       rootless = start.ensures.rootless;
       superblock = c.in_ok-superblock.ensures.value;
-      buffer = omega (arith, c.bytes_at_a_time.ensures.one, c.in_ok-buffer.ensures.len, ap (λ (t : Shape). t.data_size) start.ensures.geometry);
+      buffer = omega (
+        arith,
+        c.bytes_at_a_time.ensures.one,
+        c.in_ok-buffer.ensures.len,
+        ap (λ (t : Shape). t.data_size) start.ensures.geometry,
+      );
       reserved = omega (
         arith,
         c.in-Ok.ensures.reserved,

@@ -1,4 +1,5 @@
-use Rattle.std.proofs.Common.{◌≡◌, ℕ, ◌+◌, ◌-◌, ◌*◌, ◌/◌, ◌<◌, ◌≤◌, min, List, [], length, get_or, replicate, true, refl, sym, ap, ◌∙◌, subst, arith}
+use Rattle.std.proofs.Common.{◌≡◌, ℕ, ◌+◌, ◌-◌, ◌*◌, ◌/◌, ◌<◌, ◌≤◌, min, List, [], length, get_or, replicate, true, refl, sym}
+use Rattle.std.proofs.Common.{ap, ◌∙◌, subst, arith}
 use Rattle.verity_digest.specs.Hash.{Salted, hashing, salted_digest, size_of}
 use Rattle.verity_digest.specs.Tree.{Hashing, per_block}
 use Rattle.verity_digest.specs.Shape.{row_len}
@@ -113,6 +114,7 @@ returns-clause-right g c = λ tells.
     let below : index < row_len (per_block h) (length (D.content image)) 1 =
     subst (λ k. index < row_len k (length (D.content image)) 1) (sym width)
     (subst (λ b. index < row_len (digests_per_block s) b 1) (sym c.requires.blocks) c.requires.index) in
-    fill_right D h image c.loop-n.data_store (D.content image) index c.loop-n.n c.loop-n.block (omega (arith, width, wider)) below refl tells
+    fill_right D h image c.loop-n.data_store (D.content image) index c.loop-n.n c.loop-n.block (omega (arith, width, wider)) below
+    refl tells
     (omega (arith, c.loop-n-test.false, c.loop-n.auto, c.min-end.ensures, c.requires.blocks, same, first, firsts, low))
     (subst (λ f. Filling D image c.loop-n.data_store h f c.loop-n.n c.loop-n.block) first c.loop-n.invariant.filling)

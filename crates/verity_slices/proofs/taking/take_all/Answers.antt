@@ -42,7 +42,8 @@ write_done-requires-clause-come g c =
     let same = c.take.ensures.geometry ∙ kept.geometry in
     let growing = kept.growing (omega (arith, c.loop-j-test.true, c.requires.within)) in
     subst (λ t. Settling (digests_per_block t) (n + 1) t.blocks 0 (opens mid) mid.root) (sym same)
-    (settling_from (digests_per_block s) n c.index-digests-j.result (opens now) (opens mid) now.root mid.root growing c.take.ensures.comes s.blocks)
+    (settling_from (digests_per_block s) n c.index-digests-j.result (opens now) (opens mid) now.root mid.root growing
+    c.take.ensures.comes s.blocks)
 
 pub loop-j-preserved : goal.loop-j-preserved
 loop-j-preserved g c =
