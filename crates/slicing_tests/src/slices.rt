@@ -3,18 +3,16 @@ use std::alloc::Global;
 use std::rt::HostRuntime;
 use std::test::Fail;
 use test_volumes::{numbered, params};
-use verity_build::{BuildFault, build_at};
-use verity_digest::Digest;
+use verity_build::build_at;
 use verity_slice::{Run, Slice};
 use verity_slices::{JoinFault, build_joined, build_slice};
 use verity_store::MemStore;
 
-// What slices and a join left and answered, beside a build over the same hash store.
-#[derive(Drop)]
+// What became of slices and a join, beside a build over the same hash store.
+#[derive(Clone, Copy)]
 struct Joined {
-    answer: Result<Digest, JoinFault>,
-    built: Result<Digest, BuildFault>,
-    is_same: bool,
+    is_built: bool,
+    is_uncovered: bool,
 }
 
 // A hash store that has some blocks, none of them zeros.
@@ -59,19 +57,14 @@ fn join(
     );
     let mut other = some_blocks(alloc, held)?;
     let built = build_at(alloc, &mut data_store, &mut other, &params, offset);
-    Ok(Joined {
-        answer,
-        built,
-        is_same: hash_store.bytes() == other.bytes(),
-    })
-}
-
-// They are as one build.
-fn is_built(joined: &Joined) -> bool {
-    match (&joined.answer, &joined.built) {
-        (Ok(answer), Ok(built)) => joined.is_same && *answer == *built,
+    let is_built = match (&answer, &built) {
+        (Ok(answer), Ok(built)) => *answer == *built && hash_store.bytes() == other.bytes(),
         _ => false,
-    }
+    };
+    Ok(Joined {
+        is_built,
+        is_uncovered: matches!(answer, Err(JoinFault::Uncovered)),
+    })
 }
 
 #[test]
@@ -80,7 +73,7 @@ fn slices_in_any_order_are_a_build(rt: HostRuntime) -> Result<(), Fail> {
     for blocks in [1, 2, 16, 17, 255, 256, 257, 700] {
         for held in [0, 3, 100] {
             let joined = join(alloc, blocks, held, 1024, &[3, 1, 4, 2, 3], 4)?;
-            assert!(&rt; is_built(&joined));
+            assert!(&rt; joined.is_built);
         }
     }
     Ok(())
@@ -90,9 +83,9 @@ fn slices_in_any_order_are_a_build(rt: HostRuntime) -> Result<(), Fail> {
 fn one_slice_and_more_than_there_are_blocks(rt: HostRuntime) -> Result<(), Fail> {
     let alloc = rt.alloc();
     let one = join(alloc, 300, 0, 0, &[1], 1)?;
-    assert!(&rt; is_built(&one));
+    assert!(&rt; one.is_built);
     let many = join(alloc, 40, 0, 512, &[7, 6, 5, 4, 3, 2, 1], 7)?;
-    assert!(&rt; is_built(&many));
+    assert!(&rt; many.is_built);
     Ok(())
 }
 
@@ -100,6 +93,6 @@ fn one_slice_and_more_than_there_are_blocks(rt: HostRuntime) -> Result<(), Fail>
 fn a_slice_left_out_is_j1(rt: HostRuntime) -> Result<(), Fail> {
     let alloc = rt.alloc();
     let joined = join(alloc, 300, 0, 0, &[1, 2, 4], 4)?;
-    assert_eq!(&rt; joined.answer, Err(JoinFault::Uncovered));
+    assert!(&rt; joined.is_uncovered);
     Ok(())
 }
