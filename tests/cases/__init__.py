@@ -1,8 +1,8 @@
 """The tables of cases, a file for each command."""
 from cases import dumping, editing, explaining, fetching, formatting, pulling, readers, reading_words, recovering
-from cases import serving, slips, talking, trusting, updating, verifying
+from cases import serving, slicing, slips, talking, trusting, updating, verifying
 
-TABLES = (formatting, dumping, editing, updating, pulling, trusting, verifying,
+TABLES = (formatting, slicing, dumping, editing, updating, pulling, trusting, verifying,
           serving, talking, reading_words, slips, readers, recovering, explaining, fetching)
 
 

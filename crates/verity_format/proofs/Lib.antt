@@ -1,2 +1,4 @@
 pub mod Blaming
 pub mod Formatted
+pub mod Moving
+pub mod Told

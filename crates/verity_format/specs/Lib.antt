@@ -3,3 +3,5 @@ pub mod Formatting
 pub mod Printed
 pub mod Made
 pub mod Opening
+pub mod Asked
+pub mod Sliced

@@ -8,6 +8,7 @@ use Rattle.verity_superblock.specs.Image.{hash_blocks}
 use Rattle.verity_build.specs.Given.{IsRootOfGiven}
 use Rattle.verity_build.specs.Parameters.{front}
 use Rattle.verity_files.specs.Commands.{lock_of}
+use Rattle.verity_files.specs.declared.command.Command.{Command}
 use Rattle.verity_files.specs.declared.command.Command.TheVariants.{Format}
 use Rattle.verity_files.specs.declared.part.Part.{Part}
 use Rattle.verity_files.specs.declared.part.Part.TheVariants as part
@@ -34,11 +35,15 @@ device_of shape salt image there = hash_blocks (record {
   uuid = shape.uuid;
 }) image (front shape.hash_offset shape.hash_block_size there)
 
--- a store of what was opened at a path, and locked: of as many blocks as were asked for, where so many were
-abbrev pub LiesAsked : {S F D J : Type 0} → Ghosts S F D J → store.Ghosts D → S → List ℕ → Shape → D → Type 0
-LiesAsked facts stores s path shape source = (opened : _) × facts.opens s path opened × facts.locks s opened (lock_of Format)
+-- a store of what was opened at a path, and locked for a command: of as many blocks as were asked for, where so many were
+abbrev pub LiesFor : {S F D J : Type 0} → Command → Ghosts S F D J → store.Ghosts D → S → List ℕ → Shape → D → Type 0
+LiesFor command facts stores s path shape source = (opened : _) × facts.opens s path opened × facts.locks s opened (lock_of command)
     × facts.lies s opened (data_part shape.data_blocks) source
     × MatchOption shape.data_blocks ⊤ (λ blocks. length (stores.content source) ≡ blocks)
+
+-- .. for `format`
+abbrev pub LiesAsked : {S F D J : Type 0} → Ghosts S F D J → store.Ghosts D → S → List ℕ → Shape → D → Type 0
+LiesAsked facts stores s path shape source = LiesFor Format facts stores s path shape source
 
 -- what stands at a path was opened to be written, and locked, as the one store, and closed as the other; nothing else was
 pub record IsLeft {S F D J : Type 0} (facts : Ghosts S F D J) (old new : S) (path : List ℕ) (shape : Shape) (target target' : D)

@@ -16,7 +16,7 @@ ghost use Rattle.verity_volume.specs.Lines.{IsOfLine};
 ghost use Rattle.verity_gate.specs.Refusals.{BlamesAtMost};
 ghost use Rattle.verity_format.specs.Blamed.{FormatBlames, Misreads};
 ghost use Rattle.verity_format.specs.Formatting.{line_made, some_blocks, AreTaken, FallsShort, IsAsked, IsOneFile, IsShort};
-ghost use Rattle.verity_format.specs.Made.{data_part, device_of, hash_part, IsLeft, IsMadeOf, LiesAsked};
+ghost use Rattle.verity_format.specs.Made.{data_part, device_of, hash_part, IsLeft, IsMadeOf, LiesAsked, LiesFor};
 ghost use Rattle.verity_format.specs.Opening.{IsOpenedAnew, IsOpenedAsked};
 ghost use Rattle.verity_format.specs.Printed.{IsFormatted};
 
@@ -39,21 +39,21 @@ use verity_words::FormatWords;
 
 /// The numbers and names among the words.
 #[derive(Clone, Copy)]
-struct Shape {
-    data_block_size: usize,
-    hash_block_size: usize,
-    hash_offset: u64,
-    data_blocks: Option<u64>,
-    algorithm: Algorithm,
-    uuid: Uuid,
+pub(crate) struct Shape {
+    pub(crate) data_block_size: usize,
+    pub(crate) hash_block_size: usize,
+    pub(crate) hash_offset: u64,
+    pub(crate) data_blocks: Option<u64>,
+    pub(crate) algorithm: Algorithm,
+    pub(crate) uuid: Uuid,
 }
 
 /// A hash device that was made: of how many data blocks, where its tree begins, and its root hash.
 #[derive(Clone, Copy)]
-struct Made {
-    data_blocks: u64,
-    hash_start_block: u64,
-    root: Digest,
+pub(crate) struct Made {
+    pub(crate) data_blocks: u64,
+    pub(crate) hash_start_block: u64,
+    pub(crate) root: Digest,
 }
 
 /// Makes HASH, the hash device of DATA, and prints the table line.
@@ -89,7 +89,7 @@ pub fn format<R: Clock + Eprint + AllocGlobal, S: System, W: Write, E: IsTermina
 }
 
 /// The table line of a device that was made.
-fn made_line(
+pub(crate) fn made_line(
     alloc: Global,
     words: &FormatWords<'_>,
     shape: &Shape,
@@ -113,7 +113,7 @@ fn made_line(
 }
 
 #[tactic(auto, using(crate::proofs::Blaming::of_hash_block_size, crate::proofs::Blaming::of_hash_offset, crate::proofs::Blaming::of_uuid))]
-fn read_shape(words: &FormatWords<'_>) -> Result<Shape, Failure>
+pub(crate) fn read_shape(words: &FormatWords<'_>) -> Result<Shape, Failure>
     ensures asked { IfOk result (IsAsked words.now) }
     ensures blames { IfErr result (Misreads words.now) }
     ensures system { IfErr result (IsS1For ⊥) }
@@ -151,7 +151,7 @@ fn make<R: Clock + Eprint + AllocGlobal, S: System>(
         ⊎ IsShort S.System system.old words.now.data_path.now shape.now)) }
 {
     let params = BuildParameters::new(salt(rt.alloc(), salt_bytes)?, shape.uuid, shape.algorithm);
-    let (data_store, data) = open_data(system, words.data_path, shape)?;
+    let (data_store, data) = open_data(system, words.data_path, shape, Command::Format)?;
     check_gate(system, words.hash_path)?;
     let (hash_store, is_new) = open_hash(system, words.hash_path, shape, data)?;
     let hash_size = hash_store.block_size();
@@ -213,20 +213,21 @@ fn data_blocks(asked: Option<&str>) -> Result<Option<u64>, Failure>
     }
 }
 
-/// A store over all of DATA, or over as many blocks as were asked for, and which file it is.
-fn open_data<S: System>(
+/// A store over all of DATA, or over as many blocks as were asked for, opened and locked for a command, and which file it is.
+pub(crate) fn open_data<S: System>(
     system: &S,
     path: &str,
     shape: &Shape,
+    command: Command,
 ) -> Result<(S::Store, Identity), Fault>
-    ensures opened { IfOk result (λ opened. IsOpenedAsked S.System system.now path.now shape.now opened.0 opened.1) }
+    ensures opened { IfOk result (λ opened. IsOpenedAsked S.System command system.now path.now shape.now opened.0 opened.1) }
     ensures size { IfOk result (λ opened. S.Store.size opened.0 ≡ shape.now.data_block_size) }
-    ensures lies { IfOk result (λ opened. LiesAsked S.System S.Store.BlockStore system.now path.now shape.now opened.0) }
+    ensures lies { IfOk result (λ opened. LiesFor command S.System S.Store.BlockStore system.now path.now shape.now opened.0) }
     ensures system { IfErr result (λ e. e ≡ Fault.Store StoreFault.Device
         → (S.refuses system.now ≡ true) ⊎ IsShort S.System system.now path.now shape.now) }
 {
     check_block_size(shape.data_block_size)?;
-    let data = open_to_read(system, path, Command::Format, Which::Data)?;
+    let data = open_to_read(system, path, command, Which::Data)?;
     let identity = system.identity_of(&data);
     let part = match shape.data_blocks {
         Some(blocks) => Part::First(blocks),

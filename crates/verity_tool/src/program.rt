@@ -16,10 +16,10 @@ use std::rt::Files;
 use std::time::Clock;
 use verity_changes::{edit, scratch};
 use verity_files::{DONE, Failure, Host, NOT_UNDERSTOOD, REFUSED};
-use verity_format::format;
+use verity_format::{format, format_join, format_slice};
 use verity_serving::fail;
 use verity_words::{
-    Request, explain, explain_block_size, explain_corrupt, explain_usage, explain_words, read_words,
+    FormatWords, Request, explain, explain_block_size, explain_corrupt, explain_usage, explain_words, read_words,
 };
 
 /// Does what the words ask for, of which the first is the program's own name, and answers the status that the process
@@ -92,7 +92,7 @@ fn answer<
     match request {
         Request::Scratch => scratch(rt, input, output, errors),
         Request::Format(words) => {
-            format(rt, &mut Host::new(rt), &words, output, errors)?;
+            format_as_asked(rt, &words, input, output, errors)?;
             explain_block_size(words.data_block_size, errors);
             Ok(DONE)
         },
@@ -110,6 +110,27 @@ fn answer<
         Request::Recover(words) => recover(&mut Host::new(rt), &words, output).map(|()| DONE),
         Request::Update(words) => update_anywhere(rt, &words, notes, output, errors),
         Request::Pull(words) => pull_anywhere(rt, &words, notes, output, errors).map(|()| DONE),
+    }
+}
+
+/// Makes a hash device: whole, a slice of it, or all but the slices.
+fn format_as_asked<
+    R: Files<File = File> + Clock + Eprint + AllocGlobal,
+    I: Read,
+    W: Write,
+    E: IsTerminal,
+>(
+    rt: &R,
+    words: &FormatWords<'_>,
+    input: &mut I,
+    output: &mut W,
+    errors: &E,
+) -> Result<(), Failure> {
+    let mut system = Host::new(rt);
+    match words.slice {
+        Some(asked) => format_slice(rt, &mut system, words, asked, output, errors),
+        None if words.is_joined => format_join(rt.alloc(), &mut system, words, input, output),
+        None => format(rt, &mut system, words, output, errors),
     }
 }
 

@@ -1,0 +1,10 @@
+pub mod Splits
+pub mod Uppers
+pub mod Orders
+pub mod Parts
+pub mod Givens
+pub mod Puts
+pub mod Walks
+pub mod Devices
+pub mod Steps
+pub mod Lengths

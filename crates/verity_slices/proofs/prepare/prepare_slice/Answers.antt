@@ -1,0 +1,7 @@
+use Rattle.std.proofs.lemmas.Result.{err_from_is_err_and}
+use Rattle.verity_slices.proofs.prepare.prepare_slice.Goals as goal
+
+pub returns-in_err-geometry-clause-fault : goal.returns-in_err-geometry-clause-fault
+returns-in_err-geometry-clause-fault g c =
+    let p = err_from_is_err_and c.from_residual.result c.from_residual.ensures.1 in
+    rw (p.1, p.2) (c.in_err-geometry.ensures.fault c.args.offset)

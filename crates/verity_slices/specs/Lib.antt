@@ -1,0 +1,11 @@
+pub mod Given
+pub mod Level
+pub mod Leaves
+pub mod Begins
+pub mod Joins
+pub mod Laws
+pub mod Taking
+pub mod Walked
+pub mod Filling
+pub mod Faults
+pub mod Texts
