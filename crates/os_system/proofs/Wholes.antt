@@ -28,7 +28,9 @@ pub lies_there : {F S E : Type 0} {g : Ghosts File} (r : Result S E) (file : S �
     → IfOk r (λ s. file s ≡ There remote.file) → IfOk r (λ s. count s * size ≡ blocks * size)
     → IfOk r (λ s. LiesThere remote part size (count s) (file s))
 lies_there {F = F} {E = E} {g = g} (Ok s) file count remote part size blocks some has is whole =
-    subst (λ (f : Located (VolumeFile File g) F). LiesThere remote part size (count s) f) (sym is)
-    (refl, subst (λ (n : ℕ). HasBlocks part (remote.len / size) n)
-        (sym (counted {E = E} (Ok s) count size blocks (blocks * size) some refl whole)) has)
+    subst (λ (f : Located (VolumeFile File g) F). LiesThere remote part size (count s) f) (sym is) (
+      refl,
+      subst (λ (n : ℕ). HasBlocks part (remote.len / size) n)
+          (sym (counted {E = E} (Ok s) count size blocks (blocks * size) some refl whole)) has,
+    )
 lies_there (Err e) file count remote part size blocks some has is whole = tt

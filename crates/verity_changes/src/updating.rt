@@ -30,12 +30,7 @@ use verity_work::{Words, Work, do_over};
 /// The words are read first, then all three files opened and told apart, what stands in the journal is made whole, the superblock
 /// and NEW's length looked at, the volume opened, and then each block of NEW read. The journal is that of `edit`. Where `errors` is a
 /// terminal, the opening shows how much of DATA was read, and then it is shown how much of NEW was.
-pub fn update<
-    R: Paths + Clock + Eprint + AllocGlobal,
-    S: System,
-    W: Write,
-    E: Write + IsTerminal,
->(
+pub fn update<R: Paths + Clock + Eprint + AllocGlobal, S: System, W: Write, E: Write + IsTerminal>(
     rt: &R,
     sources: &S,
     words: &UpdateWords<'_>,
@@ -53,12 +48,7 @@ pub fn update<
 }
 
 /// Makes it that of NEW where it lies at an offset of HASH.
-fn update_at<
-    R: Paths + Clock + Eprint + AllocGlobal,
-    S: System,
-    W: Write,
-    E: Write + IsTerminal,
->(
+fn update_at<R: Paths + Clock + Eprint + AllocGlobal, S: System, W: Write, E: Write + IsTerminal>(
     rt: &R,
     sources: &S,
     words: &UpdateWords<'_>,

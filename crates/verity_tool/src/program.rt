@@ -19,7 +19,8 @@ use verity_files::{DONE, Failure, Host, NOT_UNDERSTOOD, REFUSED};
 use verity_format::{format, format_join, format_slice};
 use verity_serving::fail;
 use verity_words::{
-    FormatWords, Request, explain, explain_block_size, explain_corrupt, explain_usage, explain_words, read_words,
+    FormatWords, Request, explain, explain_block_size, explain_corrupt, explain_usage,
+    explain_words, read_words,
 };
 
 /// Does what the words ask for, of which the first is the program's own name, and answers the status that the process

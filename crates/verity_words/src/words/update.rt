@@ -1,6 +1,8 @@
 //! The words of `update`.
 
-use super::parts::{DATA, Form, HASH, JOURNAL, Kind, OWN_OFFSET, OWN_TABLE, Parameter, QUIET, TIMEOUT};
+use super::parts::{
+    DATA, Form, HASH, JOURNAL, Kind, OWN_OFFSET, OWN_TABLE, Parameter, QUIET, TIMEOUT,
+};
 use clap::ArgMatches;
 
 /// The command.

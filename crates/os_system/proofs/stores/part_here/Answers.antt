@@ -13,7 +13,7 @@ returns-else-blocks-opened-clause-count g c =
     let is_size : IsBlockSize c.args.size = search rules in
     let low = block_size_low c.args.size is_size in
     λ blocks is. subst (λ (part : Part). HasAsked part blocks) (sym c.in-First.is)
-        (asked c.in-First.blocks c.args.size blocks (omega (arith, low)) is)
+    (asked c.in-First.blocks c.args.size blocks (omega (arith, low)) is)
 
 pub returns-in_ok-len-in-AtMost-clause-len : goal.returns-in_ok-len-in-AtMost-clause-len
 returns-in_ok-len-in-AtMost-clause-len g c =
@@ -23,7 +23,7 @@ returns-in_ok-len-in-AtMost-clause-len g c =
     let paths = c.args.paths.now in
     let size = c.args.size in
     λ more. subst (λ (part : Part). IsRaggedPart part
-            ((len : ℕ) × IsLenOf g.P.Paths paths opened.identity opened.file opened.len len × (len % size ≢ 0)))
-        (sym c.in-AtMost.is)
-        (ragged g.P.Paths paths opened.identity opened.file (min c.in-AtMost.blocks (opened.len / size)) opened.len size
-            (omega (arith, low)) (c.in_ok-len-in-AtMost.len, c.in_ok-len-in-AtMost.ensures.len, more))
+    ((len : ℕ) × IsLenOf g.P.Paths paths opened.identity opened.file opened.len len × (len % size ≢ 0)))
+    (sym c.in-AtMost.is)
+    (ragged g.P.Paths paths opened.identity opened.file (min c.in-AtMost.blocks (opened.len / size)) opened.len size
+    (omega (arith, low)) (c.in_ok-len-in-AtMost.len, c.in_ok-len-in-AtMost.ensures.len, more))

@@ -12,13 +12,13 @@ loop-from-preserved c =
     let from = c.loop-from.from in
     let to = c.end_of_line-to.result in
     let here : IsLine text from to = record {
-          order = c.end_of_line-to.ensures.order;
-          within = c.end_of_line-to.ensures.within;
-          begins = λ some. c.loop-from.invariant.begins some (omega (arith, c.loop-from-test.true));
-          ends = c.end_of_line-to.ensures.ends;
-        } in
+      order = c.end_of_line-to.ensures.order;
+      within = c.end_of_line-to.ensures.within;
+      begins = λ some. c.loop-from.invariant.begins some (omega (arith, c.loop-from-test.true));
+      ends = c.end_of_line-to.ensures.ends;
+    } in
     let next : 0 < to + 1 → to + 1 ≤ length text → slice_index text (to + 1 - 1) ≡ 10 =
-      λ some within. subst (λ (n : ℕ). slice_index text n ≡ 10) (omega arith) (c.end_of_line-to.ensures.ends (omega (arith, within))) in
+    λ some within. subst (λ (n : ℕ). slice_index text n ≡ 10) (omega arith) (c.end_of_line-to.ensures.ends (omega (arith, within))) in
     elim c.match-run_in.branch [
       | in-Some+in_ok-push w ↦
           let items : c.match-run_in.runs.items ≡ c.loop-from.runs.items ++ (w.in-Some.run' ∷ []) = search rules in

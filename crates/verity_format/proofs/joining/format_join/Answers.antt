@@ -22,8 +22,8 @@ returns g c =
     let line_is = c.in_ok-line.ensures.text in
     let same : c.deref-2.result.now ≡ salt = c.deref-2.ensures.value ∙ sym c.deref-3.ensures.value in
     let printed : Appends (g.W.Write.contents c.args.output.now) (g.W.Write.contents c.writeln.new.self) (line (canonical table)) =
-      subst (λ text. Appends (g.W.Write.contents c.args.output.now) (g.W.Write.contents c.writeln.new.self) (line text)) line_is.1
-      (search rules) in
+    subst (λ text. Appends (g.W.Write.contents c.args.output.now) (g.W.Write.contents c.writeln.new.self) (line text)) line_is.1
+    (search rules) in
     record {
       printed = record {
         shape = shape;

@@ -17,7 +17,7 @@ returns g c =
     record {
       made = slice_moved g.S.Store.BlockStore _ _ _ _ _ _ _ _ _
           (λ s is. subst (LiesFor commands.Slice g.S.System g.S.Store.BlockStore c.args.system.now c.args.words.now.data_path.now shape)
-              (sym is) c.in_ok-data_store.ensures.lies)
+          (sym is) c.in_ok-data_store.ensures.lies)
           (λ s s' both. record {
             between = c.open_beside.new.system;
             opened = opened.opened;
