@@ -12,11 +12,13 @@
 
 mod failing;
 mod serving;
+mod slicing;
 mod talking;
 mod verifying;
 
 pub use failing::fail;
 pub use serving::{serve, serve_on};
+pub use slicing::verify_slice;
 pub use talking::talk;
 pub use verifying::verify;
 pub use verity_hub::{CountedReader, CountedWriter};

@@ -70,7 +70,7 @@ fn report_of<R: Clock + Eprint + AllocGlobal, S: System, E: IsTerminal>(
 }
 
 /// Checks each block of a volume.
-fn checked<D: BlockStore + Drop, H: BlockStore + Drop>(
+pub(crate) fn checked<D: BlockStore + Drop, H: BlockStore + Drop>(
     alloc: Global,
     table: Table,
     data_store: D,
@@ -86,7 +86,7 @@ fn checked<D: BlockStore + Drop, H: BlockStore + Drop>(
 }
 
 /// Prints a report. The status is 0 where it names no block, 1 where it does.
-fn print_report<W: Write>(report: &Report, output: &mut W) -> Result<u8, Failure>
+pub(crate) fn print_report<W: Write>(report: &Report, output: &mut W) -> Result<u8, Failure>
     ensures printed { OnOk result (Appends (W.contents output.old) (W.contents output.new)
         (report_lines report.now.faults report.now.unchecked)) }
     ensures status { IfOk result (λ status. (status ≡ 0) ↔ (report.now.faults ≡ [])) }

@@ -10,7 +10,7 @@ use std::net::{Net, TcpListener, TcpStream};
 use std::rt::Files;
 use std::time::Clock;
 use verity_files::Failure;
-use verity_serving::{CountedReader, CountedWriter, serve, talk, verify};
+use verity_serving::{CountedReader, CountedWriter, serve, talk, verify, verify_slice};
 use verity_words::{PullWords, ServeWords, TalkWords, VerifyWords};
 
 /// `verify` over the real system.
@@ -26,13 +26,11 @@ pub fn verify_anywhere<
     errors: &E,
 ) -> Result<u8, Failure> {
     let network = Network::new(rt, patience(words.timeout)?);
-    verify(
-        rt,
-        &OsSystem::new(rt, &network, notes),
-        words,
-        output,
-        errors,
-    )
+    let system = OsSystem::new(rt, &network, notes);
+    match words.slice {
+        Some(asked) => verify_slice(rt, &system, words, asked, output, errors),
+        None => verify(rt, &system, words, output, errors),
+    }
 }
 
 /// `serve` over the real system, which clients reach by the network of `rt`, and it its devices by that of `net`.
