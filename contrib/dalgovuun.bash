@@ -17,7 +17,7 @@ _dalgovuun() {
     update) options='--hash-offset --table --journal --timeout --quiet --help' ;;
     pull) options='--to --table --uuid --hash-offset --timeout --quiet --help' ;;
     recover) options='--journal --help' ;;
-    verify) options='--table --timeout --quiet --help' ;;
+    verify) options='--table --slice --timeout --quiet --help' ;;
     serve) options='--table --listen --name --cache --sessions --memory --idle --timeout --help' ;;
     talk) options='--table --name --cache --timeout --help' ;;
     *) options= ;;

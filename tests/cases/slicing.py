@@ -1,4 +1,4 @@
-"""`format --slice` and `format --join`: the blocks of level 0, the table line, and what is refused."""
+"""`format --slice` and `format --join`: the blocks of level 0, the table line, and what is refused; and `verify --slice`."""
 from cases.case import UUID, Case, image
 from cases.formatting import LARGEST, TOO_LARGE, words
 from verity import Volume
@@ -104,6 +104,39 @@ def refused():
     yield Case("slice: a ragged HASH", words("--slice", "1/2"), "refused S2\n", 1, {"data": slices.data, "hash": bytes(700)})
 
 
+def verified():
+    """A volume of 40 data blocks, 3 hash blocks of level 0 and one of level 1: its three slices have 13, 13 and 14 data blocks."""
+    slices = Slices(Volume(40, **PLAIN), 3)
+    line = slices.volume.line(slices.data)
+    top, second = slices.volume.start, slices.first + 1
+
+    def case(name, asked, lines, data=None, hashes=None):
+        files = {"data": slices.data if data is None else data, "hash": slices.device if hashes is None else hashes}
+        return Case(f"verify --slice: {name}, {asked}", ["verify", "--table", line, "--slice", asked],
+                    "".join(text + "\n" for text in lines), 0 if lines[-1] == "verified" else 1, files)
+
+    def altered(bytes_, block):
+        return bytes_[:512 * block] + bytes([bytes_[512 * block] ^ 1]) + bytes_[512 * block + 1:]
+
+    right = ["unchecked 0", "verified"]
+    for asked in ("1/1", "1/3", "2/3", "3/3", "1/65536", "65536/65536", "02/003"):
+        yield case("sound", asked, right)
+    for index, lines in ((1, right), (2, ["bad data 20", "unchecked 0", "corrupt"]), (3, right)):
+        yield case("a bad data block", f"{index}/3", lines, data=altered(slices.data, 20))
+    for index, unchecked in ((1, None), (2, 10), (3, 6)):
+        lines = right if unchecked is None else ["bad level 0 index 1", f"unchecked {unchecked}", "corrupt"]
+        yield case("a bad block of level 0", f"{index}/3", lines, hashes=altered(slices.device, second))
+    for index, unchecked in ((1, 14), (2, 15), (3, 16)):
+        yield case("a bad top", f"{index}/3", ["bad level 1 index 0", f"unchecked {unchecked}", "corrupt"],
+                   hashes=altered(slices.device, top))
+    yield case("no block of it below a bad one", "1/65536", right, hashes=altered(slices.device, top))
+    short = {"data": slices.data[:-512], "hash": slices.device}
+    yield Case("verify --slice: a short DATA", ["verify", "--table", line, "--slice", "1/3"], "refused V1\n", 1, short)
+    yield Case("verify --slice: no HASH", ["verify", "--table", line, "--slice", "1/3"], "refused S1\n", 1, {"data": slices.data})
+    for text in ("", "1", "0/1", "2/1", "1/65537", "1/2/3"):
+        yield Case(f"verify --slice: {text!r}", ["verify", "--table", line, f"--slice={text}"], MISREAD, 2, errors=[WANTED])
+
+
 def values():
     data = {"data": image(2)}
     for text in ("", "1", "1/", "/1", "0/1", "2/1", "1/0", "a/b", "1/65537", "-1/2", "+1/2", "1/2/3", "1 /2", f"1/{LARGEST}",
@@ -115,5 +148,5 @@ def values():
 
 
 def cases():
-    for table in (made, joined, refused, values):
+    for table in (made, joined, refused, verified, values):
         yield from table()

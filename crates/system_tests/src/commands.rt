@@ -6,7 +6,7 @@ use std::test::Fail;
 use test_volumes::{device, flip, image};
 use verity_files::Failure;
 use verity_format::format;
-use verity_serving::verify;
+use verity_serving::{verify, verify_slice};
 use verity_words::{FormatWords, VerifyWords};
 
 fn words(data_blocks: Option<&'static str>) -> FormatWords<'static> {
@@ -43,10 +43,30 @@ fn verified(rt: &HostRuntime, system: &MemSystem, line: &[u8]) -> (Vec<u8>, Resu
     let table = str::from_utf8(line).unwrap_or("").trim_end();
     let words = VerifyWords {
         table,
+        slice: None,
         timeout: "30",
         is_quiet: true,
     };
     let status = verify(rt, system, &words, &mut output, &rt.stderr());
+    (output, status)
+}
+
+// What `verify --slice` prints under such a line, and its status.
+fn verified_slice(
+    rt: &HostRuntime,
+    system: &MemSystem,
+    line: &[u8],
+    asked: &str,
+) -> (Vec<u8>, Result<u8, Failure>) {
+    let mut output = Vec::new(rt.alloc());
+    let table = str::from_utf8(line).unwrap_or("").trim_end();
+    let words = VerifyWords {
+        table,
+        slice: Some(asked),
+        timeout: "30",
+        is_quiet: true,
+    };
+    let status = verify_slice(rt, system, &words, asked, &mut output, &rt.stderr());
     (output, status)
 }
 
@@ -83,6 +103,21 @@ fn verify_finds_a_block_that_changed(rt: HostRuntime) -> Result<(), Fail> {
     let (output, status) = verified(&rt, &system, &line);
     assert!(rt; matches!(status, Ok(1)));
     assert!(rt; output.as_slice() == b"bad data 3\nunchecked 0\ncorrupt\n".as_slice());
+    Ok(())
+}
+
+#[test]
+fn a_slice_finds_what_changed_in_it_alone(rt: HostRuntime) -> Result<(), Fail> {
+    let alloc = rt.alloc();
+    let mut system = MemSystem::new(alloc, image(alloc, 17)?, 0);
+    let (line, _) = formatted(&rt, &mut system, None);
+    flip(&mut system.image, 3 * 512);
+    let (output, status) = verified_slice(&rt, &system, &line, "1/2");
+    assert!(rt; matches!(status, Ok(1)));
+    assert!(rt; output.as_slice() == b"bad data 3\nunchecked 0\ncorrupt\n".as_slice());
+    let (output, status) = verified_slice(&rt, &system, &line, "2/2");
+    assert!(rt; matches!(status, Ok(0)));
+    assert!(rt; output.as_slice() == b"unchecked 0\nverified\n".as_slice());
     Ok(())
 }
 

@@ -28,7 +28,7 @@ EditBlames facts p words _ = ⊤
 abbrev pub IsTaken : {S F D J : Type 0} → system.Ghosts S F D J → S → List ℕ → (Identity → Type 0) → Type 0
 IsTaken facts s path is_taken = (opened : _) × facts.opens s path opened × is_taken (facts.identity opened)
 
--- the system of NEW refused a call, or a store over it failed one
+-- the system of NEW refused a call, or a store of that system failed one
 abbrev pub NewFails : {S F D J : Type 0} → system.Ghosts S F D J → store.Ghosts D → S → Type 0
 NewFails facts stores s = (facts.refuses s ≡ true) ⊎ ((after : _) × (0 < stores.failures after))
 

@@ -1,16 +1,10 @@
--- Which slice is asked for, and which runs are told.
+-- Which runs are told.
 use Rattle.std.specs.Prelude.{◌≡◌, ℕ, ◌-◌, ◌<◌, ◌≤◌, List, ◌∷◌, ◌++◌, length, slice_index, slice_range, codes, Ok}
 use Rattle.std.specs.Fmt.{decimal}
-use Rattle.verity_slice.specs.Slices.{Sliced}
 use Rattle.verity_slice.specs.declared.run.Run.{Run}
 use Rattle.verity_files.specs.Faults.{line}
 use Rattle.verity_files.specs.Words.{number_in}
 use Rattle.verity_files.specs.declared.failure.Word.TheVariants as word
-
--- K/N, in decimal digits
-abbrev pub NamesSlice : List ℕ → Sliced → Type 0
-NamesSlice text slice = (index : List ℕ) × (count : List ℕ) × (text ≡ index ++ (47 ∷ count))
-    × (number_in word.Slice index ≡ Ok slice.index) × (number_in word.Slice count ≡ Ok slice.count)
 
 -- `slice A B`, in decimal digits
 abbrev pub NamesRun : List ℕ → Run → Type 0

@@ -22,7 +22,8 @@ use Rattle.verity_files.specs.declared.command.Command.{Command}
 use Rattle.verity_files.specs.declared.part.Part.TheVariants.{AtMost}
 use Rattle.verity_files.specs.declared.system.System.{Ghosts}
 use Rattle.verity_words.specs.declared.words.format.FormatWords.{FormatWords}
-use Rattle.verity_format.specs.Asked.{NamesSlice, Tells, run_line}
+use Rattle.verity_words.specs.Slices.{NamesSlice}
+use Rattle.verity_format.specs.Asked.{Tells, run_line}
 use Rattle.verity_format.specs.Formatting.{IsAsked, line_made}
 use Rattle.verity_format.specs.declared.formatting.Made.{Made}
 use Rattle.verity_format.specs.declared.formatting.Shape.{Shape}

@@ -1,37 +1,13 @@
-//! Which slice is asked for, and the runs that slices printed.
-ghost use Rattle.std.specs.Prelude.{◌≡◌, ◌++◌, ◌∷◌, ◌<◌, ◌≤◌, ℕ, length, slice_index, slice_range, Contains, IfOk, IfErr, IfSome};
-ghost use Rattle.verity_files.specs.declared.failure.Word.TheVariants as word;
+//! The runs that slices printed.
+ghost use Rattle.std.specs.Prelude.{◌≡◌, ◌++◌, ◌∷◌, ◌<◌, ◌≤◌, ℕ, length, slice_index, slice_range, Contains, IfOk, IfSome};
 ghost use Rattle.verity_slice.specs.declared.run.Run.{Run};
-ghost use Rattle.verity_format.specs.Asked.{IsLine, NamesRun, NamesSlice, Tells};
+ghost use Rattle.verity_format.specs.Asked.{IsLine, NamesRun, Tells};
 
 use std::alloc::{AllocError, Global};
 use std::str;
-use verity_files::{Failure, Word, number};
-use verity_slice::{Run, Slice};
-
-/// The slice that a text names, `K/N`: K from 1 to N, and N at most 65,536.
-pub(crate) fn slice(text: &str) -> Result<Slice, Failure>
-    ensures named { IfOk result (NamesSlice text.now) }
-    ensures blames { IfErr result (λ e. e ≡ Failure.Word word.Slice) }
-{
-    let Some((index, count)) = around(text, '/') else {
-        return Err(Failure::Word(Word::Slice));
-    };
-    let index = number(Word::Slice, index)?;
-    let count = number(Word::Slice, count)?;
-    match Slice::new(index, count) {
-        Some(slice) => Ok(slice),
-        None => Err(Failure::Word(Word::Slice)),
-    }
-}
-
-/// What stands on both sides of the first mark, an ASCII character.
-fn around(text: &str, mark: char) -> Option<(&str, &str)>
-    requires { mark < 128 }
-    ensures { IfSome result (λ parts. text.now ≡ parts.0.now ++ (mark ∷ parts.1.now)) }
-{
-    text.split_once(mark)
-}
+use verity_files::{Word, number};
+use verity_slice::Run;
+use verity_words::around;
 
 /// The runs that lines name. Other lines are passed over.
 pub(crate) fn runs_in(alloc: Global, text: &[u8]) -> Result<Vec<Run>, AllocError>

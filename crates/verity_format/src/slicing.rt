@@ -7,7 +7,6 @@ ghost use Rattle.verity_format.specs.Made.{LiesFor};
 ghost use Rattle.verity_format.specs.Opening.{IsOpenedBeside};
 ghost use Rattle.verity_format.specs.Sliced.{asked_for, IsLeftBy, IsSliceMade, IsSliced};
 
-use crate::asked::slice;
 use crate::formatting::{Shape, open_data, read_shape};
 use std::io::{Eprint, IsTerminal, Write};
 use std::time::Clock;
@@ -22,7 +21,7 @@ use verity_slices::build_slice;
 use verity_store::{BlockStore, Which};
 use verity_volume::{end_progress, is_watched, progress_of};
 use verity_watch::Watched;
-use verity_words::FormatWords;
+use verity_words::{FormatWords, slice};
 
 /// Makes the blocks of level 0 of one slice of HASH, the hash device of DATA, and prints which they are: `slice A B`.
 ///

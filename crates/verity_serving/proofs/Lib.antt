@@ -2,3 +2,4 @@ mod Blaming
 mod Refusing
 mod Reporting
 mod Talks
+mod SliceReporting

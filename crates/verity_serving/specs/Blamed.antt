@@ -22,3 +22,9 @@ abbrev pub TalkBlames : TalkWords → Failure → Type 0
 TalkBlames words (failure.Word word.Cache) = IsMisread word.Cache words.cache.now
 TalkBlames words (failure.Word _) = ⊥
 TalkBlames words _ = ⊤
+
+-- `verify --slice`
+abbrev pub SliceBlames : Failure → Type 0
+SliceBlames (failure.Word word.Slice) = ⊤
+SliceBlames (failure.Word _) = ⊥
+SliceBlames _ = ⊤

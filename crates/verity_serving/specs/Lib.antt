@@ -1,3 +1,4 @@
 pub mod Blamed
 pub mod Printed
 pub mod Serving
+pub mod Sliced

@@ -6,17 +6,20 @@
 //! `talk` reads and says, clauses say, over an input and an output whose bytes are known, and that `talk` leaves its client for a failed
 //! read or write where one failed, and nowhere else; all else that is printed and refused is shown by tests.
 //!
-//! The definitions stand in `specs/`: `Printed` (what `verify` and `serve` print), `Serving` (what `talk` serves), `Blamed` (which words
+//! The definitions stand in `specs/`: `Printed` (what `verify` and `serve` print), `Sliced` (what
+//! `verify --slice` prints), `Serving` (what `talk` serves), `Blamed` (which words
 //! a command blames).
 #![tactic(auto)]
 
 mod failing;
 mod serving;
+mod slicing;
 mod talking;
 mod verifying;
 
 pub use failing::fail;
 pub use serving::{serve, serve_on};
+pub use slicing::verify_slice;
 pub use talking::talk;
 pub use verifying::verify;
 pub use verity_hub::{CountedReader, CountedWriter};

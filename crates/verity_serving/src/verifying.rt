@@ -86,7 +86,7 @@ fn checked<D: BlockStore + Drop, H: BlockStore + Drop>(
 }
 
 /// Prints a report. The status is 0 where it names no block, 1 where it does.
-fn print_report<W: Write>(report: &Report, output: &mut W) -> Result<u8, Failure>
+pub(crate) fn print_report<W: Write>(report: &Report, output: &mut W) -> Result<u8, Failure>
     ensures printed { OnOk result (Appends (W.contents output.old) (W.contents output.new)
         (report_lines report.now.faults report.now.unchecked)) }
     ensures status { IfOk result (λ status. (status ≡ 0) ↔ (report.now.faults ≡ [])) }

@@ -11,7 +11,7 @@ use std::rt::Files;
 use std::time::Clock;
 use verity_changes::update;
 use verity_files::Failure;
-use verity_serving::{CountedReader, CountedWriter, serve, talk, verify};
+use verity_serving::{CountedReader, CountedWriter, serve, talk, verify, verify_slice};
 use verity_words::{PullWords, ServeWords, TalkWords, UpdateWords, VerifyWords};
 
 /// `verify` over the real system.
@@ -36,7 +36,31 @@ pub fn verify_anywhere<
     )
 }
 
-/// `serve` over the real system, which clients reach by the network of `rt`, and it its devices by that of `net`.
+/// `verify --slice` over the real system.
+pub fn verify_slice_anywhere<
+    R: Files<File = File> + Net + Clock + Eprint + AllocGlobal,
+    W: Write,
+    E: IsTerminal,
+>(
+    rt: &R,
+    words: &VerifyWords<'_>,
+    asked: &str,
+    notes: &Notes,
+    output: &mut W,
+    errors: &E,
+) -> Result<u8, Failure> {
+    let network = Network::new(rt, patience(words.timeout)?);
+    verify_slice(
+        rt,
+        &OsSystem::new(rt, &network, notes),
+        words,
+        asked,
+        output,
+        errors,
+    )
+}
+
+/// `serve` over the real system: clients come by the network of `rt`, and devices at servers are reached by that of `net`.
 pub fn serve_anywhere<
     N: Files<File = File> + Net + Clock + AllocGlobal,
     R: Files<File = File> + Net<Stream = TcpStream, Listener = TcpListener> + Clock + AllocGlobal,

@@ -2,6 +2,7 @@
 
 use crate::anywhere::{
     pull_anywhere, serve_anywhere, talk_anywhere, update_anywhere, verify_anywhere,
+    verify_slice_anywhere,
 };
 use crate::told::Told;
 use clap::Error;
@@ -99,7 +100,10 @@ fn answer<
         },
         Request::Dump(words) => dump(&Host::new(rt), &words, output).map(|()| DONE),
         Request::Edit(words) => edit(rt, &words, output, errors),
-        Request::Verify(words) => verify_anywhere(rt, &words, notes, output, errors),
+        Request::Verify(words) => match words.slice {
+            Some(asked) => verify_slice_anywhere(rt, &words, asked, notes, output, errors),
+            None => verify_anywhere(rt, &words, notes, output, errors),
+        },
         Request::Serve(words) => serve_anywhere(
             rt,
             rt,

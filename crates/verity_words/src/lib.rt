@@ -7,6 +7,7 @@ mod looking;
 mod parts;
 mod pulling;
 mod serving;
+mod slicing;
 mod words;
 
 pub use explaining::{
@@ -14,6 +15,7 @@ pub use explaining::{
     explain_recovered, explain_unused_line, explain_usage, explain_words,
 };
 pub use serving::explain_served;
+pub use slicing::{around, slice};
 pub use words::{
     DumpWords, EditWords, FormatWords, PullWords, RecoverWords, Request, ServeWords, TalkWords,
     UpdateWords, VerifyWords, read_words,

@@ -1,6 +1,6 @@
 //! The words of `verify`.
 
-use super::parts::{Form, QUIET, TABLE, TIMEOUT};
+use super::parts::{Form, Kind, Parameter, QUIET, TABLE, TIMEOUT};
 use clap::ArgMatches;
 
 /// The command.
@@ -9,13 +9,23 @@ pub const FORM: Form<'static> = Form {
     about: "Reports what is wrong in a volume",
     example: "Example:
   dalgovuun verify --table \"$(cat image.table)\"",
-    parameters: &[TABLE, TIMEOUT, QUIET],
+    parameters: &[
+        TABLE,
+        Parameter {
+            name: "slice",
+            help: "Reports the K-th of N slices of the data blocks, and the hash blocks above it",
+            kind: Kind::Optional("K/N"),
+        },
+        TIMEOUT,
+        QUIET,
+    ],
 };
 
 /// The words of `verify`.
 #[derive(Clone, Copy, Debug)]
 pub struct VerifyWords<'a> {
     pub table: &'a str,
+    pub slice: Option<&'a str>,
     pub timeout: &'a str,
     pub is_quiet: bool,
 }
@@ -23,6 +33,7 @@ pub struct VerifyWords<'a> {
 pub fn verify_words<'a>(matches: &ArgMatches<'a>) -> Option<VerifyWords<'a>> {
     Some(VerifyWords {
         table: matches.get_str("table")?,
+        slice: matches.get_str("slice"),
         timeout: matches.get_str("timeout")?,
         is_quiet: matches.get_flag("quiet"),
     })

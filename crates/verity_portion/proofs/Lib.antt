@@ -1,0 +1,2 @@
+pub mod PastLaws
+pub mod PortionLemmas

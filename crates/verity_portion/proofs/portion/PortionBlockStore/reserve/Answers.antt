@@ -1,0 +1,10 @@
+use Rattle.verity_portion.proofs.PortionLemmas.{portion_kept}
+use Rattle.verity_portion.proofs.portion.PortionBlockStore.reserve.Goals as goal
+
+pub invariant_of-self : goal.invariant_of-self
+invariant_of-self g c =
+    let e = c.reserve.ensures in
+    let i = c.self.inside in
+    portion_kept g.S.BlockStore
+    (record { store = i.store; runs = i.runs.items; given = i.given.blocks; asked = i.asked.steps; past = i.past.rows })
+    c.reserve.new.self c.self.invariant e.tells e.fixed e.given e.reads e.changes e.content

@@ -1,0 +1,3 @@
+pub mod Sliced
+pub mod Runs
+pub mod Verified
