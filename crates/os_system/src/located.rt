@@ -2,6 +2,7 @@
 
 ghost use Rattle.std.specs.Prelude.{◌≡◌, None};
 
+use read_ahead::Prefetch;
 use std::fs::File;
 use std::io::{self, ErrorKind};
 use verity_files::VolumeFile;
@@ -68,6 +69,16 @@ impl<F: RawFile> RawFile for Located<VolumeFile<File>, F> {
         match self {
             Located::Here(file) => file.sync(),
             Located::There(_) => Ok(()),
+        }
+    }
+}
+
+// A file here isn't asked for anything.
+impl<F: Prefetch> Prefetch for Located<VolumeFile<File>, F> {
+    fn prefetch(&mut self, at: u64, count: usize) {
+        match self {
+            Located::Here(_) => {}
+            Located::There(file) => file.prefetch(at, count),
         }
     }
 }

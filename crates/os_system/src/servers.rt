@@ -3,17 +3,17 @@
 ghost use Rattle.std.specs.Prelude.{◌≡◌, ℕ, IfOk};
 ghost use Rattle.remote_url.specs.declared.source.Source.{Source};
 
+use read_ahead::Prefetch;
 use remote_file::Patience;
 use remote_origin::{Origin, OriginFault, open_remote};
 use remote_url::Source;
 use std::net::Net;
 use std::time::Clock;
-use verity_store::RawFile;
 
 /// Servers that are reached by URLs.
 pub trait Servers {
     /// What lies at one.
-    type File: RawFile + Drop;
+    type File: Prefetch + Drop;
 
     /// This was opened where a source says, and had so many bytes.
     ghost reaches: { Self → Source → Self.File → ℕ → Type 0 };

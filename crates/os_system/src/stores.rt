@@ -7,7 +7,7 @@ ghost use Rattle.verity_files.specs.Parts.{HasAsked, HasFewer, IsRaggedPart, Lie
 ghost use Rattle.os_system.specs.Located.{HasBlocks, LiesHere, LiesThere};
 
 use crate::located::{Located, Remote};
-use read_ahead::Ahead;
+use read_ahead::{Ahead, Prefetch};
 use std::alloc::Global;
 use std::fs::File;
 use verity_files::{
@@ -23,7 +23,7 @@ const WINDOW: usize = 4 << 20;
 pub type Lying<F> = Ahead<Located<VolumeFile<File>, F>>;
 
 /// A store over a part of a file here.
-pub fn store_here<P: Paths, F: RawFile + Drop>(
+pub fn store_here<P: Paths, F: Prefetch + Drop>(
     paths: &P,
     alloc: Global,
     opened: Opened,
@@ -80,7 +80,7 @@ fn part_here<P: Paths>(
 }
 
 /// A store over a part of a file at a server. One whose length is no multiple of `size` is refused, S2.
-pub fn store_there<F: RawFile + Drop>(
+pub fn store_there<F: Prefetch + Drop>(
     alloc: Global,
     remote: Remote<F>,
     part: Part,
@@ -119,7 +119,7 @@ fn blocks_there(len: u64, part: Part, size: usize) -> Result<u64, StoreFault>
 }
 
 /// A store over so many bytes, which are read ahead by at most so many at a time.
-fn store_over<F: RawFile + Drop>(
+fn store_over<F: Prefetch + Drop>(
     alloc: Global,
     file: Located<VolumeFile<File>, F>,
     len: u64,

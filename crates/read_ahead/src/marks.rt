@@ -29,6 +29,8 @@ pub struct Marks {
     ends: [u64; WINDOWS],
     /// How many reads there were.
     turn: u64,
+    /// Whose window was fetched last, where no other read went to the file since.
+    fetched: Option<usize>,
 }
 
 impl Marks {
@@ -43,6 +45,7 @@ impl Marks {
             marks: [mark; WINDOWS],
             ends: [0; WINDOWS],
             turn: 0,
+            fetched: None,
         }
     }
 
@@ -76,16 +79,31 @@ impl Marks {
 
     /// How far the next window of a reader reaches: twice as far as the last one, at most this far.
     pub fn reach(&mut self, index: usize, most: usize) -> usize {
-        let Some(mark) = self.marks.get_mut(index) else {
-            return 0;
-        };
-        let reach = mark.reach.max(FIRST_REACH).min(most);
-        mark.reach = reach.saturating_mul(2);
+        let reach = self.next_reach(index, most);
+        if let Some(mark) = self.marks.get_mut(index) {
+            mark.reach = reach.saturating_mul(2);
+        }
         reach
+    }
+
+    /// The same without taking it.
+    pub fn next_reach(&self, index: usize, most: usize) -> usize {
+        match self.marks.get(index) {
+            Some(mark) => mark.reach.max(FIRST_REACH).min(most),
+            None => 0,
+        }
+    }
+
+    /// A reader fetched a window; whether the last read of the file was one of its windows too.
+    pub fn fetched_by(&mut self, index: usize) -> bool {
+        let is_again = self.fetched == Some(index);
+        self.fetched = Some(index);
+        is_again
     }
 
     /// The window of a reader couldn't be fetched: it begins with the first reach again.
     pub fn begin_again(&mut self, index: usize) {
+        self.fetched = None;
         if let Some(mark) = self.marks.get_mut(index) {
             mark.reach = 0;
         }
@@ -104,6 +122,7 @@ impl Marks {
     /// A read that follows none ended here.
     pub fn read_elsewhere(&mut self, next: u64) {
         self.turn = self.turn.saturating_add(1);
+        self.fetched = None;
         let index = (self.turn % WINDOWS as u64) as usize;
         if let Some(end) = self.ends.get_mut(index) {
             *end = next;

@@ -44,14 +44,13 @@ impl Window {
         out.copy_from_slice(&self.bytes[from..from + out.len()]);
     }
 
-    /// Empties it, and reads so many bytes from an offset on into it; whether it has them now, or is empty.
+    /// Reads so many bytes from an offset on into it, over those that it had; whether it has them now, or is empty.
     pub fn fill<F: RawFile>(&mut self, file: &mut F, at: u64, count: usize) -> bool
         ensures held { IsHeld (F.bytes file.old) self.new }
         ensures bytes { F.bytes file.new ≡ F.bytes file.old }
         ensures same { F.may_refuse file.new ≡ F.may_refuse file.old }
     {
         self.start = at;
-        self.bytes.clear();
         if self.bytes.resize(count, 0).is_err() {
             self.bytes.clear();
             return false;

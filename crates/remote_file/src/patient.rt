@@ -8,6 +8,7 @@ ghost use Rattle.remote_file.specs.Waiting.{may_ask};
 use crate::patience::Patience;
 use crate::rest::Rest;
 use crate::source::{Miss, Source};
+use read_ahead::Prefetch;
 use std::io::{self, ErrorKind};
 use std::time::Duration;
 use verity_store::RawFile;
@@ -58,6 +59,19 @@ impl<S: Source> Patient<S> {
             return Err(io::Error::from(ErrorKind::TimedOut));
         }
         self.read_twice(at, out)
+    }
+
+    /// Asks for a range at this time, unless the server rests.
+    fn prefetch_when(&mut self, now: Duration, at: u64, count: usize)
+        requires some { 0 < count }
+        requires fits { at + count ≤ 2 ^ 64 }
+        ensures bytes { S.bytes self.new.source ≡ S.bytes self.old.source }
+        ensures rests { may_ask self.old.rest (as_nanos now) ≡ false → S.asks self.new.source ≡ S.asks self.old.source }
+        ensures tries { S.asks self.new.source ≤ S.asks self.old.source + 1 }
+    {
+        if self.rest.may_ask(now) {
+            self.source.prefetch(at, count, self.patience);
+        }
     }
 
     /// Reads, and once more where that fails.
@@ -121,5 +135,13 @@ impl<S: Source> RawFile for Patient<S> {
 
     fn sync(&mut self) -> io::Result<()> {
         Ok(())
+    }
+}
+
+impl<S: Source> Prefetch for Patient<S> {
+    fn prefetch(&mut self, at: u64, count: usize) {
+        if let Ok(now) = self.source.now() {
+            self.prefetch_when(now, at, count);
+        }
     }
 }

@@ -38,4 +38,13 @@ pub trait Source {
         ensures given { OnOk result (Reads (bytes self.old) at out.new) }
         ensures bytes { bytes self.new ≡ bytes self.old }
         ensures counted { asks self.new ≤ asks self.old + 1 };
+
+    /// Asks for so many bytes from offset `at` on, which a read of just these takes later, and doesn't wait for them; or does nothing, as
+    /// where no connection is kept.
+    fn prefetch(&mut self, _at: u64, _count: usize, _patience: Patience)
+        requires some { 0 < _count }
+        requires fits { _at + _count ≤ 2 ^ 64 }
+        ensures bytes { bytes self.new ≡ bytes self.old }
+        ensures counted { asks self.new ≤ asks self.old + 1 }
+    {}
 }

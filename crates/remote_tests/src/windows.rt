@@ -1,6 +1,6 @@
 //! Reads ahead of a file that counts them, and has a byte that can't be read.
 
-use read_ahead::Ahead;
+use read_ahead::{Ahead, Prefetch};
 use std::alloc::{AllocError, Global};
 use std::cell::Cell;
 use std::io::{self, ErrorKind};
@@ -14,6 +14,17 @@ const LEN: u64 = 1 << 20;
 struct Far<'a> {
     bad: u64,
     reads: &'a Cell<u64>,
+    /// How often a range was asked for ahead, which one was the last, and how often just that one was read next.
+    asked: &'a Cell<u64>,
+    last: Cell<(u64, usize)>,
+    taken: &'a Cell<u64>,
+}
+
+impl Prefetch for Far<'_> {
+    fn prefetch(&mut self, at: u64, count: usize) {
+        self.asked.set(self.asked.get().saturating_add(1));
+        self.last.set((at, count));
+    }
 }
 
 impl RawFile for Far<'_> {
@@ -23,6 +34,10 @@ impl RawFile for Far<'_> {
 
     fn read_exact_at(&mut self, at: u64, out: &mut [u8]) -> io::Result<()> {
         self.reads.set(self.reads.get().saturating_add(1));
+        if self.last.get() == (at, out.len()) {
+            self.taken.set(self.taken.get().saturating_add(1));
+        }
+        self.last.set((at, 0));
         if at <= self.bad && self.bad - at < out.len() as u64 {
             return Err(io::Error::from(ErrorKind::Other));
         }
@@ -45,23 +60,36 @@ impl RawFile for Far<'_> {
     }
 }
 
-/// What came of reads ahead: how many failed, how many gave other bytes, and how many reads of the file below there were.
+/// What came of reads ahead: how many failed, how many gave other bytes, how many reads of the file below there were, how many ranges were
+/// asked for ahead, and how many of these were read next.
 #[derive(Clone, Copy, Debug, PartialEq, Eq)]
 struct Outcome {
     failed: u64,
     wrong: u64,
     below: u64,
+    asked: u64,
+    taken: u64,
 }
 
 /// Reads blocks of 4 KiB, so many from each of these offsets on, in turn.
 fn read(alloc: Global, starts: &[u64], blocks: u64, bad: u64) -> Result<Outcome, AllocError> {
     let reads = Cell::new(0);
-    let far = Far { bad, reads: &reads };
+    let asked = Cell::new(0);
+    let taken = Cell::new(0);
+    let far = Far {
+        bad,
+        reads: &reads,
+        asked: &asked,
+        last: Cell::new((0, 0)),
+        taken: &taken,
+    };
     let mut ahead = Ahead::new(alloc, far, LEN, 262_144)?;
     let mut outcome = Outcome {
         failed: 0,
         wrong: 0,
         below: 0,
+        asked: 0,
+        taken: 0,
     };
     let mut block = [0u8; 4096];
     for turn in 0..blocks {
@@ -77,26 +105,29 @@ fn read(alloc: Global, starts: &[u64], blocks: u64, bad: u64) -> Result<Outcome,
         }
     }
     outcome.below = reads.get();
+    outcome.asked = asked.get();
+    outcome.taken = taken.get();
     Ok(outcome)
 }
 
-/// The offsets, the blocks from each on, the byte that can't be read; and the reads that fail, and those below.
-const ROWS: [(&[u64], u64, u64, (u64, u64)); 4] = [
-    // One reader: windows of 128 KiB, 256 KiB and so on.
-    (&[0], 256, LEN, (0, 5)),
-    // Two readers in turn, of which the second one is known at its second read.
-    (&[0, 524_288], 64, LEN, (0, 5)),
+/// The offsets, the blocks from each on, the byte that can't be read; and the reads that fail, those below, and the ranges that were asked
+/// for ahead, each of which was read next.
+const ROWS: [(&[u64], u64, u64, (u64, u64, u64)); 4] = [
+    // One reader: windows of 128 KiB, 256 KiB and so on, from the third one on asked for ahead.
+    (&[0], 256, LEN, (0, 5, 3)),
+    // Two readers in turn, of which the second one is known at its second read. None is asked for ahead.
+    (&[0, 524_288], 64, LEN, (0, 5, 0)),
     // One block can't be read, and each other one can.
-    (&[0], 64, 100_000, (1, 0)),
-    (&[0, 524_288], 64, 600_000, (1, 0)),
+    (&[0], 64, 100_000, (1, 0, 0)),
+    (&[0, 524_288], 64, 600_000, (1, 0, 0)),
 ];
 
 #[test]
 fn readers_have_windows_and_a_bad_byte_is_one_failure(rt: HostRuntime) -> Result<(), Fail> {
-    for (starts, blocks, bad, (failed, below)) in ROWS {
+    for (starts, blocks, bad, (failed, below, asked)) in ROWS {
         let comes = read(rt.alloc(), starts, blocks, bad)?;
         assert_eq!(rt; (comes.failed, comes.wrong), (failed, 0));
-        assert!(rt; below == 0 || comes.below == below);
+        assert!(rt; below == 0 || (comes.below, comes.asked, comes.taken) == (below, asked, asked));
     }
     Ok(())
 }
