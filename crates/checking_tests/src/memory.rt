@@ -36,14 +36,15 @@ fn try_room(alloc: Global, volume: &BuiltVolume, steps: usize) -> Result<Outcome
     )
 }
 
-// With how many steps, from so many on, the outcome is first another than this, and which; at the end of 600, it itself.
+// With how many steps, from so many on, the outcome is first another than this, and which; at the end of `most`, it itself.
 fn next_outcome(
     alloc: Global,
     volume: &BuiltVolume,
     from: usize,
+    most: usize,
     kind: Outcome,
 ) -> Result<(usize, Outcome), Fail> {
-    for steps in from..from.saturating_add(600) {
+    for steps in from..from.saturating_add(most) {
         let next = try_room(alloc, volume, steps)?;
         if next != kind {
             return Ok((steps, next));
@@ -55,9 +56,9 @@ fn next_outcome(
 // What comes after no table line, after that outcome, and after that one.
 fn outcomes(alloc: Global) -> Result<[Outcome; 3], Fail> {
     let volume = salted(alloc)?;
-    let (from, first) = next_outcome(alloc, &volume, 0, Outcome::NoTable)?;
-    let (from, second) = next_outcome(alloc, &volume, from, Outcome::NoMemory)?;
-    let (_, third) = next_outcome(alloc, &volume, from, Outcome::Right)?;
+    let (from, first) = next_outcome(alloc, &volume, 0, 600, Outcome::NoTable)?;
+    let (from, second) = next_outcome(alloc, &volume, from, 1500, Outcome::NoMemory)?;
+    let (_, third) = next_outcome(alloc, &volume, from, 600, Outcome::Right)?;
     Ok([first, second, third])
 }
 

@@ -1,16 +1,18 @@
 //! An export of an NBD server.
 
-ghost use Rattle.std.specs.Prelude.{◌≡◌, ◌+◌, ◌++◌, ◌<◌, ◌≤◌, ◌^◌, length, IfOk, OnOk, string_bytes};
+ghost use Rattle.std.specs.Prelude.{◌≡◌, ◌+◌, ◌++◌, ◌<◌, ◌≤◌, ◌^◌, length, IfOk, OnOk, IfSome, string_bytes};
 ghost use Rattle.remote_nbd.specs.Opening.{Opens, Asks};
 ghost use Rattle.std.specs.Io.KnownBytes.{Appends, Consumes};
 ghost use Rattle.remote_nbd.specs.Messages.{read_request, simple_reply};
 ghost use Rattle.verity_store.specs.RawFile.{HasLength, Reads};
 
+use crate::asked::{Asked, take_bytes};
 use crate::dial::Dial;
 use crate::fault::RemoteFault;
+use crate::last_read::LastRead;
 use crate::patience::Patience;
 use crate::source::{Miss, Source};
-use remote_nbd::{Answer, Export, MAX_LENGTH, OpenFault, open_export, read_at};
+use remote_nbd::{Export, MAX_LENGTH, OpenFault, ask_at, open_export};
 use std::alloc::Global;
 use std::io::{self, ErrorKind};
 use std::time::Duration;
@@ -22,6 +24,9 @@ pub struct NbdSource<D: Dial> {
     dial: D,
     name: String,
     kept: Option<D::Wire>,
+    /// The connection, where a range was asked for that wasn't taken yet.
+    asked: Option<Asked<D>>,
+    last: LastRead,
     /// Which request comes next.
     cookie: u64,
     len: u64,
@@ -47,6 +52,8 @@ impl<D: Dial + Drop> NbdSource<D> {
             dial,
             name: String::from_str(alloc, name)?,
             kept: None,
+            asked: None,
+            last: LastRead::none(),
             cookie: 0,
             len: 0,
         };
@@ -96,24 +103,77 @@ impl<D: Dial + Drop> NbdSource<D> {
         ensures asked { OnOk result (Appends (D.Wire.contents wire.old) (D.Wire.contents wire.new)
             (read_request self.old.cookie at (length out.new))) }
     {
-        let now = self.dial.now().map_err(|e| Miss::Lost(e.kind()))?;
-        self.dial
-            .extend(wire, now.saturating_add(patience.for_request(out.len())));
+        let until = self
+            .until(out.len(), patience)
+            .map_err(|e| Miss::Lost(e.kind()))?;
+        self.dial.extend(wire, until);
+        let cookie = self.next_cookie();
+        if let Err(e) = ask_at(wire, cookie, at, out.len() as u32) {
+            return Err(Miss::Lost(e.kind()));
+        }
+        take_bytes(wire, cookie, out)
+    }
+
+    /// A cookie of its own for each request.
+    fn next_cookie(&mut self) -> u64
+        ensures { result ≡ self.old.cookie }
+    {
         let cookie = self.cookie;
         self.cookie = cookie.wrapping_add(1);
-        match read_at(wire, cookie, at, out) {
-            Ok(Answer::Given) => Ok(()),
-            Ok(Answer::Refused(_)) => Err(Miss::Refused(ErrorKind::Other)),
-            Err(e) => Err(lost_or_lied(e)),
-        }
+        cookie
     }
-}
 
-/// A reply to no request of ours is an answer; every other error is the connection's.
-fn lost_or_lied(error: io::Error) -> Miss {
-    match error.kind() {
-        ErrorKind::InvalidData => Miss::Refused(ErrorKind::InvalidData),
-        kind => Miss::Lost(kind),
+    /// The time by which a request of so many bytes is answered.
+    fn until(&self, bytes: usize, patience: Patience) -> io::Result<Duration> {
+        Ok(self.dial.now()?.saturating_add(patience.for_request(bytes)))
+    }
+
+    /// Takes the bytes that were asked for, where they are those of this range; whether it did. Those of another range are dropped.
+    fn take_asked(&mut self, at: u64, out: &mut [u8], patience: Patience) -> Result<bool, Miss> {
+        let Some(asked) = self.asked.take() else {
+            return Ok(false);
+        };
+        let until = self
+            .until(asked.len(), patience)
+            .map_err(|e| Miss::Lost(e.kind()))?;
+        if !asked.is_of(at, out.len()) {
+            self.kept = asked.skip(&self.dial, until);
+            return Ok(false);
+        }
+        self.kept = Some(asked.take(&self.dial, until, at, out)?);
+        Ok(true)
+    }
+
+    /// Asks for a range, in as many requests as it takes.
+    fn get_all(&mut self, at: u64, out: &mut [u8], patience: Patience) -> Result<(), Miss> {
+        let mut place = at;
+        'pieces: for piece in out.chunks_mut(MAX_LENGTH) {
+            let mut wire = match self.kept.take() {
+                Some(wire) => wire,
+                None => self.reopen(patience)?,
+            };
+            self.get(&mut wire, place, piece, patience)?;
+            self.kept = Some(wire);
+            place = place.saturating_add(piece.len() as u64);
+        }
+        Ok(())
+    }
+
+    /// Asks for at most so many bytes from here on, as far as the export goes, over the connection that is kept, and doesn't wait for them.
+    /// Where one request may not ask for as many, none does.
+    fn ask_ahead(&mut self, at: u64, count: usize, patience: Patience) -> Option<Asked<D>>
+        ensures at { IfSome result (λ asked. asked.at ≡ at) }
+        ensures within { IfSome result (λ asked. at + asked.len ≤ self.old.len) }
+    {
+        let count = self.len.saturating_sub(at).min(count as u64) as usize;
+        if count == 0 || count > MAX_LENGTH {
+            return None;
+        }
+        let until = self.until(count, patience).ok()?;
+        let mut wire = self.kept.take()?;
+        self.dial.extend(&mut wire, until);
+        let cookie = self.next_cookie();
+        Asked::new(wire, cookie, at, count).ok()
     }
 }
 
@@ -127,16 +187,14 @@ impl<D: Dial + Drop> Source for NbdSource<D> {
         self.dial.now()
     }
 
+    /// Where a read follows one of the same length, as many bytes again are asked for before they are read.
     fn read_once(&mut self, at: u64, out: &mut [u8], patience: Patience) -> Result<(), Miss> {
-        let mut place = at;
-        'pieces: for piece in out.chunks_mut(MAX_LENGTH) {
-            let mut wire = match self.kept.take() {
-                Some(wire) => wire,
-                None => self.reopen(patience)?,
-            };
-            self.get(&mut wire, place, piece, patience)?;
-            self.kept = Some(wire);
-            place = place.saturating_add(piece.len() as u64);
+        if !self.take_asked(at, out, patience)? {
+            self.get_all(at, out, patience)?;
+        }
+        if self.last.repeats(at, out.len()) {
+            let next = at.saturating_add(out.len() as u64);
+            self.asked = self.ask_ahead(next, out.len(), patience);
         }
         Ok(())
     }

@@ -21,7 +21,7 @@ pub trait Source {
     /// The bytes, where they are known.
     ghost bytes: { Self → Option (List ℕ) } = { λ _. None };
 
-    /// How often the server was asked for bytes, where that is counted.
+    /// How often the server was asked for bytes that were read, where that is counted.
     ghost asks: { Self → ℕ } = { λ _. 0 };
 
     /// How many bytes there were when it was opened.
@@ -31,7 +31,8 @@ pub trait Source {
     /// The time of the monotonic clock.
     fn now(&self) -> io::Result<Duration>;
 
-    /// Asks once for as many bytes as `out` has, from offset `at` on; over a new connection where none is kept.
+    /// Asks once for as many bytes as `out` has, from offset `at` on; over a new connection where none is kept. What is likely to be read
+    /// next may be asked for then, and is not waited for.
     fn read_once(&mut self, at: u64, out: &mut [u8], patience: Patience) -> Result<(), Miss>
         requires some { 0 < length out.old }
         requires fits { at + length out.old ≤ 2 ^ 64 }

@@ -52,9 +52,13 @@ fn pulled(
         data_path: "data",
         hash_path: "hash",
         to: line,
+        to_file: None,
         table,
+        table_file: None,
         uuid: None,
         hash_offset: None,
+        to_file: None,
+        table_file: None,
         timeout: "30",
         is_quiet: true,
     };

@@ -1,6 +1,8 @@
 //! Runs of data blocks, each checked along its path.
-ghost use Rattle.std.specs.Prelude.{◌≡◌, ◌≢◌, ℕ, ◌+◌, ◌*◌, ◌<◌, ◌≤◌, [], length, slice_index_or, None, OnOk, IfErr, IfSome};
+ghost use Rattle.std.specs.Prelude.{◌≡◌, ◌≢◌, ℕ, ◌+◌, ◌*◌, ◌<◌, ◌≤◌, true, [], length, slice_index_or, None, OnOk, IfErr, IfSome};
+ghost use Rattle.std.specs.Fork.{slice_chunk};
 ghost use Rattle.verity_store.specs.Blocks.{cut};
+ghost use Rattle.verity_store.specs.Given.{GaveSince};
 ghost use Rattle.verity_store.specs.Stores.{IsOnlyRead};
 ghost use Rattle.verity_chain.specs.Table.{IsTable, height};
 ghost use Rattle.verity_chain.specs.Chain.{Names};
@@ -18,8 +20,58 @@ use crate::{CheckFault, Place};
 use std::alloc::Allocator;
 use verity_chain::Tree;
 use verity_digest::Digest;
-use verity_report::{agreeing, read_ahead};
+use verity_report::agreeing;
 use verity_store::{BlockStore, Which};
+
+/// How many data blocks are read and checked together at most, those below one hash block of 4096 bytes.
+const TOGETHER: usize = 128;
+
+/// How many bytes of data blocks are read together at most, but for single blocks that are longer.
+const BYTES_TOGETHER: usize = 524_288;
+
+/// The bytes of the longest run, where at most `most` data blocks have one parent: of 128 blocks, or of fewer where so many would be more
+/// than 512 KiB.
+pub(crate) fn longest_run(block_size: usize, most: usize) -> usize
+    ensures { block_size ≤ result }
+{
+    block_size
+        .saturating_mul(most.min(TOGETHER))
+        .min(BYTES_TOGETHER)
+        .max(block_size)
+}
+
+/// How many data blocks the next run has: as many as `room` bytes hold, but no more than `most`, or than 128.
+pub(crate) fn run_len(block_size: usize, room: usize, most: u64) -> usize
+    requires size { 0 < block_size }
+    requires room { block_size ≤ room }
+    requires most { 0 < most }
+    ensures some { 0 < result }
+    ensures few { result ≤ 128 }
+    ensures most { result ≤ most }
+    ensures fits { result * block_size ≤ room }
+{
+    (room / block_size).min(TOGETHER).min(most as usize)
+}
+
+/// Reads the blocks from `first` on into `out`, which has the bytes of `count`, one after the other, by one call of the store. Returns how
+/// many were read: all of them, or none where the store failed at one.
+fn read_together<S: BlockStore>(store: &mut S, first: u64, count: usize, out: &mut [u8]) -> usize
+    requires within { first + count ≤ length (S.content store.old) }
+    requires sized { length out.old ≡ count * S.size store.old }
+    ensures most { result ≤ count }
+    ensures given { (mark : ℕ) → mark ≤ length (S.given store.old)
+        → (j : ℕ) → j < result → GaveSince (S.given store.new) mark (first + j) (slice_chunk out.new (S.size store.old) j) }
+    ensures right { S.tells store.old ≡ true
+        → (j : ℕ) → j < result → slice_index_or (S.content store.old) (first + j) [] ≡ slice_chunk out.new (S.size store.old) j }
+    ensures failed { result < count → S.failures store.old < S.failures store.new }
+    ensures counted { S.reads store.new ≤ S.reads store.old + count }
+    ensures read { IsOnlyRead S.BlockStore store.old store.new }
+{
+    match store.read_run(first, count, out) {
+        Ok(()) => count,
+        Err(_) => 0,
+    }
+}
 
 /// The digests that the checked blocks above the data blocks from `n` on name for these: how many, and the fault that ended
 /// it, if one did.
@@ -69,8 +121,8 @@ fn name_run<H: BlockStore, A: Allocator + Copy + Drop>(
     (names.len(), None)
 }
 
-/// How far a run of data blocks came: for how many a digest is named, how many of these were read, how many of those are the ones
-/// that are named, up to the first that isn't, and the fault that ended the names, if one did.
+/// How far a run of data blocks came: for how many a digest is named, how many of these were read, which is all or none, how many of those
+/// are the ones that are named, up to the first that isn't, and the fault that ended the names, if one did.
 struct Compared {
     named: usize,
     read: usize,
@@ -78,8 +130,8 @@ struct Compared {
     unnamed: Option<CheckFault>,
 }
 
-/// Reads the data blocks from `n` on into `run`, which has the bytes of `count`, up to the first that has no name or whose read
-/// fails, hashes them side by side, and compares each with the digest that its path names.
+/// Reads the data blocks from `n` on into `run`, which has the bytes of `count`, up to the first that has no name, by one call of the
+/// store, hashes them side by side, and compares each with the digest that its path names.
 fn compare_run<D: BlockStore, H: BlockStore, A: Allocator + Copy + Drop>(
     tree: &mut Tree<A>,
     data_store: &mut D,
@@ -95,7 +147,7 @@ fn compare_run<D: BlockStore, H: BlockStore, A: Allocator + Copy + Drop>(
     requires allowed { IsTable tree.old }
     requires data_store { IsDataStoreOf D.BlockStore tree.old data_store.old }
     requires hash_store { IsHashStoreOf H.BlockStore tree.old hash_store.old }
-    requires few { count ≤ 8 }
+    requires few { count ≤ 128 }
     requires run_whole { length run.old ≡ count * tree.old.data_block_size }
     requires hash_whole { length hash_block.old ≡ tree.old.hash_block_size }
     requires data_since { since.now.of_data ≤ length (D.given data_store.old) }
@@ -112,12 +164,12 @@ fn compare_run<D: BlockStore, H: BlockStore, A: Allocator + Copy + Drop>(
     ensures hash_reads { H.reads hash_store.new ≤ H.reads hash_store.old + count * height tree.old }
     ensures same { tree.new ≡ tree.old }
 {
-    let mut room_for_names = [tree.root(); 8];
+    let mut room_for_names = [tree.root(); TOGETHER];
     let names = &mut room_for_names[..count];
     let (named, unnamed) = name_run(tree, hash_store, hash_block, cache, alloc, since, n, names);
     let size = tree.table().data_block_size();
-    let read = read_ahead(data_store, n, named, &mut run[..named * size]);
-    let mut room_for_digests = [tree.root(); 8];
+    let read = read_together(data_store, n, named, &mut run[..named * size]);
+    let mut room_for_digests = [tree.root(); TOGETHER];
     let digests = &mut room_for_digests[..read];
     tree.digest_run(&run[..read * size], size, digests);
     let good = agreeing(digests, names);
@@ -130,8 +182,8 @@ fn compare_run<D: BlockStore, H: BlockStore, A: Allocator + Copy + Drop>(
 }
 
 /// Reads the data blocks from `n` on into `run`, which has the bytes of `count`, and checks each along its path from the
-/// lowest cached block, or the root. They are hashed side by side, and the first block that isn't right, or whose read or
-/// path failed, is the one that is refused.
+/// lowest cached block, or the root. They are read by one call of the store and hashed side by side. Where that call fails, that is the
+/// fault; else the first block that isn't right, or whose path failed, is the one that is refused.
 pub(crate) fn read_run<D: BlockStore, H: BlockStore, A: Allocator + Copy + Drop>(
     tree: &mut Tree<A>,
     data_store: &mut D,
@@ -147,7 +199,7 @@ pub(crate) fn read_run<D: BlockStore, H: BlockStore, A: Allocator + Copy + Drop>
     requires allowed { IsTable tree.old }
     requires data_store { IsDataStoreOf D.BlockStore tree.old data_store.old }
     requires hash_store { IsHashStoreOf H.BlockStore tree.old hash_store.old }
-    requires few { count ≤ 8 }
+    requires few { count ≤ 128 }
     requires run_whole { length run.old ≡ count * tree.old.data_block_size }
     requires hash_whole { length hash_block.old ≡ tree.old.hash_block_size }
     requires data_since { since.now.of_data ≤ length (D.given data_store.old) }

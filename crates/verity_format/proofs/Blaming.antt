@@ -1,6 +1,6 @@
 -- Refusals, and the words that they blame.
 use Rattle.std.proofs.Common.{◌≡◌, Bool, true, false, ℕ, List, Option, Some, None, Result, Ok, Err, IfErr, IsErrAnd}
-use Rattle.std.proofs.Common.{subst, sym, ap, inr, ◌∙◌}
+use Rattle.std.proofs.Common.{subst, sym, ap, inl, inr, ◌∙◌}
 use Rattle.std.specs.Prelude.{if◌then◌else◌, ok_or}
 use Rattle.std.specs.Str.Parse.{digits_value}
 use Rattle.uuid.specs.Text.{parsed}
@@ -15,6 +15,7 @@ use Rattle.verity_gate.specs.Refusals.{BlamesAtMost}
 use Rattle.verity_words.specs.declared.words.format.FormatWords.{FormatWords}
 use Rattle.verity_format.specs.Blamed.{FormatBlames, Misreads}
 use Rattle.verity_format.specs.Formatting.{IsOneFile}
+use Rattle.verity_format.specs.Kept.{IsOfArgument}
 
 only : (read : Bool) (n : ℕ) (known e : Failure) → (if read then Ok n else Err known) ≡ Err e → e ≡ known
 only true n known e is = absurd (cc is)
@@ -45,6 +46,13 @@ of_uuid words e is =
     let same = unread (parsed words.uuid.now) (failure.Word word.Uuid) e is in
     subst (Misreads words) (sym same) (is ∙ ap Err same)
 
+-- each of them blames an argument
+pub number_blames : (w : Word) (text : List ℕ) (e : Failure) → number_in w text ≡ Err e → IsOfArgument e
+number_blames w text e is = inl (w, by_number w text e is)
+
+pub uuid_blames : (text : List ℕ) (e : Failure) → uuid_in text ≡ Err e → IsOfArgument e
+uuid_blames text e is = inl (word.Uuid, unread (parsed text) (failure.Word word.Uuid) e is)
+
 -- which isn't S1
 pub never_s1 : {T : Type 0} (done : Result T Failure) (text : List ℕ) (e : Failure) → IsErrAnd done (λ other. other ≡ e)
     → uuid_in text ≡ Err e → IfErr done (IsS1For ⊥)
@@ -71,6 +79,8 @@ of_misread facts s words (failure.Word word.Memory) is_misread = is_misread
 of_misread facts s words (failure.Word word.Idle) is_misread = is_misread
 of_misread facts s words (failure.Word word.Timeout) is_misread = is_misread
 of_misread facts s words (failure.Word word.Slice) is_misread = is_misread
+of_misread facts s words (failure.Word word.TableFile) is_misread = is_misread
+of_misread facts s words (failure.Word word.ToFile) is_misread = is_misread
 of_misread facts s words (failure.Refused fault) is_misread = is_misread
 of_misread facts s words failure.NoMemory is_misread = is_misread
 of_misread facts s words failure.Output is_misread = is_misread

@@ -8,6 +8,7 @@ ghost use Rattle.verity_format.specs.Opening.{IsOpenedBeside};
 ghost use Rattle.verity_format.specs.Sliced.{asked_for, IsLeftBy, IsSliceMade, IsSliced};
 
 use crate::formatting::{Shape, open_data, read_shape};
+use std::alloc::Global;
 use std::io::{Eprint, IsTerminal, Write};
 use std::time::Clock;
 use verity_build::{BuildFault, BuildParameters};
@@ -50,16 +51,18 @@ pub fn format_slice<R: Clock + Eprint + AllocGlobal, S: System, W: Write, E: IsT
     let bytes = salt_bytes(rt.alloc(), words.salt)?;
     let is_watched = is_watched(words.is_quiet, errors.is_terminal());
     let run = make_slice(rt, system, words, &shape, &bytes, slice, is_watched)?;
-    print_run(run, output)
+    print_run(rt.alloc(), run, output)
 }
 
-/// Prints which blocks were made.
-fn print_run<W: Write>(run: Run, output: &mut W) -> Result<(), Failure>
+/// Prints which blocks were made. The line is written in one piece, since other slices may print to the same file.
+fn print_run<W: Write>(alloc: Global, run: Run, output: &mut W) -> Result<(), Failure>
     ensures printed { OnOk result (Appends (W.contents output.old) (W.contents output.new) (run_line run)) }
 {
     let first = run.first;
     let end = run.end;
-    writeln!(output, "slice {first} {end}")?;
+    let mut line = Vec::new(alloc);
+    writeln!(line, "slice {first} {end}")?;
+    output.write_all(&line)?;
     Ok(())
 }
 

@@ -1,4 +1,4 @@
-use Rattle.std.proofs.Common.{◌≡◌, ℕ, ◌+◌, ◌*◌, ◌<◌, ◌≤◌, ◌++◌, List, [], ◌∷◌, IfSome, length, take, drop, ap, ◌∙◌, sym}
+use Rattle.std.proofs.Common.{◌≡◌, ℕ, ◌+◌, ◌*◌, ◌<◌, ◌≤◌, ◌++◌, List, [], ◌∷◌, IfSome, length, take, drop, replicate, ap, ◌∙◌, sym}
 use Rattle.std.proofs.Common.{subst, arith}
 use Rattle.std.proofs.lemmas.List.{length-take-le, length-append}
 use Rattle.std.proofs.lemmas.Option.{IfSome_then}
@@ -22,14 +22,14 @@ returns-clause-compared g c =
     let n : ℕ = c.args.n in
     let marks = c.args.since.now in
     let named : ℕ = c.name_run-named.result.0 in
-    let read : ℕ = c.read_ahead-read.result in
+    let read : ℕ = c.read_together-read.result in
     let good : ℕ = c.agreeing-good.result in
-    let part : List ℕ = c.read_ahead-read.new.out in
+    let part : List ℕ = c.read_together-read.new.out in
     let out : List ℕ = part ++ drop (c.name_run-named.result.0 * c.data_block_size-size.result) c.args.run.now in
     let z : ℕ = t.data_block_size in
     let s : ℕ = c.data_block_size-size.result in
-    let ahead = c.read_ahead-read.ensures in
-    let d = c.read_ahead-read.new.store in
+    let ahead = c.read_together-read.ensures in
+    let d = c.read_together-read.new.store in
     let h = c.name_run-named.new.hash_store in
     let given = given_in D H t marks d h in
     let digests = c.digest_run.new.out in
@@ -37,17 +37,17 @@ returns-clause-compared g c =
     let size : c.data_block_size-size.result ≡ t.data_block_size = c.data_block_size-size.ensures.value
     ∙ ap (λ (x : Table). x.data_block_size) (c.table.ensures.value ∙ c.name_run-named.ensures.same) in
     let root : List ℕ = c.root-room_for_names.result in
-    let eight : List (List ℕ) = root ∷ root ∷ root ∷ root ∷ root ∷ root ∷ root ∷ root ∷ [] in
-    let all : length (take c.args.count eight) ≡ c.args.count = length-take-le c.args.count eight c.requires.few in
+    let all : length (take c.args.count (replicate 128 root)) ≡ c.args.count =
+    length-take-le c.args.count (replicate 128 root) c.requires.few in
     let few : named ≤ c.args.count = subst (λ m. named ≤ m) all c.name_run-named.ensures.most in
     let fits : named * s ≤ length c.args.run.now =
     omega (arith, c.requires.run_whole, size, mul-le-mul_right z few, ap (λ m. named * m) size) in
-    let long : length part ≡ named * z = c.read_ahead-read.auto.out ∙ length-take-le (named * s) c.args.run.now fits
+    let long : length part ≡ named * z = c.read_together-read.auto.out ∙ length-take-le (named * s) c.args.run.now fits
     ∙ ap (λ m. named * m) size in
     let front : (j : ℕ) → j < read → slice_chunk part z j ≡ slice_chunk out z j =
     λ j lt. chunk_front part (drop (named * s) c.args.run.now) z j named (omega (arith, lt, ahead.most)) long in
-    let low : c.read_ahead-read.result ≤ 8 = omega (arith, ahead.most, few, c.requires.few) in
-    let made : length digests ≡ read = c.digest_run.auto.out ∙ length-take-le c.read_ahead-read.result _ low in
+    let low : c.read_together-read.result ≤ 128 = omega (arith, ahead.most, few, c.requires.few) in
+    let made : length digests ≡ read = c.digest_run.auto.out ∙ length-take-le c.read_together-read.result _ low in
     let is : IsHashed D H t marks c.args.data_store.now d h n read out digests names = record {
       keeps = ahead.read;
       size = c.requires.data_store.size;
@@ -83,31 +83,31 @@ returns-clause-compared g c =
       named_of_all = few;
     }
 
-pub slice_bounds-read_ahead-end-2 : goal.slice_bounds-read_ahead-end-2
-slice_bounds-read_ahead-end-2 g c =
+pub slice_bounds-read_together-end-2 : goal.slice_bounds-read_together-end-2
+slice_bounds-read_together-end-2 g c =
     let named : ℕ = c.name_run-named.result.0 in
     let z : ℕ = c.args.tree.now.data_block_size in
     let s : ℕ = c.data_block_size-size.result in
     let size : c.data_block_size-size.result ≡ c.args.tree.now.data_block_size = c.data_block_size-size.ensures.value
     ∙ ap (λ (x : Table). x.data_block_size) (c.table.ensures.value ∙ c.name_run-named.ensures.same) in
     let root : List ℕ = c.root-room_for_names.result in
-    let eight : List (List ℕ) = root ∷ root ∷ root ∷ root ∷ root ∷ root ∷ root ∷ root ∷ [] in
-    let all : length (take c.args.count eight) ≡ c.args.count = length-take-le c.args.count eight c.requires.few in
+    let all : length (take c.args.count (replicate 128 root)) ≡ c.args.count =
+    length-take-le c.args.count (replicate 128 root) c.requires.few in
     let few : named ≤ c.args.count = subst (λ m. named ≤ m) all c.name_run-named.ensures.most in
     let fits : named * s ≤ length c.args.run.now =
     omega (arith, c.requires.run_whole, size, mul-le-mul_right z few, ap (λ m. named * m) size) in
     sym (length-take-le (named * s) c.args.run.now fits)
 
-pub read_ahead-read-requires-clause-sized : goal.read_ahead-read-requires-clause-sized
-read_ahead-read-requires-clause-sized g c =
+pub read_together-read-requires-clause-sized : goal.read_together-read-requires-clause-sized
+read_together-read-requires-clause-sized g c =
     let named : ℕ = c.name_run-named.result.0 in
     let z : ℕ = c.args.tree.now.data_block_size in
     let s : ℕ = c.data_block_size-size.result in
     let size : c.data_block_size-size.result ≡ c.args.tree.now.data_block_size = c.data_block_size-size.ensures.value
     ∙ ap (λ (x : Table). x.data_block_size) (c.table.ensures.value ∙ c.name_run-named.ensures.same) in
     let root : List ℕ = c.root-room_for_names.result in
-    let eight : List (List ℕ) = root ∷ root ∷ root ∷ root ∷ root ∷ root ∷ root ∷ root ∷ [] in
-    let all : length (take c.args.count eight) ≡ c.args.count = length-take-le c.args.count eight c.requires.few in
+    let all : length (take c.args.count (replicate 128 root)) ≡ c.args.count =
+    length-take-le c.args.count (replicate 128 root) c.requires.few in
     let few : named ≤ c.args.count = subst (λ m. named ≤ m) all c.name_run-named.ensures.most in
     let fits : named * s ≤ length c.args.run.now =
     omega (arith, c.requires.run_whole, size, mul-le-mul_right z few, ap (λ m. named * m) size) in
@@ -121,17 +121,17 @@ slice_bounds-digest_run-end-2 g c =
     let size : c.data_block_size-size.result ≡ c.args.tree.now.data_block_size = c.data_block_size-size.ensures.value
     ∙ ap (λ (x : Table). x.data_block_size) (c.table.ensures.value ∙ c.name_run-named.ensures.same) in
     let root : List ℕ = c.root-room_for_names.result in
-    let eight : List (List ℕ) = root ∷ root ∷ root ∷ root ∷ root ∷ root ∷ root ∷ root ∷ [] in
-    let all : length (take c.args.count eight) ≡ c.args.count = length-take-le c.args.count eight c.requires.few in
+    let all : length (take c.args.count (replicate 128 root)) ≡ c.args.count =
+    length-take-le c.args.count (replicate 128 root) c.requires.few in
     let few : named ≤ c.args.count = subst (λ m. named ≤ m) all c.name_run-named.ensures.most in
     let fits : named * s ≤ length c.args.run.now =
     omega (arith, c.requires.run_whole, size, mul-le-mul_right z few, ap (λ m. named * m) size) in
-    let read : ℕ = c.read_ahead-read.result in
-    let part : List ℕ = c.read_ahead-read.new.out in
+    let read : ℕ = c.read_together-read.result in
+    let part : List ℕ = c.read_together-read.new.out in
     let out : List ℕ = part ++ drop (c.name_run-named.result.0 * c.data_block_size-size.result) c.args.run.now in
-    let long : length part ≡ named * s = c.read_ahead-read.auto.out ∙ length-take-le (named * s) c.args.run.now fits in
+    let long : length part ≡ named * s = c.read_together-read.auto.out ∙ length-take-le (named * s) c.args.run.now fits in
     let within : read * s ≤ length out =
-    omega (arith, long, mul-le-mul_right s c.read_ahead-read.ensures.most, length-append part (drop (named * s) c.args.run.now)) in
+    omega (arith, long, mul-le-mul_right s c.read_together-read.ensures.most, length-append part (drop (named * s) c.args.run.now)) in
     sym (length-take-le (read * s) out within)
 
 pub digest_run-requires : goal.digest_run-requires
@@ -142,16 +142,16 @@ digest_run-requires g c =
     let size : c.data_block_size-size.result ≡ c.args.tree.now.data_block_size = c.data_block_size-size.ensures.value
     ∙ ap (λ (x : Table). x.data_block_size) (c.table.ensures.value ∙ c.name_run-named.ensures.same) in
     let root : List ℕ = c.root-room_for_names.result in
-    let eight : List (List ℕ) = root ∷ root ∷ root ∷ root ∷ root ∷ root ∷ root ∷ root ∷ [] in
-    let all : length (take c.args.count eight) ≡ c.args.count = length-take-le c.args.count eight c.requires.few in
+    let all : length (take c.args.count (replicate 128 root)) ≡ c.args.count =
+    length-take-le c.args.count (replicate 128 root) c.requires.few in
     let few : named ≤ c.args.count = subst (λ m. named ≤ m) all c.name_run-named.ensures.most in
     let fits : named * s ≤ length c.args.run.now =
     omega (arith, c.requires.run_whole, size, mul-le-mul_right z few, ap (λ m. named * m) size) in
-    let read : ℕ = c.read_ahead-read.result in
-    let part : List ℕ = c.read_ahead-read.new.out in
+    let read : ℕ = c.read_together-read.result in
+    let part : List ℕ = c.read_together-read.new.out in
     let out : List ℕ = part ++ drop (c.name_run-named.result.0 * c.data_block_size-size.result) c.args.run.now in
-    let long : length part ≡ named * s = c.read_ahead-read.auto.out ∙ length-take-le (named * s) c.args.run.now fits in
+    let long : length part ≡ named * s = c.read_together-read.auto.out ∙ length-take-le (named * s) c.args.run.now fits in
     let within : read * s ≤ length out =
-    omega (arith, long, mul-le-mul_right s c.read_ahead-read.ensures.most, length-append part (drop (named * s) c.args.run.now)) in
-    let low : c.read_ahead-read.result ≤ 8 = omega (arith, c.read_ahead-read.ensures.most, few, c.requires.few) in
-    length-take-le (read * s) out within ∙ sym (ap (λ m. m * s) (length-take-le c.read_ahead-read.result _ low))
+    omega (arith, long, mul-le-mul_right s c.read_together-read.ensures.most, length-append part (drop (named * s) c.args.run.now)) in
+    let low : c.read_together-read.result ≤ 128 = omega (arith, c.read_together-read.ensures.most, few, c.requires.few) in
+    length-take-le (read * s) out within ∙ sym (ap (λ m. m * s) (length-take-le c.read_together-read.result _ low))

@@ -1,0 +1,38 @@
+//! That a line's file is none of the volume's files.
+ghost use Rattle.std.specs.Prelude.{◌≡◌, ◌⊎◌, true, IfOk, IfErr, OnOk, string_bytes};
+ghost use Rattle.cli_line_file.specs.Apart.{AreOne, AreTwo, IsApart, IsNotApart, IsNotTwo};
+
+use verity_files::{Failure, System, Word};
+
+/// That FILE and FILE.next, whose path is FILE's own with `.next` behind it, are other files than what stands at a path: by what was
+/// opened at both where both are there, else by where their paths lead.
+///
+/// FILE isn't understood where one of both is that file. S1 where what is there is no file and no device, or can't be opened.
+pub fn check_apart_from<S: System>(system: &S, path: &str, other: &str) -> Result<(), Failure>
+    ensures apart { OnOk result (IsApart S.System system.now path.now other.now) }
+    ensures refused { IfErr result (IsNotApart S.System system.now path.now other.now) }
+{
+    let mut own = system.real_path(path)?;
+    check_two(system, &own, other)?;
+    own.push_str(".next")?;
+    check_two(system, &own, other)
+}
+
+/// That what stands at two paths are two files.
+fn check_two<S: System>(system: &S, path: &str, other: &str) -> Result<(), Failure>
+    ensures two { OnOk result (AreTwo S.System system.now path.now other.now) }
+    ensures refused { IfErr result (IsNotTwo S.System system.now (AreOne S.System system.now path.now other.now)) }
+{
+    if system.is_there(path)? && system.is_there(other)? {
+        let file = system.open(path)?;
+        let held = system.open(other)?;
+        if system.identity_of(&file) == system.identity_of(&held) {
+            return Err(Failure::Word(Word::TableFile));
+        }
+        return Ok(());
+    }
+    if system.real_path(path)? == system.real_path(other)? {
+        return Err(Failure::Word(Word::TableFile));
+    }
+    Ok(())
+}
