@@ -1,0 +1,5 @@
+mod Asking
+mod Moments
+mod Outcomes
+mod Parting
+mod Seeing

@@ -1,0 +1,6 @@
+pub mod Faults
+pub mod Files
+pub mod Apart
+pub mod Keeping
+pub mod Looking
+pub mod Settling

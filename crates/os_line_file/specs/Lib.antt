@@ -1,0 +1,4 @@
+pub mod Folder
+pub mod Log
+pub mod Held
+pub mod Past

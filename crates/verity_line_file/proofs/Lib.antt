@@ -1,0 +1,4 @@
+pub mod Moments
+pub mod Settling
+pub mod Standings
+pub mod Tops
