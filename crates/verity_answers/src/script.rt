@@ -1,11 +1,13 @@
 //! A script over a volume, done line by line.
 
-ghost use Rattle.std.specs.Prelude.{◌≡◌, ◌==◌, ◌<◌, ◌≤◌, ◌+◌, ◌↔◌, ℕ, true, false, length, take, drop};
+ghost use Rattle.std.specs.Prelude.{◌≡◌, ◌≢◌, ◌⊎◌, ◌==◌, ◌<◌, ◌≤◌, ◌+◌, ◌↔◌, ℕ, true, false, length, take, drop};
 ghost use Rattle.std.specs.Prelude.{IfOk, IfErr, IfSome, IsSome, Some, None, Err};
 ghost use Rattle.std.specs.List.{position};
 ghost use Rattle.verity_profile.specs.Profile.{IsBlockCount};
 ghost use Rattle.verity_answers.specs.Room.{LacksRoom};
-ghost use Rattle.verity_answers.specs.Printed.{AreAnswers, EndsAnswers, answers_of, answers_to, told_status};
+ghost use Rattle.verity_answers.specs.Printed.{AreAnswers, BadLine, EndsAnswers, answers_of, answers_to, told_status};
+ghost use Rattle.verity_answers.specs.Keeping.{AreKeptAnswers, IsAnswer, IsAnswerTo, answered_by, left_by};
+ghost use Rattle.verity_volume.specs.Kept.{IsLeft};
 
 use std::alloc::{AllocError, Global};
 use std::io::{ErrorKind, Read, Write};
@@ -41,6 +43,9 @@ pub fn run_script<V: Edits, C: Commits<V>, W: Write, E: Write>(
 ) -> Result<u8, Failure>
     ensures answered { IfOk result (λ status. AreAnswers devices.entry (W.contents output.old) (W.contents output.new)
         (answers_of script.entry.bytes.now) status) }
+    ensures kept { IfOk result (λ status. AreKeptAnswers C.holds commits.old commits.new devices.entry (W.contents output.old)
+        (W.contents output.new) (answers_of script.entry.bytes.now) status) }
+    ensures lasting { C.keeps commits.old commits.new }
     ensures ended { IfErr result EndsAnswers }
 {
     let mut status = DONE;
@@ -105,6 +110,9 @@ fn run_line<'a, V: Edits, C: Commits<V>, W: Write>(
 ) -> (V, Result<Option<Refusal<'a>>, Failure>)
     ensures answered { IfOk result.1 (λ told.
         AreAnswers devices.entry (W.contents output.old) (W.contents output.new) (answers_to text.now) (told_status told)) }
+    ensures kept { IfOk result.1 (λ told. AreKeptAnswers C.holds commits.old commits.new devices.entry (W.contents output.old)
+        (W.contents output.new) (answers_to text.now) (told_status told)) }
+    ensures lasting { C.keeps commits.old commits.new }
     ensures ended { IfErr result.1 EndsAnswers }
 {
     if text.is_empty() {
@@ -113,18 +121,21 @@ fn run_line<'a, V: Edits, C: Commits<V>, W: Write>(
     let Some(line) = line_of(text) else {
         return (editor, print_bad(output));
     };
-    match reply_to(alloc, editor, commits, devices, line) {
-        (editor, Ok(answer)) => {
+    let (editor, answer) = reply_to(alloc, editor, commits, devices, line);
+    match answer {
+        Ok(answer) => {
             let told = print_answer(alloc, &editor, devices, line, answer, output);
             (editor, told)
         }
-        (editor, Err(failure)) => (editor, Err(failure)),
+        Err(failure) => (editor, Err(failure)),
     }
 }
 
 /// Prints that a line is none.
 fn print_bad<'a, W: Write>(output: &mut W) -> Result<Option<Refusal<'a>>, Failure>
     ensures answered { (on : Devices) → IfOk result (λ told. AreAnswers on (W.contents output.old) (W.contents output.new) 1
+        (told_status told)) }
+    ensures printed { (on : Devices) → IfOk result (λ told. IsAnswer on (W.contents output.old) (W.contents output.new) BadLine
         (told_status told)) }
     ensures ended { IfErr result EndsAnswers }
 {
@@ -143,6 +154,8 @@ fn print_answer<'a, V: Edits, W: Write>(
 ) -> Result<Option<Refusal<'a>>, Failure>
     ensures answered { IfOk result (λ told. AreAnswers devices.entry (W.contents output.old) (W.contents output.new) 1
         (told_status told)) }
+    ensures printed { IfOk result (λ told. IsAnswer devices.entry (W.contents output.old) (W.contents output.new)
+        (answered_by (V.volume editor.now) answer) (told_status told)) }
     ensures ended { IfErr result EndsAnswers }
 {
     match answer {
@@ -178,7 +191,7 @@ enum Answer {
     Refused(Fault),
 }
 
-/// The answer to a line. Want of memory is a failure of the whole program.
+/// The answer to a line. Want of memory is a failure of the whole program. Where it isn't a commit, what is kept with the commits stays.
 fn reply_to<V: Edits, C: Commits<V>>(
     alloc: Global,
     editor: V,
@@ -186,7 +199,9 @@ fn reply_to<V: Edits, C: Commits<V>>(
     devices: Devices<'_>,
     line: Line<'_>,
 ) -> (V, Result<Answer, Failure>)
-    ensures { IfErr result.1 (λ e. e ≡ Failure.NoMemory) }
+    ensures kept { IfOk result.1 (λ answer. IsLeft C.holds commits.old commits.new (left_by (V.volume result.0) answer)) }
+    ensures lasting { C.keeps commits.old commits.new }
+    ensures ended { IfErr result.1 (λ e. e ≡ Failure.NoMemory) }
 {
     if editor.broken() || commits.is_broken() {
         return (editor, Ok(Answer::Refused(Fault::Edit(EditFault::Broken))));
@@ -201,14 +216,15 @@ fn reply_to<V: Edits, C: Commits<V>>(
     };
     match editor.answer(&command) {
         (editor, Reply::Done) => (editor, Ok(Answer::Done)),
-        (editor, Reply::Committed(committed)) => (editor, Ok(Answer::Committed(committed))),
+        (_, Reply::Committed(_)) => unreachable!(),
         (editor, Reply::Refused(fault)) => (editor, answer_of(Err(Fault::Edit(fault)))),
     }
 }
 
 /// Want of memory is a failure, and any other fault is answered.
 fn answer_of(done: Result<Committed, Fault>) -> Result<Answer, Failure>
-    ensures { IfErr result (λ e. e ≡ Failure.NoMemory) }
+    ensures answer { IfOk result (IsAnswerTo done) }
+    ensures ended { IfErr result (λ e. e ≡ Failure.NoMemory) }
 {
     match done {
         Ok(committed) => Ok(Answer::Committed(committed)),
@@ -219,14 +235,18 @@ fn answer_of(done: Result<Committed, Fault>) -> Result<Answer, Failure>
     }
 }
 
-/// Commits, and brings what was committed to the files. E6 with the store that hasn't room for it, and then nothing is changed.
+/// Commits, and brings what was committed to the files. E6 with the store that hasn't room for it, and then nothing is changed. Where a
+/// table line is kept with the commits, it is that of this commit then.
 pub fn commit<V: Edits, C: Commits<V>>(
     editor: V,
     commits: &mut C,
     devices: Devices<'_>,
 ) -> (V, Result<Committed, Fault>)
     ensures done { IfOk result.1 (λ committed. (begun : V) × C.stands_for editor begun × V.commits begun result.0 committed) }
-    ensures system { IfErr result.1 (λ fault. fault ≡ Fault.Store StoreFault.Device → C.refuses commits.old ≡ true) }
+    ensures system { IfErr result.1 (λ fault. fault ≡ Fault.Store StoreFault.Device
+        → (C.refuses commits.old ≡ true) ⊎ C.fails commits.old) }
+    ensures held { IfOk result.1 (λ committed. C.holds commits.new (V.volume result.0) committed.root) }
+    ensures lasting { C.keeps commits.old commits.new }
     ensures data_room { devices.entry.data_room < V.count editor → result ≡ (editor, Err (Fault.Edit (EditFault.Store Which.Data))) }
     ensures hash_room { V.count editor ≤ devices.entry.data_room → IsBlockCount (V.count editor)
         → LacksRoom devices.entry (V.volume editor) (V.count editor)
@@ -255,7 +275,9 @@ fn has_room<V: Edits>(editor: &V, devices: Devices<'_>) -> bool
 }
 
 /// The command that a line asks for.
-fn command_of<V: Edits>(alloc: Global, editor: &V, line: Line<'_>) -> Result<Command, AllocError> {
+fn command_of<V: Edits>(alloc: Global, editor: &V, line: Line<'_>) -> Result<Command, AllocError>
+    ensures { line.entry ≢ Line.Commit → IfOk result (λ command. command ≢ Command.Commit) }
+{
     Ok(match line {
         Line::Write(n, digits) => Command::Write(n, written(alloc, editor, n, digits)?),
         Line::Fill(n, byte) => Command::Write(n, filled(alloc, editor, n, byte)?),

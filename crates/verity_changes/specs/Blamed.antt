@@ -1,5 +1,6 @@
 -- Which words the commands that change a volume blame, and when.
-use Rattle.std.specs.Prelude.{◌≡◌, ◌<◌, ◌⊎◌, ℕ, List, true, Some, None, MatchOption, ⊤}
+use Rattle.std.specs.Prelude.{◌≡◌, ◌≢◌, ◌<◌, ◌⊎◌, ℕ, List, true, Option, Some, None, MatchOption, ⊤}
+use Rattle.std.specs.Borrow.{Bor}
 use Rattle.verity_files.specs.Misread.{IsMisread}
 use Rattle.verity_files.specs.Words.{paths_refusal}
 use Rattle.verity_files.specs.declared.failure.Failure.{Failure}
@@ -10,15 +11,22 @@ use Rattle.verity_files.specs.declared.paths.Paths.{Ghosts}
 use Rattle.verity_files.specs.declared.system.System as system
 use Rattle.verity_store.specs.declared.store.BlockStore as store
 use Rattle.verity_volume.specs.Opening.{MisnamesHash}
+use Rattle.verity_work.specs.LineFiles.{IsTakenForLine}
 use Rattle.verity_work.specs.Work.{IsReasonAt, IsTakenForJournal}
 use Rattle.verity_words.specs.declared.words.edit.EditWords.{EditWords}
 use Rattle.verity_words.specs.declared.words.update.UpdateWords.{UpdateWords}
+
+-- a table line is named both as it is and by its file
+abbrev pub NamesTwoLines : Option (Bor (List ℕ)) → Option (Bor (List ℕ)) → Type 0
+NamesTwoLines table table_file = (table ≢ None) × (table_file ≢ None)
 
 -- `edit`, over a system of paths
 abbrev pub EditBlames : {P : Type 0} → Ghosts P → P → EditWords → Failure → Type 0
 EditBlames facts p words (failure.Word word.Data) = paths_refusal words.data_path.now words.hash_path.now ≡ Some (failure.Word word.Data)
 EditBlames facts p words (failure.Word word.Hash) = MisnamesHash facts p words.data_path.now words.hash_path.now
 EditBlames facts p words (failure.Word word.Journal) = IsTakenForJournal facts p words.journal words.data_path.now words.hash_path.now
+EditBlames facts p words (failure.Word word.TableFile) = NamesTwoLines words.table words.table_file
+    ⊎ IsTakenForLine facts p words.table_file words.journal words.data_path.now words.hash_path.now
 EditBlames facts p words (failure.Word word.HashOffset) = MatchOption words.hash_offset ⊥
     (λ text. words.table ≡ None → IsMisread word.HashOffset text.now)
 EditBlames facts p words (failure.Word _) = ⊥
@@ -41,6 +49,8 @@ UpdateBlames facts p news s words (failure.Word word.New) = IsReasonAt (IsTaken 
     words.data_path.now words.hash_path.now
 UpdateBlames facts p news s words (failure.Word word.Journal) =
     IsTakenForJournal facts p words.journal words.data_path.now words.hash_path.now
+UpdateBlames facts p news s words (failure.Word word.TableFile) = NamesTwoLines words.table words.table_file
+    ⊎ IsTakenForLine facts p words.table_file words.journal words.data_path.now words.hash_path.now
 UpdateBlames facts p news s words (failure.Word word.HashOffset) = MatchOption words.hash_offset ⊥
     (λ text. words.table ≡ None → IsMisread word.HashOffset text.now)
 UpdateBlames facts p news s words (failure.Word _) = ⊥

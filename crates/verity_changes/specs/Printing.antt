@@ -10,6 +10,8 @@ use Rattle.verity_edit.specs.Planning.{volume_hashing}
 use Rattle.verity_files.specs.Faults.{line}
 use Rattle.verity_volume.specs.Lines.{volume_line}
 use Rattle.verity_volume.specs.declared.lines.Devices.{Devices}
+use Rattle.verity_volume.specs.Kept.{LeftLine, AsBefore, Holding}
+use Rattle.verity_answers.specs.Keeping.{left_after}
 use Rattle.verity_answers.specs.Printed.{AreAnswers, answers_of, update_lines}
 
 -- the answers to a script over a volume on these devices: of these bytes, where they are known
@@ -17,10 +19,21 @@ abbrev pub IsEdited : Option (List ℕ) → Devices → Option (List ℕ) → Op
 IsEdited text devices old new status = (script : List ℕ) × IfSome text (λ bytes. script ≡ bytes)
     × AreAnswers devices old new (answers_of script) status
 
+-- these answers, and what they leave of a table line that is kept with the commits: that of the last `committed `, if no line was refused
+-- after that
+abbrev pub LeavesEdited : Option (List ℕ) → Devices → Option (List ℕ) → Option (List ℕ) → ℕ → LeftLine → Type 0
+LeavesEdited text devices old new status left = (script : List ℕ) × IfSome text (λ bytes. script ≡ bytes)
+    × ((answered : AreAnswers devices old new (answers_of script) status) × (left ≡ left_after AsBefore answered.answers))
+
 -- a count of blocks, and the table line of a volume on these devices
 abbrev pub IsUpdated : Devices → Option (List ℕ) → Option (List ℕ) → ℕ → Type 0
 IsUpdated devices old new status = (changed : ℕ) × (volume : Volume) × (root : List ℕ)
     × (status ≡ 0) × Appends old new (update_lines changed (volume_line devices volume root))
+
+-- these, and the table line that is kept is that one
+abbrev pub LeavesUpdated : Devices → Option (List ℕ) → Option (List ℕ) → ℕ → LeftLine → Type 0
+LeavesUpdated devices old new status left = (changed : ℕ) × (volume : Volume) × (root : List ℕ)
+    × (status ≡ 0) × Appends old new (update_lines changed (volume_line devices volume root)) × (left ≡ Holding volume root)
 
 -- the volume of one block of zeros: its sizes, its count, and the root that its own algorithm and salt give of that block
 pub record IsOfZeros (volume : Volume) (root_hash : List ℕ) : Type 0 where

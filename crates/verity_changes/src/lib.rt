@@ -8,6 +8,7 @@
 #![tactic(auto)]
 
 mod editing;
+mod line_words;
 mod scratch_volume;
 mod updating;
 

@@ -3,17 +3,21 @@ ghost use Rattle.std.specs.Prelude.{◌≡◌, ◌⊎◌, ◌<◌, true, Err, If
 ghost use Rattle.verity_files.specs.Commands.{lock_of};
 ghost use Rattle.verity_files.specs.Errors.{IsOfSystem, IsS1For};
 ghost use Rattle.verity_gate.specs.Refusals.{BlamesNone};
+ghost use Rattle.verity_work.specs.LineFiles.{FileFails, IsKeptAt, IsLeftAt};
 ghost use Rattle.verity_work.specs.Work.{IsDoneAt};
 ghost use Rattle.verity_changes.specs.Blamed.{NewFails, UpdateBlames};
-ghost use Rattle.verity_changes.specs.Printing.{IsUpdated};
+ghost use Rattle.verity_changes.specs.Printing.{IsUpdated, LeavesUpdated};
 
+use crate::line_words::check_one_line;
+use os_line_file::LineFolders;
 use std::io::{Eprint, IsTerminal, Write};
 use std::time::Clock;
 use verity_answers::{commit, print_update};
 use verity_chain::{Tree, geometry_of};
 use verity_edit::EditFault;
 use verity_files::{
-    Command, DONE, Failure, Fault, Opened, Part, Paths, System, Word, check_paths, store_of_most,
+    Command, DONE, Failure, Fault, Host, Opened, Part, Paths, System, VolumeStore, Word,
+    check_paths, store_of_most,
 };
 use verity_store::{BlockStore, StoreFault, Which};
 use verity_update::{Edited, UpdateFault};
@@ -30,8 +34,18 @@ use verity_work::{Words, Work, do_over};
 /// The words are read first, then all three files opened and told apart, what stands in the journal is made whole, the superblock
 /// and NEW's length looked at, the volume opened, and then each block of NEW read. The journal is that of `edit`. Where `errors` is a
 /// terminal, the opening shows how much of DATA was read, and then it is shown how much of NEW was.
-pub fn update<R: Paths + Clock + Eprint + AllocGlobal, S: System, W: Write, E: Write + IsTerminal>(
-    rt: &R,
+///
+/// Where FILE is named, in one of these folders, its line is trusted and replaced as by `edit`.
+pub fn update<
+    'r,
+    R: Paths + Clock + Eprint + AllocGlobal,
+    L: LineFolders,
+    S: System,
+    W: Write,
+    E: Write + IsTerminal,
+>(
+    rt: &'r R,
+    folders: &mut L,
     sources: &S,
     words: &UpdateWords<'_>,
     output: &mut W,
@@ -39,17 +53,32 @@ pub fn update<R: Paths + Clock + Eprint + AllocGlobal, S: System, W: Write, E: W
 ) -> Result<u8, Failure>
     ensures done { IfOk result (λ status. IsDoneAt IsUpdated words.now.data_path.now words.now.hash_path.now (W.contents output.old)
         (W.contents output.new) status) }
+    ensures kept { IfOk result (λ status. IsKeptAt R.Paths ⟦<Host<'r, R> as System>⟧ ⟦<VolumeStore as BlockStore>⟧ L.LineFolders
+        L.Folder.LineFolder rt.now words.now.data_path.now words.now.hash_path.now folders.old folders.new words.now.table_file
+        LeavesUpdated (W.contents output.old) (W.contents output.new) status) }
+    ensures left { IfErr result (IsLeftAt R.Paths ⟦<Host<'r, R> as System>⟧ ⟦<VolumeStore as BlockStore>⟧ L.LineFolders
+        L.Folder.LineFolder rt.now words.now.data_path.now words.now.hash_path.now folders.old folders.new words.now.table_file) }
     ensures blames { IfErr result (UpdateBlames R.Paths rt.now S.System sources.now words.now) }
-    ensures system { IfErr result (IsS1For ((R.refuses rt.now ≡ true) ⊎ NewFails S.System S.Store.BlockStore sources.now)) }
+    ensures system { IfErr result (IsS1For (((R.refuses rt.now ≡ true) ⊎ NewFails S.System S.Store.BlockStore sources.now)
+        ⊎ FileFails L.LineFolders L.Folder.LineFolder folders.old words.now.table_file)) }
 {
     check_paths(words.data_path, words.hash_path)?;
+    check_one_line(words.table, words.table_file)?;
     let offset = offset_of(words.table, words.hash_offset)?;
-    update_at(rt, sources, words, offset, output, errors)
+    update_at(rt, folders, sources, words, offset, output, errors)
 }
 
 /// Makes it that of NEW where it lies at an offset of HASH.
-fn update_at<R: Paths + Clock + Eprint + AllocGlobal, S: System, W: Write, E: Write + IsTerminal>(
-    rt: &R,
+fn update_at<
+    'r,
+    R: Paths + Clock + Eprint + AllocGlobal,
+    L: LineFolders,
+    S: System,
+    W: Write,
+    E: Write + IsTerminal,
+>(
+    rt: &'r R,
+    folders: &mut L,
     sources: &S,
     words: &UpdateWords<'_>,
     offset: u64,
@@ -58,8 +87,14 @@ fn update_at<R: Paths + Clock + Eprint + AllocGlobal, S: System, W: Write, E: Wr
 ) -> Result<u8, Failure>
     ensures done { IfOk result (λ status. IsDoneAt IsUpdated words.now.data_path.now words.now.hash_path.now (W.contents output.old)
         (W.contents output.new) status) }
+    ensures kept { IfOk result (λ status. IsKeptAt R.Paths ⟦<Host<'r, R> as System>⟧ ⟦<VolumeStore as BlockStore>⟧ L.LineFolders
+        L.Folder.LineFolder rt.now words.now.data_path.now words.now.hash_path.now folders.old folders.new words.now.table_file
+        LeavesUpdated (W.contents output.old) (W.contents output.new) status) }
+    ensures left { IfErr result (IsLeftAt R.Paths ⟦<Host<'r, R> as System>⟧ ⟦<VolumeStore as BlockStore>⟧ L.LineFolders
+        L.Folder.LineFolder rt.now words.now.data_path.now words.now.hash_path.now folders.old folders.new words.now.table_file) }
     ensures blames { IfErr result (UpdateBlames R.Paths rt.now S.System sources.now words.now) }
-    ensures system { IfErr result (IsS1For ((R.refuses rt.now ≡ true) ⊎ NewFails S.System S.Store.BlockStore sources.now)) }
+    ensures system { IfErr result (IsS1For (((R.refuses rt.now ≡ true) ⊎ NewFails S.System S.Store.BlockStore sources.now)
+        ⊎ FileFails L.LineFolders L.Folder.LineFolder folders.old words.now.table_file)) }
 {
     let is_watched = is_watched(words.is_quiet, errors.is_terminal());
     let over = Words {
@@ -68,18 +103,19 @@ fn update_at<R: Paths + Clock + Eprint + AllocGlobal, S: System, W: Write, E: Wr
         hash_path: words.hash_path,
         offset,
         table: words.table,
+        table_file: words.table_file,
         journal: words.journal,
         is_watched,
     };
     let mut taking = Taking {
         sources,
         path: words.new_path,
-        is_trusted: words.table.is_some(),
+        is_trusted: false,
         is_watched,
         opened: None,
         new_store: None,
     };
-    do_over(rt, &over, &mut taking, output, errors)
+    do_over(rt, folders, &over, &mut taking, output, errors)
 }
 
 /// The image at a path, as far as it is opened.
@@ -100,9 +136,11 @@ impl<'a, S: System> Work for Taking<'a, S> {
     ghost use Rattle.std.specs.Prelude.{◌≡◌, ⊤, IsSome};
     ghost use Rattle.verity_files.specs.declared.failure.Word.TheVariants as word;
     ghost use Rattle.verity_changes.specs.Blamed.{IsTaken, NewFails};
-    ghost use Rattle.verity_changes.specs.Printing.{IsUpdated};
+    ghost use Rattle.verity_changes.specs.Printing.{IsUpdated, LeavesUpdated};
 
     ghost prints = { λ _ _. IsUpdated };
+
+    ghost leaves = { λ _ _. LeavesUpdated };
 
     ghost blamed = { λ w. w ≡ word.New };
 
@@ -139,7 +177,9 @@ impl<'a, S: System> Work for Taking<'a, S> {
         &mut self,
         _rt: &R,
         data_block_size: usize,
+        is_trusted: bool,
     ) -> Result<(), Failure> {
+        self.is_trusted = is_trusted;
         let opened = self.opened.take().unwrap();
         self.new_store = Some(self.sources.store(opened, Part::All, data_block_size)?);
         Ok(())

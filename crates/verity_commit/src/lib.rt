@@ -3,7 +3,9 @@
 //! [`commit_editor`] is what the program does at each `commit` of a script: an editor of `verity_edit` commits to two staged stores
 //! (`verity_stage`), and what is staged goes through the journal to the devices (`verity_journal`).
 //!
-//! [`commit_line_editor`] is the same for an editor under a trusted table line.
+//! [`commit_line_editor`] is the same for an editor under a trusted table line. [`commit_editor_noted`] and [`commit_line_editor_noted`]
+//! tell a [`Notice`] of the commit once the editor has made it: any change of the devices comes after that. [`commit_editor_in_place`] and
+//! [`commit_line_editor_in_place`] do so over two files that have no journal.
 //!
 //! # The contract
 //!
@@ -14,11 +16,18 @@
 //!
 //! # Errors
 //!
-//! [`CommitFault`]: the editor's, and then the devices weren't touched; or the journal's.
+//! [`CommitFault`]: the editor's, and then the devices weren't touched; or the journal's. [`NotedFault`]: or the notice's, and then they
+//! weren't touched either.
 #![tactic(auto)]
 
 mod committing;
 mod fault;
+mod noted;
+mod notice;
+mod placing;
 
 pub use committing::{commit_editor, commit_line_editor};
 pub use fault::CommitFault;
+pub use noted::{commit_editor_noted, commit_line_editor_noted};
+pub use notice::{NotedFault, Notice};
+pub use placing::{PlaceFault, commit_editor_in_place, commit_line_editor_in_place};

@@ -33,6 +33,8 @@ word_name word.Idle = codes "--idle"
 word_name word.Journal = codes "--journal"
 word_name word.Timeout = codes "--timeout"
 word_name word.Slice = codes "--slice"
+word_name word.TableFile = codes "--table-file"
+word_name word.ToFile = codes "--to-file"
 
 -- what can stand for it
 abbrev pub word_wanted : Word → List ℕ
@@ -54,6 +56,9 @@ word_wanted word.Journal =
     codes "a path that leads neither to DATA nor to HASH; none, of edit and update, for no journal; a device has one only if named"
 word_wanted word.Timeout = codes "a count of seconds, in decimal digits, from 1 to 86400"
 word_wanted word.Slice = codes "K/N in decimal digits, the K-th of N, K from 1 to N, and N at most 65536; not beside --join"
+word_wanted word.TableFile =
+    codes "the path of a file that is neither DATA nor HASH nor the journal, in place of --table; not beside --slice"
+word_wanted word.ToFile = codes "the path of a file that is neither DATA nor HASH, in place of --to"
 
 -- decimal digits whose value fits 64 bits, however many
 abbrev pub is_decimal : List ℕ → Bool

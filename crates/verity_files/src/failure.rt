@@ -40,6 +40,8 @@ pub enum Word {
     Journal,
     Timeout,
     Slice,
+    TableFile,
+    ToFile,
 }
 
 impl fmt::Display for Word {
@@ -67,6 +69,8 @@ impl fmt::Display for Word {
             Word::Journal => "--journal",
             Word::Timeout => "--timeout",
             Word::Slice => "--slice",
+            Word::TableFile => "--table-file",
+            Word::ToFile => "--to-file",
         })
     }
 }
@@ -96,6 +100,9 @@ impl Word {
             Word::Timeout => "a count of seconds, in decimal digits, from 1 to 86400",
             Word::Slice =>
                 "K/N in decimal digits, the K-th of N, K from 1 to N, and N at most 65536; not beside --join",
+            Word::TableFile =>
+                "the path of a file that is neither DATA nor HASH nor the journal, in place of --table; not beside --slice",
+            Word::ToFile => "the path of a file that is neither DATA nor HASH, in place of --to",
         }
     }
 }

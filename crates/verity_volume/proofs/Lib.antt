@@ -1,1 +1,2 @@
+pub mod KeptCommits
 pub mod Printing

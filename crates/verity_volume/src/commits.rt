@@ -1,11 +1,13 @@
 //! How the commits of an editor reach a volume's files.
-ghost use Rattle.std.specs.Prelude.{◌≡◌, ◌⊎◌, Bool, IfOk, IfErr, false, true};
+ghost use Rattle.std.specs.Prelude.{◌≡◌, ◌⊎◌, ℕ, Bool, List, IfOk, IfErr, false, true};
 ghost use Rattle.verity_files.specs.Errors.{IsOfSystem};
+ghost use Rattle.verity_superblock.specs.Superblock.{Volume};
+ghost use Rattle.verity_volume.specs.Noting.{HasKeeper, IsNoted, WasNoted};
 
 use crate::edits::Edits;
 use crate::staging::StagedEdits;
 use os_journal::{FileKeeper, fault_of_disks, make_journal, names_of_volume};
-use verity_commit::CommitFault;
+use verity_commit::{CommitFault, NotedFault, Notice};
 use verity_edit::{Committed, EditFault};
 use verity_files::{Fault, Host, Opened, Paths};
 use verity_store::StoreFault;
@@ -21,14 +23,36 @@ pub trait Commits<V: Edits> {
     /// The system refused a call.
     ghost refuses: { Self → Bool };
 
-    /// Commits, and brings what was committed to the files. The editor comes back. S1 only where the system refused a call.
+    /// A call on what a commit keeps beside the files failed.
+    ghost fails: { Self → Type 0 };
+
+    /// Where a table line is kept in a file: it is that of this volume, with this root hash, and nothing else is there.
+    ghost holds: { Self → Volume → List ℕ → Type 0 };
+
+    /// What is kept beside the files went from the one to the other by commits alone.
+    ghost keeps: { Self → Self → Type 0 };
+
+    /// Any change of the volume's devices came after what is kept beside them was made ready for it.
+    ghost begins: { Self → Self → Type 0 };
+
+    /// Commits, and brings what was committed to the files. The editor comes back. S1 only where the system refused a call, or what is kept
+    /// beside the files failed.
     fn commit(&mut self, editor: V) -> (V, Result<Committed, Fault>)
         ensures done { IfOk result.1 (λ committed. (begun : V) × stands_for editor begun × V.commits begun result.0 committed) }
-        ensures system { IfErr result.1 (λ fault. fault ≡ Fault.Store StoreFault.Device → refuses self.old ≡ true) };
+        ensures system { IfErr result.1 (λ fault. fault ≡ Fault.Store StoreFault.Device → (refuses self.old ≡ true) ⊎ fails self.old) }
+        ensures held { IfOk result.1 (λ committed. holds self.new (V.volume result.0) committed.root) }
+        ensures kept { keeps self.old self.new }
+        ensures first { begins self.old self.new };
 
     /// Whether no commit is made any more, though the editor isn't broken.
     fn is_broken(&self) -> bool
         ensures { result ≡ stopped self.now };
+
+    /// No commit leaves it as it is.
+    ghost keeps_itself: { (c : Self) → keeps c c };
+
+    /// Commits, and then others.
+    ghost keeps_on: { (a b c : Self) → keeps a b → keeps b c → keeps a c };
 }
 
 /// The stores are the files: what was committed is there.
@@ -36,13 +60,25 @@ pub trait Commits<V: Edits> {
 pub struct Direct;
 
 impl<V: Edits> Commits<V> for Direct {
-    ghost use Rattle.std.specs.Prelude.{◌≡◌, false};
+    ghost use Rattle.std.specs.Prelude.{◌≡◌, false, ⊤};
 
     ghost stopped = { λ _. false };
 
     ghost stands_for = { λ editor begun. begun ≡ editor };
 
     ghost refuses = { λ _. false };
+
+    ghost fails = { λ _. ⊥ };
+
+    ghost holds = { λ _ _ _. ⊤ };
+
+    ghost keeps = { λ _ _. ⊤ };
+
+    ghost begins = { λ _ _. ⊤ };
+
+    ghost keeps_itself = { λ _. tt };
+
+    ghost keeps_on = { λ _ _ _ _ _. tt };
 
     fn commit(&mut self, editor: V) -> (V, Result<Committed, Fault>) {
         match editor.commit() {
@@ -126,10 +162,19 @@ impl<'a, P: Paths + AllocGlobal> Journalled<'a, P> {
         }
     }
 
+    /// Whether no commit is made any more, though the editor isn't broken.
+    pub(crate) fn is_stopped(&self) -> bool
+        ensures { result ≡ self.now.is_broken }
+    {
+        self.is_broken
+    }
+
     /// Makes ready for a commit: nothing is staged, and there is a journal.
     fn begin<V: StagedEdits>(&mut self, editor: &mut V) -> Result<(), Fault>
         ensures stands { (editor.new ≡ editor.old) ⊎ V.restaged editor.old editor.new }
         ensures system { IfErr result (λ fault. fault ≡ Fault.Store StoreFault.Device → P.refuses self.old.rt.now ≡ true) }
+        ensures keeper { HasKeeper self.old.keeper self.new.keeper }
+        ensures rt { self.new.rt.now ≡ self.old.rt.now }
     {
         if self.is_staged {
             let (data, hash) = self.files()?;
@@ -142,16 +187,74 @@ impl<'a, P: Paths + AllocGlobal> Journalled<'a, P> {
         }
         Ok(())
     }
+
+    /// Commits, and tells a notice of it before the files change. The editor comes back. S1 only where the system refused a call, or the
+    /// notice didn't let the commit go on. After that, as after a fault of the files, the editor is of no more use.
+    pub(crate) fn commit_noted<V: StagedEdits, N: Notice<Fault = Fault>>(
+        &mut self,
+        editor: V,
+        notice: &mut N,
+    ) -> (V, Result<Committed, Fault>)
+        ensures done { IfOk result.1 (λ committed. (begun : V) × ((begun ≡ editor) ⊎ V.restaged editor begun)
+            × V.commits begun result.0 committed) }
+        ensures noted { IsNoted N.Notice notice.old notice.new (V.volume result.0) result.1 }
+        ensures system { IfErr result.1 (λ fault. fault ≡ Fault.Store StoreFault.Device
+            → (P.refuses self.old.rt.now ≡ true) ⊎ N.declined notice.old notice.new fault) }
+        ensures first { HasKeeper self.old.keeper self.new.keeper ⊎ WasNoted N.Notice notice.old notice.new }
+        ensures rt { self.new.rt.now ≡ self.old.rt.now }
+    {
+        let mut current = editor;
+        if let Err(fault) = self.begin(&mut current) {
+            return (current, Err(fault));
+        }
+        let Some(keeper) = &mut self.keeper else {
+            return (current, Err(Fault::Journal));
+        };
+        let alloc = self.rt.alloc();
+        let uuid = current.superblock().uuid();
+        let Ok(names) = names_of_volume(alloc, uuid, self.offset, self.names) else {
+            return (current, Err(Fault::Store(StoreFault::NoMemory)));
+        };
+        let (editor, done) = current.commit_noted(alloc, keeper, &names, notice);
+        let answer = match done {
+            Ok(committed) => {
+                self.is_staged = true;
+                Ok(committed)
+            }
+            Err(NotedFault::Edit(_)) if editor.is_starved() => Err(Fault::Edit(
+                EditFault::NoMemory,
+            )),
+            Err(NotedFault::Edit(fault)) => Err(Fault::Edit(fault)),
+            Err(NotedFault::Notice(fault)) => Err(fault),
+            Err(NotedFault::Devices(fault)) => {
+                self.is_broken = true;
+                Err(fault_of_disks(&Host::new(self.rt), keeper, fault))
+            }
+        };
+        (editor, answer)
+    }
 }
 
 impl<'a, P: Paths + AllocGlobal, V: StagedEdits> Commits<V> for Journalled<'a, P> {
-    ghost use Rattle.std.specs.Prelude.{◌≡◌, ◌⊎◌};
+    ghost use Rattle.std.specs.Prelude.{◌≡◌, ◌⊎◌, ⊤};
 
     ghost stopped = { λ c. c.is_broken };
 
     ghost stands_for = { λ editor begun. (begun ≡ editor) ⊎ V.restaged editor begun };
 
     ghost refuses = { λ c. P.refuses c.rt.now };
+
+    ghost fails = { λ _. ⊥ };
+
+    ghost holds = { λ _ _ _. ⊤ };
+
+    ghost keeps = { λ _ _. ⊤ };
+
+    ghost begins = { λ _ _. ⊤ };
+
+    ghost keeps_itself = { λ _. tt };
+
+    ghost keeps_on = { λ _ _ _ _ _. tt };
 
     fn commit(&mut self, editor: V) -> (V, Result<Committed, Fault>) {
         let mut editor = editor;

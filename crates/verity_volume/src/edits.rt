@@ -48,9 +48,10 @@ pub trait Edits: Drop {
     fn broken(&self) -> bool
         ensures { result ≡ is_broken self.now };
 
-    /// Does one command and gives its reply. The editor comes back.
+    /// Does one command and gives its reply, which tells of a commit only where that is the command. The editor comes back.
     fn answer(self, command: &Command) -> (Self, Reply)
-        ensures { answers _ command.now self result.0 result.1 };
+        ensures answered { answers _ command.now self result.0 result.1 }
+        ensures committed { (c : Committed) → result.1 ≡ Reply.Committed c → command.now ≡ Command.Commit };
 
     /// Commits to the stores. The editor comes back.
     fn commit(self) -> (Self, Result<Committed, EditFault>)

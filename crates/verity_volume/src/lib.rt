@@ -9,6 +9,8 @@
 
 mod commits;
 mod edits;
+mod in_place;
+mod kept;
 mod lines;
 mod opened_volume;
 mod staging;
@@ -17,6 +19,8 @@ mod watching;
 
 pub use commits::{Commits, Direct, Journalled};
 pub use edits::Edits;
+pub use in_place::InPlace;
+pub use kept::{KeptLine, StagedCommits, Way};
 pub use lines::{Devices, LineParts, committed_line, print_superblock, table_line, table_of};
 pub use opened_volume::{OpenedVolume, Sizes, offset_of, open_both, open_volume};
 pub use staging::{OverFile, StagedEdits, StagedFile};

@@ -78,6 +78,19 @@ pub fn committed_line(
     ensures text { IfOk result (λ text. string_bytes text ≡ canonical (volume_line devices.entry superblock.now root)) }
     ensures refused { IfErr result IsOfLine }
 {
+    Ok(table_of_volume(alloc, devices, superblock, root)?.text()?)
+}
+
+/// The same line, not spelled yet. Refused as for `table_line`.
+pub(crate) fn table_of_volume(
+    alloc: Global,
+    devices: Devices<'_>,
+    superblock: &Superblock,
+    root: Digest,
+) -> Result<Table, Failure>
+    ensures value { IfOk result (λ table. table ≡ volume_line devices.entry superblock.now root) }
+    ensures refused { IfErr result IsOfLine }
+{
     let volume = LineParts {
         data_path: devices.data_path,
         hash_path: devices.hash_path,
@@ -87,7 +100,7 @@ pub fn committed_line(
         hash_start_block: devices.hash_start_block,
         salt: superblock.salt().bytes(),
     };
-    table_line(alloc, &volume, root)
+    table_of(alloc, &volume, root)
 }
 
 /// Prints a superblock, and where the levels of its tree stand, which begins at a hash block. Refused for want of memory, or where the

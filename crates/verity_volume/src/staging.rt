@@ -2,17 +2,22 @@
 ghost use Rattle.std.specs.Prelude.{◌≡◌, ◌*◌, ◌/◌, min, Bool, false, true, length, IfOk, IfErr, OnErr, OnOk};
 ghost use Rattle.verity_profile.specs.Profile.{IsBlockSize};
 ghost use Rattle.verity_files.specs.Lengths.{IsRagged};
+ghost use Rattle.verity_commit.specs.Noting.{IsBefore, IsTold};
 ghost use Rattle.verity_volume.specs.Refusals.{IsOfStore, IsOfStores};
 
 use crate::edits::Edits;
 use os_journal::FileKeeper;
 use std::alloc::Global;
-use verity_commit::{CommitFault, commit_editor, commit_line_editor};
+use verity_commit::{
+    CommitFault, NotedFault, Notice, PlaceFault, commit_editor, commit_editor_in_place,
+    commit_editor_noted, commit_line_editor, commit_line_editor_in_place, commit_line_editor_noted,
+};
 use verity_edit::{Committed, EditFault, Editor};
 use verity_files::{Fault, Opened, Paths, VolumeStore, store_of_most};
+use verity_journal::DiskFault;
 use verity_line::LineEditor;
 use verity_stage::{Staged, StagedStore};
-use verity_store::{BlockStore, StoreFault, Which};
+use verity_store::{BlockStore, RawFile, StoreFault, Which};
 use verity_watch::{Meter, Watched};
 
 /// A store over one of a volume's files.
@@ -124,6 +129,30 @@ pub trait StagedEdits: Edits {
     ) -> (Self, Result<Committed, CommitFault>)
         ensures { IfOk result.1 (Self.commits self result.0) };
 
+    /// The same, where a notice is told of the commit before the first change of the files.
+    fn commit_noted<N: Notice>(
+        self,
+        alloc: Global,
+        keeper: &mut FileKeeper,
+        names: &[u8],
+        notice: &mut N,
+    ) -> (Self, Result<Committed, NotedFault<N::Fault, DiskFault>>)
+        ensures done { IfOk result.1 (Self.commits self result.0) }
+        ensures noted { IsTold N.Notice notice.old notice.new (Self.volume result.0) result.1 }
+        ensures untouched { IsBefore result.1 → keeper.new ≡ keeper.old };
+
+    /// The same, where what is staged is written in place to two files that have no journal.
+    fn commit_in_place<F: RawFile, N: Notice>(
+        self,
+        data_file: &mut F,
+        hash_file: &mut F,
+        notice: &mut N,
+    ) -> (Self, Result<Committed, NotedFault<N::Fault, PlaceFault>>)
+        ensures done { IfOk result.1 (Self.commits self result.0) }
+        ensures noted { IsTold N.Notice notice.old notice.new (Self.volume result.0) result.1 }
+        ensures untouched_data { IsBefore result.1 → data_file.new ≡ data_file.old }
+        ensures untouched_hash { IsBefore result.1 → hash_file.new ≡ hash_file.old };
+
     /// Whether a commit failed since memory for what is staged was refused.
     fn is_starved(&self) -> bool
         ensures { result ≡ starved self.now };
@@ -161,6 +190,29 @@ impl<D: StagedFile, H: StagedFile> StagedEdits for Editor<D, H> {
         (editor, done)
     }
 
+    fn commit_noted<N: Notice>(
+        self,
+        alloc: Global,
+        keeper: &mut FileKeeper,
+        names: &[u8],
+        notice: &mut N,
+    ) -> (Self, Result<Committed, NotedFault<N::Fault, DiskFault>>) {
+        let mut editor = self;
+        let done = commit_editor_noted(alloc, keeper, names, &mut editor, notice);
+        (editor, done)
+    }
+
+    fn commit_in_place<F: RawFile, N: Notice>(
+        self,
+        data_file: &mut F,
+        hash_file: &mut F,
+        notice: &mut N,
+    ) -> (Self, Result<Committed, NotedFault<N::Fault, PlaceFault>>) {
+        let mut editor = self;
+        let done = commit_editor_in_place(data_file, hash_file, &mut editor, notice);
+        (editor, done)
+    }
+
     fn is_starved(&self) -> bool {
         let (data_store, hash_store) = stores_of(self);
         data_store.is_starved() || hash_store.is_starved()
@@ -195,6 +247,25 @@ impl<D: StagedFile, H: StagedFile> StagedEdits for LineEditor<D, H> {
         names: &[u8],
     ) -> (Self, Result<Committed, CommitFault>) {
         commit_line_editor(alloc, keeper, names, self)
+    }
+
+    fn commit_noted<N: Notice>(
+        self,
+        alloc: Global,
+        keeper: &mut FileKeeper,
+        names: &[u8],
+        notice: &mut N,
+    ) -> (Self, Result<Committed, NotedFault<N::Fault, DiskFault>>) {
+        commit_line_editor_noted(alloc, keeper, names, self, notice)
+    }
+
+    fn commit_in_place<F: RawFile, N: Notice>(
+        self,
+        data_file: &mut F,
+        hash_file: &mut F,
+        notice: &mut N,
+    ) -> (Self, Result<Committed, NotedFault<N::Fault, PlaceFault>>) {
+        commit_line_editor_in_place(data_file, hash_file, self, notice)
     }
 
     fn is_starved(&self) -> bool {

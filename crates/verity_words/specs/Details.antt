@@ -3,10 +3,19 @@ use Rattle.std.specs.Prelude.{ℕ, List, [], ◌++◌, Option, Some, None, codes
 use Rattle.std.specs.Fmt.{decimal}
 use Rattle.verity_words.specs.declared.looking.Detail.{Detail as Seen}
 use Rattle.verity_words.specs.declared.looking.Detail.TheVariants as seen
+use Rattle.verity_words.specs.declared.looking.Subject.{Subject}
+use Rattle.verity_words.specs.declared.looking.Subject.TheVariants as about
 
 -- two numbers, with what stands in front of each of them
 abbrev pub two_numbers : List ℕ → ℕ → List ℕ → ℕ → List ℕ
 two_numbers before first between second = before ++ (decimal first ++ (between ++ decimal second))
+
+-- what it is about
+abbrev pub subject_text : Subject → List ℕ
+subject_text (about.Named name) = name.now
+subject_text (about.Line file) = codes "the line in " ++ file.now
+subject_text (about.Next file) = file.now ++ codes ".next"
+subject_text (about.Both file) = file.now ++ (codes " and " ++ (file.now ++ codes ".next"))
 
 -- its text; what the system says is the system's own
 abbrev pub detail_text : Seen → Option (List ℕ)

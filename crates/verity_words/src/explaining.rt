@@ -4,8 +4,9 @@
 //! table of `plain_words`; what more there is to say of a file is found by a second look at it. What can't be written is
 //! passed over: the status and the line on standard output stand.
 
-use crate::looking::{Detail, look};
-use crate::parts::{Parts, parts_of};
+use crate::line_files::{LineSeen, is_of_pull, opened, table_file, to_file};
+use crate::looking::{Detail, Subject, look};
+use crate::parts::{Parts, parts_with};
 use crate::words::Request;
 use clap::error::ErrorKind;
 use os_system::Notes;
@@ -15,9 +16,10 @@ use std::io::Write;
 use std::rt::Files;
 use verity_files::{Failure, Fault, Word, block_size};
 use verity_script::Line;
+use verity_superblock::TableFault;
 
 /// Says why a command stopped, beside what was seen of devices at servers.
-pub fn explain<R: Files<File = File>, E: Write>(
+pub fn explain<R: Files<File = File> + AllocGlobal, E: Write>(
     rt: &R,
     request: Request<'_>,
     notes: &Notes,
@@ -25,7 +27,7 @@ pub fn explain<R: Files<File = File>, E: Write>(
     errors: &mut E,
 ) {
     match failure {
-        Failure::Refused(fault) => explain_fault(rt, parts_of(request), notes, fault, errors),
+        Failure::Refused(fault) => explain_refused(rt, request, notes, fault, errors),
         Failure::Word(word) if matches!(request, Request::Pull(_)) => explain_made(word, errors),
         failure => explain_words(failure, errors),
     }
@@ -38,7 +40,7 @@ pub fn explain_words<E: Write>(failure: Failure, errors: &mut E) {
             let wanted = word.wanted();
             writeln!(errors, "dalgovuun: {word}: {wanted}")
         }
-        Failure::Refused(fault) => tell(errors, "the volume", &Detail::None, fault),
+        Failure::Refused(fault) => tell(errors, Subject::Named("the volume"), &Detail::None, fault),
         Failure::NoMemory => writeln!(errors, "dalgovuun: memory was refused"),
         Failure::Output => writeln!(errors, "dalgovuun: standard output can't be written"),
     };
@@ -110,7 +112,22 @@ pub fn explain_recovered<E: Write>(path: &str, errors: &mut E) {
     );
 }
 
-fn explain_fault<R: Files<File = File>, E: Write>(
+/// Says why a command was refused. Where its line stands in a file, what that holds by now counts.
+fn explain_refused<R: Files<File = File> + AllocGlobal, E: Write>(
+    rt: &R,
+    request: Request<'_>,
+    notes: &Notes,
+    fault: Fault,
+    errors: &mut E,
+) {
+    let own = opened(rt, table_file(request));
+    let source = opened(rt, to_file(request));
+    let own = LineSeen::new(table_file(request), &own);
+    let source = LineSeen::new(to_file(request), &source);
+    explain_fault(rt, parts_with(request, own, source), notes, fault, errors);
+}
+
+fn explain_fault<R: Files<File = File> + AllocGlobal, E: Write>(
     rt: &R,
     parts: Parts<'_>,
     notes: &Notes,
@@ -118,7 +135,14 @@ fn explain_fault<R: Files<File = File>, E: Write>(
     errors: &mut E,
 ) {
     let (subject, detail) = look(rt, parts, notes, fault);
-    let _ = tell(errors, subject, &detail, fault);
+    let _ = match subject {
+        Subject::Next(file) if fault == Fault::UnderWay && is_of_pull(parts) => {
+            tell_pulling(errors, file, fault)
+        }
+        Subject::Next(file) if fault == Fault::UnderWay => tell_under_way(errors, file, fault),
+        Subject::Both(file) => tell_unsettled(errors, file, fault),
+        subject => tell(errors, subject, &detail, fault),
+    };
 }
 
 /// What a line of a script asked for that wasn't done, and why; of a line that is none, nothing.
@@ -149,7 +173,8 @@ pub fn explain_line<E: Write>(place: Where<'_>, refusal: Refusal<'_>, errors: &m
         }
         Refusal::Refused(asked, fault) => {
             let _ = write!(errors, "dalgovuun: {script}:{line}");
-            tell_of(errors, &asked_for(place, asked), fault)
+            let next = fault.number().meaning().next;
+            tell_of(errors, &asked_for(place, asked), fault, next)
         }
     };
 }
@@ -169,26 +194,66 @@ fn asked_for(place: Where<'_>, asked: Line<'_>) -> Detail<'static> {
 /// A line: what it is about, what is wrong, by which fault, and what to do next.
 fn tell<E: Write>(
     errors: &mut E,
-    subject: &str,
+    subject: Subject<'_>,
     detail: &Detail<'_>,
     fault: Fault,
 ) -> io::Result<()> {
+    let next = match (subject, fault) {
+        (Subject::Line(_), Fault::Table(TableFault::Fields)) => PUT_THERE,
+        _ => fault.number().meaning().next,
+    };
     write!(errors, "dalgovuun: {subject}")?;
-    tell_of(errors, detail, fault)
+    tell_of(errors, detail, fault, next)
+}
+
+/// What to do about a file that holds no table line.
+const PUT_THERE: &str = "put the line there that format, edit, update or pull printed";
+
+/// Says that FILE.next stands in the way.
+fn tell_under_way<E: Write>(errors: &mut E, file: &str, fault: Fault) -> io::Result<()> {
+    write!(
+        errors,
+        "dalgovuun: {file}.next: a commit of this volume is under way, or was cut short ({fault}); "
+    )?;
+    writeln!(errors, "run recover DATA HASH --table-file {file}")
+}
+
+/// Says that a pull stands in the way, by FILE.next.
+fn tell_pulling<E: Write>(errors: &mut E, file: &str, fault: Fault) -> io::Result<()> {
+    writeln!(
+        errors,
+        "dalgovuun: {file}.next: a pull of this volume is under way, or was cut short ({fault}); run that pull again"
+    )
+}
+
+/// Says that neither FILE's line nor FILE.next's is the volume's.
+fn tell_unsettled<E: Write>(errors: &mut E, file: &str, fault: Fault) -> io::Result<()> {
+    let what = fault.number().meaning().what;
+    write!(
+        errors,
+        "dalgovuun: {file} and {file}.next: neither has the line of this volume: {what} ({fault}); both stay: "
+    )?;
+    writeln!(
+        errors,
+        "name the volume's own DATA and HASH, or put the line that was printed for it last in {file} and remove {file}.next"
+    )
 }
 
 /// The rest of a line, from what is wrong on.
-fn tell_of<E: Write>(errors: &mut E, detail: &Detail<'_>, fault: Fault) -> io::Result<()> {
-    let meaning = fault.number().meaning();
-    let what = meaning.what;
+fn tell_of<E: Write>(
+    errors: &mut E,
+    detail: &Detail<'_>,
+    fault: Fault,
+    next: &str,
+) -> io::Result<()> {
+    let what = fault.number().meaning().what;
     write!(errors, ": {what}")?;
     if let Some(cause) = fault.cause() {
         let why = cause.meaning().what;
         write!(errors, ": {why}")?;
     }
     write!(errors, "{detail} ({fault})")?;
-    if !meaning.next.is_empty() {
-        let next = meaning.next;
+    if !next.is_empty() {
         write!(errors, "; {next}")?;
     }
     writeln!(errors)

@@ -3,6 +3,7 @@
 #![tactic(auto)]
 
 mod explaining;
+mod line_files;
 mod looking;
 mod parts;
 mod pulling;
@@ -14,6 +15,7 @@ pub use explaining::{
     Refusal, Where, explain, explain_block_size, explain_corrupt, explain_line, explain_no_journal,
     explain_recovered, explain_unused_line, explain_usage, explain_words,
 };
+pub use line_files::{table_file, to_file};
 pub use serving::explain_served;
 pub use slicing::{around, slice};
 pub use words::{

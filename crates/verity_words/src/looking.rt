@@ -1,5 +1,6 @@
 //! A second look at what a command was refused for: which file or word it is, and what is seen there.
 
+use crate::line_files::{look_at_folder, look_at_line_files};
 use crate::parts::{Parts, field};
 use crate::pulling::look_at_pull;
 use os_system::{Notes, is_url};
@@ -34,7 +35,7 @@ pub enum Detail<'a> {
     Few(u64, u64),
     /// So many fields.
     Fields(usize),
-    /// The text that was found.
+    /// The text that was found, or what else it is.
     Text(&'a str),
     /// The number that was found.
     Number(u64),
@@ -70,8 +71,56 @@ impl fmt::Display for Detail<'_> {
     }
 }
 
+/// What a fault is about.
+#[derive(Clone, Copy, Debug)]
+pub enum Subject<'a> {
+    /// A path, an argument, an option, or what else is named so.
+    Named(&'a str),
+    /// The line in this file.
+    Line(&'a str),
+    /// FILE.next of this FILE: a commit or a pull is under way.
+    Next(&'a str),
+    /// A volume of which neither this FILE nor its FILE.next has the line.
+    Both(&'a str),
+}
+
+impl fmt::Display for Subject<'_> {
+    ghost use Rattle.verity_words.specs.Details.{subject_text};
+    ghost use Rattle.std.specs.Prelude.{Some};
+
+    ghost output = { λ subject. Some (subject_text subject) };
+
+    fn fmt<W: fmt::Write>(&self, f: &mut fmt::Formatter<W>) -> fmt::Result {
+        match self {
+            Subject::Named(name) => f.write_str(name),
+            Subject::Line(file) => write!(f, "the line in {file}"),
+            Subject::Next(file) => write!(f, "{file}.next"),
+            Subject::Both(file) => write!(f, "{file} and {file}.next"),
+        }
+    }
+}
+
 /// What a fault of a command is about, and what is seen there.
-pub fn look<'a, R: Files<File = File>>(
+pub fn look<'a, R: Files<File = File> + AllocGlobal>(
+    rt: &R,
+    parts: Parts<'a>,
+    notes: &Notes,
+    fault: Fault,
+) -> (Subject<'a>, Detail<'a>) {
+    match look_at_line_files(rt, parts, fault) {
+        Some(seen) => seen,
+        None => {
+            let (subject, detail) = look_at_all_else(rt, parts, notes, fault);
+            match (fault, &detail, look_at_folder(parts)) {
+                (Fault::Store(StoreFault::Device), Detail::None, Some(seen)) => seen,
+                _ => (Subject::Named(subject), detail),
+            }
+        }
+    }
+}
+
+/// The same, where it isn't FILE.
+fn look_at_all_else<'a, R: Files<File = File>>(
     rt: &R,
     parts: Parts<'a>,
     notes: &Notes,

@@ -1,6 +1,9 @@
 //! What a command works on, as its words name it.
 
-use crate::words::Request;
+use crate::line_files::LineSeen;
+use crate::words::{
+    EditWords, PullWords, Request, ServeWords, TalkWords, UpdateWords, VerifyWords,
+};
 use os_system::is_url;
 use verity_files::Command;
 use verity_store::Which;
@@ -18,6 +21,10 @@ pub struct Parts<'a> {
     pub read: &'a str,
     pub address: &'a str,
     pub line: &'a str,
+    /// FILE, which has the line or is to have it.
+    pub own: LineSeen<'a>,
+    /// The file of the line that a pull is to reach.
+    pub source: LineSeen<'a>,
     pub data_size: u64,
     pub hash_size: u64,
     pub data_blocks: u64,
@@ -58,8 +65,56 @@ impl<'a> Parts<'a> {
     }
 }
 
+/// What a command works on whose line stands in a file, as that is by now.
+pub fn parts_with<'a>(request: Request<'a>, own: LineSeen<'a>, source: LineSeen<'a>) -> Parts<'a> {
+    Parts {
+        own,
+        source,
+        ..parts_of(with_lines(request, own.line(), source.line()))
+    }
+}
+
+/// The words with the lines that their files hold.
+fn with_lines<'a>(request: Request<'a>, own: &'a str, source: &'a str) -> Request<'a> {
+    match request {
+        Request::Verify(words) if words.table_file.is_some() => {
+            Request::Verify(VerifyWords {
+                table: own,
+                ..words
+            })
+        }
+        Request::Serve(words) if words.table_file.is_some() => {
+            Request::Serve(ServeWords {
+                table: own,
+                ..words
+            })
+        }
+        Request::Talk(words) if words.table_file.is_some() => {
+            Request::Talk(TalkWords {
+                table: own,
+                ..words
+            })
+        }
+        Request::Edit(words) if words.table_file.is_some() => Request::Edit(EditWords {
+            table: Some(own),
+            ..words
+        }),
+        Request::Update(words) if words.table_file.is_some() => Request::Update(UpdateWords {
+            table: Some(own),
+            ..words
+        }),
+        Request::Pull(words) if words.to_file.is_some() => {
+            Request::Pull(PullWords {
+                to: source,
+                ..words
+            })
+        }
+        request => request,
+    }
+}
+
 /// What a command works on.
-pub fn parts_of<'a>(request: Request<'a>) -> Parts<'a> {
+fn parts_of<'a>(request: Request<'a>) -> Parts<'a> {
     match request {
         Request::Scratch => Parts {
             read: "standard input",
@@ -142,6 +197,8 @@ fn no_parts<'a>(command: Command) -> Parts<'a> {
         read: "",
         address: "",
         line: "",
+        own: LineSeen::none(),
+        source: LineSeen::none(),
         data_size: 0,
         hash_size: 0,
         data_blocks: 0,

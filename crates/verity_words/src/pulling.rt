@@ -92,9 +92,11 @@ fn is_shut_out<R: Files<File = File>>(rt: &R, path: &str, which: Which) -> bool 
     }
 }
 
-/// Which of the fields is wrong, where but one line was named.
+/// Which of the fields is wrong, where but one line was named; that of a file isn't.
 fn look_at_lines<'a>(parts: Parts<'a>, fault: TableFault) -> (&'a str, Detail<'a>) {
-    if parts.line.is_empty() {
+    if parts.source.is_named() {
+        ("--table", Detail::None)
+    } else if parts.line.is_empty() {
         ("--to or --table", Detail::None)
     } else {
         ("--to", look_at_line(parts.line, fault))

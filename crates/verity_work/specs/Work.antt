@@ -11,6 +11,8 @@ use Rattle.verity_files.specs.declared.paths.Paths.{Ghosts}
 use Rattle.verity_work.specs.Journals.{IsInVolume}
 use Rattle.verity_volume.specs.Opening.{IsOneFile}
 use Rattle.verity_volume.specs.declared.lines.Devices.{Devices}
+use Rattle.verity_volume.specs.Kept.{LeftLine}
+use Rattle.verity_work.specs.LineFiles.{IsTakenForLine}
 use Rattle.verity_work.specs.declared.work.Words.{Words}
 
 -- what a work prints, by the bytes that are read at a path, over a volume on these devices, and its status
@@ -21,6 +23,15 @@ Prints T = T → (List ℕ → Option (List ℕ)) → Devices → Option (List �
 abbrev pub PrintsAsBefore : {T : Type 0} → Prints T → (old new : T) → Type 0
 PrintsAsBefore prints old new = (text : List ℕ → Option (List ℕ)) (devices : Devices) (before after : Option (List ℕ)) (status : ℕ)
     → prints new text devices before after status → prints old text devices before after status
+
+-- what a work prints, likewise, its status, and what its commits leave of a table line that is kept with them
+abbrev pub Leaves : Type 0 → Type 1
+Leaves T = T → (List ℕ → Option (List ℕ)) → Devices → Option (List ℕ) → Option (List ℕ) → ℕ → LeftLine → Type 0
+
+-- what the work leaves as it is by now is what it was to leave
+abbrev pub LeavesAsBefore : {T : Type 0} → Leaves T → (old new : T) → Type 0
+LeavesAsBefore leaves old new = (text : List ℕ → Option (List ℕ)) (devices : Devices) (before after : Option (List ℕ)) (status : ℕ)
+    (left : LeftLine) → leaves new text devices before after status left → leaves old text devices before after status left
 
 -- this over the devices at these paths
 abbrev pub IsDoneAt : (Devices → Option (List ℕ) → Option (List ℕ) → ℕ → Type 0) → (data_path hash_path : List ℕ)
@@ -51,9 +62,11 @@ abbrev pub IsTakenForJournal : {P : Type 0} → Ghosts P → P → Option (Bor (
 IsTakenForJournal facts p journal data_path hash_path = (image device : Opened) × facts.opens p data_path image
     × facts.opens p hash_path device × IsInVolume facts p journal hash_path image.identity device.identity
 
--- no word is blamed but HASH, as one file was opened at both paths, the journal, as one of the two was opened at its own, and these
+-- no word is blamed but HASH, as one file was opened at both paths, the journal, as one of the two was opened at its own, FILE, as it or
+-- FILE.next is one of the three, and these
 abbrev pub BlamesOver : {P : Type 0} → Ghosts P → P → Words → (Word → Type 0) → Type 0 → Failure → Type 0
 BlamesOver facts p words own reason (failure.Word other) = (own other × reason)
     ⊎ (((other ≡ word.Hash) × IsOneFile facts p words.data_path.now words.hash_path.now)
-    ⊎ ((other ≡ word.Journal) × IsTakenForJournal facts p words.journal words.data_path.now words.hash_path.now))
+    ⊎ (((other ≡ word.Journal) × IsTakenForJournal facts p words.journal words.data_path.now words.hash_path.now)
+    ⊎ ((other ≡ word.TableFile) × IsTakenForLine facts p words.table_file words.journal words.data_path.now words.hash_path.now)))
 BlamesOver facts p words own reason _ = ⊤

@@ -9,6 +9,7 @@
 //! The definitions stand in `specs/`: `Work` (what a work prints, and which words it blames).
 #![tactic(auto)]
 
+mod line_files;
 mod over;
 mod rest;
 mod running;

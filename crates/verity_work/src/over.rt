@@ -5,23 +5,38 @@ ghost use Rattle.verity_files.specs.declared.opening.Opened.{Opened};
 ghost use Rattle.verity_files.specs.Errors.{IsOfSystem, IsS1For};
 ghost use Rattle.verity_gate.specs.Refusals.{BlamesNone, BlamesAtMost};
 ghost use Rattle.verity_work.specs.Journals.{IsJournalPath, IsOneOf};
-ghost use Rattle.verity_work.specs.Work.{BlamesOver, BlamesOwn, IsDoneAt, IsReasonAt, PrintsAsBefore};
+ghost use Rattle.verity_work.specs.LineFiles.{FileFails, IsKeptAt, IsLeftAt};
+ghost use Rattle.verity_volume.specs.Kept.{system_of};
+ghost use Rattle.verity_work.specs.Work.{BlamesOver, BlamesOwn, IsDoneAt, IsReasonAt, LeavesAsBefore, PrintsAsBefore};
 
+use crate::line_files::{check_line_file, close_file, kept_line};
 use crate::ways::{Given, do_in_place, do_staged};
 use crate::work::{Words, Work};
 use os_journal::{FileKeeper, journal_path, recover_at, volume_names};
+use os_line_file::LineFolders;
 use std::io::{Eprint, Write};
 use std::time::Clock;
-use verity_files::{Failure, Host, Opened, Paths};
+use verity_files::{Failure, Host, Opened, Paths, System, VolumeStore};
 use verity_gate::check_other_gate;
-use verity_store::StoreFault;
+use verity_store::{BlockStore, StoreFault};
 use verity_superblock::Table;
-use verity_volume::{Journalled, open_both};
+use verity_volume::{InPlace, Journalled, StagedCommits, Way, open_both};
 use verity_words::{explain_no_journal, explain_recovered};
 
 /// Opens both files and tells them apart, makes whole what stands in the journal, opens the volume, and does the work.
-pub fn do_over<R: Paths + Clock + Eprint + AllocGlobal, T: Work, W: Write, E: Write>(
-    rt: &R,
+///
+/// Where FILE is named, it is none of these files. Once the journal is whole, FILE.next is settled, and FILE's line, where it is there, is
+/// trusted; each commit leaves its own line there. Without a journal commits are staged in memory then, and written in place.
+pub fn do_over<
+    'r,
+    R: Paths + Clock + Eprint + AllocGlobal,
+    L: LineFolders,
+    T: Work,
+    W: Write,
+    E: Write,
+>(
+    rt: &'r R,
+    folders: &mut L,
     words: &Words<'_>,
     work: &mut T,
     output: &mut W,
@@ -29,9 +44,15 @@ pub fn do_over<R: Paths + Clock + Eprint + AllocGlobal, T: Work, W: Write, E: Wr
 ) -> Result<u8, Failure>
     ensures done { IfOk result (λ status. IsDoneAt (T.prints work.old (R.text rt.now)) words.now.data_path.now words.now.hash_path.now
         (W.contents output.old) (W.contents output.new) status) }
+    ensures kept { IfOk result (λ status. IsKeptAt R.Paths ⟦<Host<'r, R> as System>⟧ ⟦<VolumeStore as BlockStore>⟧ L.LineFolders
+        L.Folder.LineFolder rt.now words.now.data_path.now words.now.hash_path.now folders.old folders.new words.now.table_file
+        (T.leaves work.old (R.text rt.now)) (W.contents output.old) (W.contents output.new) status) }
+    ensures left { IfErr result (IsLeftAt R.Paths ⟦<Host<'r, R> as System>⟧ ⟦<VolumeStore as BlockStore>⟧ L.LineFolders
+        L.Folder.LineFolder rt.now words.now.data_path.now words.now.hash_path.now folders.old folders.new words.now.table_file) }
     ensures blames { IfErr result (BlamesOver R.Paths rt.now words.now T.blamed (IsReasonAt (T.reason work.old (R.opens rt.now))
         (R.opens rt.now) words.now.data_path.now words.now.hash_path.now)) }
-    ensures system { IfErr result (IsS1For ((R.refuses rt.now ≡ true) ⊎ T.fails work.old)) }
+    ensures system { IfErr result (IsS1For (((R.refuses rt.now ≡ true) ⊎ T.fails work.old)
+        ⊎ FileFails L.LineFolders L.Folder.LineFolder folders.old words.now.table_file)) }
 {
     let line = match words.table {
         Some(text) => Some(Table::parse(rt.alloc(), text)?),
@@ -40,13 +61,15 @@ pub fn do_over<R: Paths + Clock + Eprint + AllocGlobal, T: Work, W: Write, E: Wr
     let (data, hash) = open_both(rt, words.data_path, words.hash_path, words.command)?;
     let given = Given { line, data, hash };
     begin(rt, words, work, &given.data, &given.hash)?;
-    match journal_of(rt, words, &given.hash)? {
-        Some(path) => do_through(rt, words, work, &path, given, output, errors),
+    let path = journal_of(rt, words, &given.hash)?;
+    check_line_file(rt, words, &path)?;
+    match path {
+        Some(path) => do_through(rt, folders, words, work, &path, given, output, errors),
         None => {
             if words.journal.is_none() {
                 explain_no_journal(words.hash_path, errors);
             }
-            do_in_place(rt, words, work, given, output, errors)
+            do_without(rt, folders, words, work, given, output, errors)
         }
     }
 }
@@ -63,6 +86,7 @@ fn begin<R: Paths + AllocGlobal, T: Work>(
     requires hash { R.opens rt.now words.now.hash_path.now hash.now }
     ensures begun { OnOk result (T.begun work.new) }
     ensures prints { PrintsAsBefore T.prints work.old work.new }
+    ensures leaves { LeavesAsBefore T.leaves work.old work.new }
     ensures fails { T.fails work.new → T.fails work.old }
     ensures blames { IfErr result (BlamesOwn T.blamed (IsReasonAt (T.reason work.old (R.opens rt.now)) (R.opens rt.now)
         words.now.data_path.now words.now.hash_path.now)) }
@@ -93,8 +117,16 @@ fn journal_of<R: Paths + AllocGlobal>(
 }
 
 /// Works through a journal, which is removed at the end where its gate is closed.
-fn do_through<R: Paths + Clock + Eprint + AllocGlobal, T: Work, W: Write, E: Write>(
-    rt: &R,
+fn do_through<
+    'r,
+    R: Paths + Clock + Eprint + AllocGlobal,
+    L: LineFolders,
+    T: Work,
+    W: Write,
+    E: Write,
+>(
+    rt: &'r R,
+    folders: &mut L,
     words: &Words<'_>,
     work: &mut T,
     path: &str,
@@ -103,13 +135,21 @@ fn do_through<R: Paths + Clock + Eprint + AllocGlobal, T: Work, W: Write, E: Wri
     errors: &mut E,
 ) -> Result<u8, Failure>
     requires ready { T.begun work.old }
+    requires data { IfOk given.«data» (R.opens rt.now words.now.data_path.now) }
+    requires hash { R.opens rt.now words.now.hash_path.now given.hash }
     requires missing { IfErr given.«data» (IsOfSystem (R.refuses rt.now ≡ true)) }
     ensures done { IfOk result (λ status. IsDoneAt (T.prints work.old (R.text rt.now)) words.now.data_path.now words.now.hash_path.now
         (W.contents output.old) (W.contents output.new) status) }
+    ensures kept { IfOk result (λ status. IsKeptAt R.Paths ⟦<Host<'r, R> as System>⟧ ⟦<VolumeStore as BlockStore>⟧ L.LineFolders
+        L.Folder.LineFolder rt.now words.now.data_path.now words.now.hash_path.now folders.old folders.new words.now.table_file
+        (T.leaves work.old (R.text rt.now)) (W.contents output.old) (W.contents output.new) status) }
+    ensures left { IfErr result (IsLeftAt R.Paths ⟦<Host<'r, R> as System>⟧ ⟦<VolumeStore as BlockStore>⟧ L.LineFolders
+        L.Folder.LineFolder rt.now words.now.data_path.now words.now.hash_path.now folders.old folders.new words.now.table_file) }
     ensures word { IfErr result (λ e. e ≡ Failure.Word word.Journal → (image : Opened) × (given.«data» ≡ Ok image)
         × IsOneOf R.Paths rt.now path.now image.identity given.hash.identity) }
     ensures refused { IfErr result (BlamesAtMost word.Journal) }
-    ensures system { IfErr result (IsS1For ((R.refuses rt.now ≡ true) ⊎ T.fails work.old)) }
+    ensures system { IfErr result (IsS1For (((R.refuses rt.now ≡ true) ⊎ T.fails work.old)
+        ⊎ FileFails L.LineFolders L.Folder.LineFolder folders.old words.now.table_file)) }
 {
     let Given { line, data, hash } = given;
     let Ok(data) = data else {
@@ -123,9 +163,103 @@ fn do_through<R: Paths + Clock + Eprint + AllocGlobal, T: Work, W: Write, E: Wri
         hash.identity,
         words.hash_path,
     )?;
-    let mut commits = journalled(rt, words, path, &names, &data, &hash, errors)?;
+    let way = Way::Journalled(journalled(rt, words, path, &names, &data, &hash, errors)?);
+    let files = Both { line, data, hash };
+    do_by(rt, folders, words, work, way, files, output, errors)
+}
+
+/// Works without a journal: on the files themselves, or, where FILE is named, by what is staged and written in place.
+fn do_without<
+    'r,
+    R: Paths + Clock + Eprint + AllocGlobal,
+    L: LineFolders,
+    T: Work,
+    W: Write,
+    E: Write,
+>(
+    rt: &'r R,
+    folders: &mut L,
+    words: &Words<'_>,
+    work: &mut T,
+    given: Given,
+    output: &mut W,
+    errors: &mut E,
+) -> Result<u8, Failure>
+    requires ready { T.begun work.old }
+    requires data { IfOk given.«data» (R.opens rt.now words.now.data_path.now) }
+    requires hash { R.opens rt.now words.now.hash_path.now given.hash }
+    requires missing { IfErr given.«data» (IsOfSystem (R.refuses rt.now ≡ true)) }
+    ensures done { IfOk result (λ status. IsDoneAt (T.prints work.old (R.text rt.now)) words.now.data_path.now words.now.hash_path.now
+        (W.contents output.old) (W.contents output.new) status) }
+    ensures kept { IfOk result (λ status. IsKeptAt R.Paths ⟦<Host<'r, R> as System>⟧ ⟦<VolumeStore as BlockStore>⟧ L.LineFolders
+        L.Folder.LineFolder rt.now words.now.data_path.now words.now.hash_path.now folders.old folders.new words.now.table_file
+        (T.leaves work.old (R.text rt.now)) (W.contents output.old) (W.contents output.new) status) }
+    ensures left { IfErr result (IsLeftAt R.Paths ⟦<Host<'r, R> as System>⟧ ⟦<VolumeStore as BlockStore>⟧ L.LineFolders
+        L.Folder.LineFolder rt.now words.now.data_path.now words.now.hash_path.now folders.old folders.new words.now.table_file) }
+    ensures refused { IfErr result BlamesNone }
+    ensures system { IfErr result (IsS1For (((R.refuses rt.now ≡ true) ⊎ T.fails work.old)
+        ⊎ FileFails L.LineFolders L.Folder.LineFolder folders.old words.now.table_file)) }
+{
+    let Given { line, data, hash } = given;
+    match (data, words.table_file) {
+        (Ok(data), Some(_)) => {
+            let way = Way::InPlace(InPlace::new(rt, rt.again(&data)?, rt.again(&hash)?));
+            let files = Both { line, data, hash };
+            do_by(rt, folders, words, work, way, files, output, errors)
+        }
+        (data, _) => do_in_place(rt, words, work, Given { line, data, hash }, output, errors),
+    }
+}
+
+/// What a work is done over: the table line, where one is trusted, and what was opened at both paths.
+#[derive(Drop)]
+struct Both {
+    line: Option<Table>,
+    data: Opened,
+    hash: Opened,
+}
+
+/// Works by a way of what is staged to the files, once FILE is settled, where it is named. A journal is removed at the end where its
+/// gate is closed.
+fn do_by<'r, R: Paths + Clock + Eprint + AllocGlobal, L: LineFolders, T: Work, W: Write, E: Write>(
+    rt: &'r R,
+    folders: &mut L,
+    words: &Words<'_>,
+    work: &mut T,
+    way: Way<'_, R>,
+    files: Both,
+    output: &mut W,
+    errors: &mut E,
+) -> Result<u8, Failure>
+    requires ready { T.begun work.old }
+    requires same { system_of way ≡ rt.now }
+    requires data { R.opens rt.now words.now.data_path.now files.«data» }
+    requires hash { R.opens rt.now words.now.hash_path.now files.hash }
+    ensures done { IfOk result (λ status. IsDoneAt (T.prints work.old (R.text rt.now)) words.now.data_path.now words.now.hash_path.now
+        (W.contents output.old) (W.contents output.new) status) }
+    ensures kept { IfOk result (λ status. IsKeptAt R.Paths ⟦<Host<'r, R> as System>⟧ ⟦<VolumeStore as BlockStore>⟧ L.LineFolders
+        L.Folder.LineFolder rt.now words.now.data_path.now words.now.hash_path.now folders.old folders.new words.now.table_file
+        (T.leaves work.old (R.text rt.now)) (W.contents output.old) (W.contents output.new) status) }
+    ensures left { IfErr result (IsLeftAt R.Paths ⟦<Host<'r, R> as System>⟧ ⟦<VolumeStore as BlockStore>⟧ L.LineFolders
+        L.Folder.LineFolder rt.now words.now.data_path.now words.now.hash_path.now folders.old folders.new words.now.table_file) }
+    ensures refused { IfErr result BlamesNone }
+    ensures system { IfErr result (IsS1For (((R.refuses rt.now ≡ true) ⊎ T.fails work.old)
+        ⊎ FileFails L.LineFolders L.Folder.LineFolder folders.old words.now.table_file)) }
+{
+    let (kept, own) = match kept_line(rt, folders, words, &files.data, &files.hash) {
+        Ok(found) => found,
+        Err(failure) => {
+            way.end();
+            return Err(failure);
+        }
+    };
+    let line = match own {
+        Some(own) => Some(own),
+        None => files.line,
+    };
+    let mut commits = StagedCommits::new(way, kept);
     let done = do_staged(rt, words, line, work, &mut commits, output, errors);
-    commits.end();
+    close_file(folders, commits.end());
     done
 }
 

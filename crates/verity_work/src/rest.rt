@@ -16,6 +16,7 @@ pub(crate) struct Rest<'a> {
 pub(crate) fn rest_of<'a>(words: &Words<'a>, again: Opened, sizes: Sizes) -> Rest<'a>
     ensures data { result.devices.data_path.now ≡ words.now.data_path.now }
     ensures hash { result.devices.hash_path.now ≡ words.now.hash_path.now }
+    ensures start { result.devices.hash_start_block ≡ sizes.hash_start_block }
 {
     Rest {
         again,
@@ -27,6 +28,7 @@ pub(crate) fn rest_of<'a>(words: &Words<'a>, again: Opened, sizes: Sizes) -> Res
 fn devices_of<'a>(words: &Words<'a>, sizes: Sizes) -> Devices<'a>
     ensures data { result.data_path.now ≡ words.now.data_path.now }
     ensures hash { result.hash_path.now ≡ words.now.hash_path.now }
+    ensures start { result.hash_start_block ≡ sizes.hash_start_block }
 {
     Devices {
         data_path: words.data_path,

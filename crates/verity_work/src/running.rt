@@ -2,9 +2,11 @@
 ghost use Rattle.std.specs.Prelude.{◌≡◌, ◌⊎◌, true, IfOk, IfErr};
 ghost use Rattle.verity_files.specs.Errors.{IsS1For};
 ghost use Rattle.verity_gate.specs.Refusals.{BlamesNone};
+ghost use Rattle.verity_volume.specs.Kept.{HoldsLineOf, IsLeft, KeepsFileOf, LeftLine, LineFails, system_of};
 
 use crate::rest::Rest;
 use crate::work::Work;
+use os_line_file::LineFolder;
 use std::alloc::Global;
 use std::io::{Eprint, Write};
 use std::time::Clock;
@@ -14,7 +16,7 @@ use verity_line::LineEditor;
 use verity_store::BlockStore;
 use verity_superblock::Table;
 use verity_update::Edited;
-use verity_volume::{Direct, Edits, Journalled, StagedEdits};
+use verity_volume::{Direct, Edits, StagedCommits, StagedEdits};
 
 /// Does the work over an editor, where one was opened, whose stores are the files themselves.
 pub(crate) fn run_direct<
@@ -51,9 +53,10 @@ pub(crate) fn run_direct<
     }
 }
 
-/// Does the work over an editor, where one was opened, whose commits go through a journal.
-pub(crate) fn run_journalled<
+/// Does the work over an editor, where one was opened, whose stores are staged.
+pub(crate) fn run_by<
     R: Paths + Clock + Eprint + AllocGlobal,
+    F: LineFolder,
     T: Work,
     V: StagedEdits + Edited,
     W: Write,
@@ -62,17 +65,22 @@ pub(crate) fn run_journalled<
     rt: &R,
     work: &mut T,
     opened: Result<V, EditFault>,
-    commits: &mut Journalled<'_, R>,
+    commits: &mut StagedCommits<'_, R, F>,
     rest: Rest<'_>,
     output: &mut W,
     errors: &mut E,
 ) -> Result<u8, Failure>
     requires ready { T.seen work.old }
-    requires same { commits.old.rt.now ≡ rt.now }
+    requires same { system_of commits.old.way ≡ rt.now }
     ensures done { IfOk result (λ status. T.prints work.old (R.text rt.now) rest.entry.devices
         (W.contents output.old) (W.contents output.new) status) }
+    ensures kept { IfOk result (λ status. (left : LeftLine) × T.leaves work.old (R.text rt.now) rest.entry.devices
+        (W.contents output.old) (W.contents output.new) status left
+        × IsLeft (λ c. HoldsLineOf F.LineFolder c.line) commits.old commits.new left) }
+    ensures lasting { KeepsFileOf F.LineFolder commits.old.line commits.new.line }
     ensures blames { IfErr result BlamesNone }
-    ensures system { IfErr result (IsS1For ((R.refuses rt.now ≡ true) ⊎ T.fails work.old)) }
+    ensures system { IfErr result (IsS1For (((R.refuses rt.now ≡ true) ⊎ T.fails work.old)
+        ⊎ LineFails F.LineFolder commits.old.line)) }
 {
     match opened {
         Ok(editor) => work.run(

@@ -1,12 +1,15 @@
 //! The two ways to a volume's files: at once, or by what is staged and a journal.
-ghost use Rattle.std.specs.Prelude.{◌≡◌, ◌⊎◌, true, IfOk, IfErr};
+ghost use Rattle.std.specs.Prelude.{◌≡◌, ◌⊎◌, true, IfOk, IfErr, IsErr};
 ghost use Rattle.verity_files.specs.Errors.{IsOfSystem, IsS1For};
 ghost use Rattle.verity_gate.specs.Refusals.{BlamesNone};
+ghost use Rattle.verity_volume.specs.Kept.{HoldsLineOf, IsLeft, KeepsFileOf, LeftLine, LineFails, system_of};
+ghost use Rattle.verity_work.specs.LineFiles.{BeginsAt, IsAtPaths, IsChangedBy, IsKeptBy};
 ghost use Rattle.verity_work.specs.Work.{IsDoneAt};
 
 use crate::rest::{Rest, rest_of};
-use crate::running::{open_under, open_whole, run_direct, run_journalled};
+use crate::running::{open_under, open_whole, run_by, run_direct};
 use crate::work::{Words, Work};
+use os_line_file::LineFolder;
 use std::alloc::Global;
 use std::io::{Eprint, Write};
 use std::time::Clock;
@@ -16,7 +19,7 @@ use verity_stage::Staged;
 use verity_store::{BlockStore, StoreFault, Which};
 use verity_superblock::Table;
 use verity_volume::{
-    Journalled, OpenedVolume, OverFile, StagedFile, end_progress, open_volume, progress_of,
+    OpenedVolume, OverFile, StagedCommits, StagedFile, end_progress, open_volume, progress_of,
 };
 use verity_watch::{Progress, Watched};
 
@@ -41,12 +44,13 @@ pub(crate) fn do_in_place<R: Paths + Clock + Eprint + AllocGlobal, T: Work, W: W
     requires missing { IfErr given.«data» (IsOfSystem (R.refuses rt.now ≡ true)) }
     ensures done { IfOk result (λ status. IsDoneAt (T.prints work.old (R.text rt.now)) words.now.data_path.now words.now.hash_path.now
         (W.contents output.old) (W.contents output.new) status) }
+    ensures none { IsErr given.«data» → IsErr result }
     ensures blames { IfErr result BlamesNone }
     ensures system { IfErr result (IsS1For ((R.refuses rt.now ≡ true) ⊎ T.fails work.old)) }
 {
     let Given { line, data, hash } = given;
     let volume = open_volume(rt, &line, words.offset, data, hash)?;
-    work.see(rt, volume.sizes.data_block_size)?;
+    work.see(rt, volume.sizes.data_block_size, line.is_some())?;
     run_in_place(rt, words, line, work, volume, output, errors)
 }
 
@@ -124,46 +128,66 @@ fn run_opened<
 }
 
 /// Works on stores that are staged over the files.
-pub(crate) fn do_staged<R: Paths + Clock + Eprint + AllocGlobal, T: Work, W: Write, E: Write>(
+pub(crate) fn do_staged<
+    R: Paths + Clock + Eprint + AllocGlobal,
+    F: LineFolder,
+    T: Work,
+    W: Write,
+    E: Write,
+>(
     rt: &R,
     words: &Words<'_>,
     line: Option<Table>,
     work: &mut T,
-    commits: &mut Journalled<'_, R>,
+    commits: &mut StagedCommits<'_, R, F>,
     output: &mut W,
     errors: &mut E,
 ) -> Result<u8, Failure>
     requires ready { T.begun work.old }
-    requires same { commits.old.rt.now ≡ rt.now }
+    requires same { system_of commits.old.way ≡ rt.now }
+    requires paths { IsAtPaths commits.old.line words.now.data_path.now words.now.hash_path.now }
     ensures done { IfOk result (λ status. IsDoneAt (T.prints work.old (R.text rt.now)) words.now.data_path.now words.now.hash_path.now
         (W.contents output.old) (W.contents output.new) status) }
+    ensures kept { IfOk result (λ status. IsKeptBy F.LineFolder commits.old.line commits.new.line (T.leaves work.old (R.text rt.now))
+        words.now.data_path.now words.now.hash_path.now (W.contents output.old) (W.contents output.new) status) }
+    ensures lasting { IsChangedBy F.LineFolder commits.old.line commits.new.line words.now.data_path.now words.now.hash_path.now }
     ensures blames { IfErr result BlamesNone }
-    ensures system { IfErr result (IsS1For ((R.refuses rt.now ≡ true) ⊎ T.fails work.old)) }
+    ensures system { IfErr result (IsS1For (((R.refuses rt.now ≡ true) ⊎ T.fails work.old)
+        ⊎ LineFails F.LineFolder commits.old.line)) }
 {
     let (data, hash) = commits.files()?;
     let volume = open_volume(rt, &line, words.offset, Ok(data), hash)?;
-    commits.note_offset(volume.sizes.superblock_offset());
-    work.see(rt, volume.sizes.data_block_size)?;
+    commits.note_start(
+        volume.sizes.superblock_offset(),
+        volume.sizes.hash_start_block,
+    );
+    work.see(rt, volume.sizes.data_block_size, line.is_some())?;
     run_through(rt, words, line, work, volume, commits, output, errors)
 }
 
 /// Works on stores that are staged over those of a volume, whose opening is watched where it is read whole.
-fn run_through<R: Paths + Clock + Eprint + AllocGlobal, T: Work, W: Write, E: Write>(
+fn run_through<R: Paths + Clock + Eprint + AllocGlobal, F: LineFolder, T: Work, W: Write, E: Write>(
     rt: &R,
     words: &Words<'_>,
     line: Option<Table>,
     work: &mut T,
     volume: OpenedVolume,
-    commits: &mut Journalled<'_, R>,
+    commits: &mut StagedCommits<'_, R, F>,
     output: &mut W,
     errors: &mut E,
 ) -> Result<u8, Failure>
     requires ready { T.seen work.old }
-    requires same { commits.old.rt.now ≡ rt.now }
+    requires same { system_of commits.old.way ≡ rt.now }
+    requires paths { IsAtPaths commits.old.line words.now.data_path.now words.now.hash_path.now }
+    requires start { BeginsAt commits.old.line volume.sizes.hash_start_block }
     ensures done { IfOk result (λ status. IsDoneAt (T.prints work.old (R.text rt.now)) words.now.data_path.now words.now.hash_path.now
         (W.contents output.old) (W.contents output.new) status) }
+    ensures kept { IfOk result (λ status. IsKeptBy F.LineFolder commits.old.line commits.new.line (T.leaves work.old (R.text rt.now))
+        words.now.data_path.now words.now.hash_path.now (W.contents output.old) (W.contents output.new) status) }
+    ensures lasting { KeepsFileOf F.LineFolder commits.old.line commits.new.line }
     ensures blames { IfErr result BlamesNone }
-    ensures system { IfErr result (IsS1For ((R.refuses rt.now ≡ true) ⊎ T.fails work.old)) }
+    ensures system { IfErr result (IsS1For (((R.refuses rt.now ≡ true) ⊎ T.fails work.old)
+        ⊎ LineFails F.LineFolder commits.old.line)) }
 {
     let rest = rest_of(words, volume.again, volume.sizes);
     let is_watched = words.is_watched && line.is_none();
@@ -187,6 +211,7 @@ fn run_through<R: Paths + Clock + Eprint + AllocGlobal, T: Work, W: Write, E: Wr
 /// Stages nothing yet over two stores, and does the work over that.
 fn run_over<
     R: Paths + Clock + Eprint + AllocGlobal,
+    F: LineFolder,
     T: Work,
     D: OverFile,
     H: OverFile,
@@ -200,17 +225,22 @@ fn run_over<
     hash_store: H,
     offset: u64,
     progress: Option<&Progress<'_, R>>,
-    commits: &mut Journalled<'_, R>,
+    commits: &mut StagedCommits<'_, R, F>,
     rest: Rest<'_>,
     output: &mut W,
     errors: &mut E,
 ) -> Result<u8, Failure>
     requires ready { T.seen work.old }
-    requires same { commits.old.rt.now ≡ rt.now }
+    requires same { system_of commits.old.way ≡ rt.now }
     ensures done { IfOk result (λ status. T.prints work.old (R.text rt.now) rest.entry.devices
         (W.contents output.old) (W.contents output.new) status) }
+    ensures kept { IfOk result (λ status. (left : LeftLine) × T.leaves work.old (R.text rt.now) rest.entry.devices
+        (W.contents output.old) (W.contents output.new) status left
+        × IsLeft (λ c. HoldsLineOf F.LineFolder c.line) commits.old commits.new left) }
+    ensures lasting { KeepsFileOf F.LineFolder commits.old.line commits.new.line }
     ensures blames { IfErr result BlamesNone }
-    ensures system { IfErr result (IsS1For ((R.refuses rt.now ≡ true) ⊎ T.fails work.old)) }
+    ensures system { IfErr result (IsS1For (((R.refuses rt.now ≡ true) ⊎ T.fails work.old)
+        ⊎ LineFails F.LineFolder commits.old.line)) }
 {
     let data = staged(rt.alloc(), data_store, Which::Data)?;
     let hash = staged(rt.alloc(), hash_store, Which::Hash)?;
@@ -232,6 +262,7 @@ fn staged<S: OverFile>(alloc: Global, store: S, which: Which) -> Result<Staged<S
 /// Opens two staged stores under a table line, or reads them whole, and does the work. The meter's line is cleared in between.
 fn run_staged<
     R: Paths + Clock + Eprint + AllocGlobal,
+    F: LineFolder,
     T: Work,
     D: StagedFile,
     H: StagedFile,
@@ -245,27 +276,32 @@ fn run_staged<
     hash_store: H,
     offset: u64,
     progress: Option<&Progress<'_, R>>,
-    commits: &mut Journalled<'_, R>,
+    commits: &mut StagedCommits<'_, R, F>,
     rest: Rest<'_>,
     output: &mut W,
     errors: &mut E,
 ) -> Result<u8, Failure>
     requires ready { T.seen work.old }
-    requires same { commits.old.rt.now ≡ rt.now }
+    requires same { system_of commits.old.way ≡ rt.now }
     ensures done { IfOk result (λ status. T.prints work.old (R.text rt.now) rest.entry.devices
         (W.contents output.old) (W.contents output.new) status) }
+    ensures kept { IfOk result (λ status. (left : LeftLine) × T.leaves work.old (R.text rt.now) rest.entry.devices
+        (W.contents output.old) (W.contents output.new) status left
+        × IsLeft (λ c. HoldsLineOf F.LineFolder c.line) commits.old commits.new left) }
+    ensures lasting { KeepsFileOf F.LineFolder commits.old.line commits.new.line }
     ensures blames { IfErr result BlamesNone }
-    ensures system { IfErr result (IsS1For ((R.refuses rt.now ≡ true) ⊎ T.fails work.old)) }
+    ensures system { IfErr result (IsS1For (((R.refuses rt.now ≡ true) ⊎ T.fails work.old)
+        ⊎ LineFails F.LineFolder commits.old.line)) }
 {
     match line {
         Some(table) => {
             let opened = open_under(rt.alloc(), data_store, hash_store, table);
-            run_journalled(rt, work, opened, commits, rest, output, errors)
+            run_by(rt, work, opened, commits, rest, output, errors)
         }
         None => {
             let opened = open_whole(rt.alloc(), data_store, hash_store, offset);
             end_progress(progress);
-            run_journalled(rt, work, opened, commits, rest, output, errors)
+            run_by(rt, work, opened, commits, rest, output, errors)
         }
     }
 }

@@ -9,9 +9,7 @@ pub const FORM: Form<'static> = Form {
     about: "Does a script's lines over a volume, and prints an answer to each",
     example: "Example:
   printf 'grow 310\\nfill 309 5a\\ncommit\\n' > script
-  dalgovuun edit image image.hash script > answers
-  grep -q '^committed ' answers &&
-      sed -n 's/^committed //p' answers | tail -n 1 > image.table",
+  dalgovuun edit image image.hash script --table-file image.table",
     parameters: &[
         DATA,
         HASH,
@@ -22,6 +20,11 @@ pub const FORM: Form<'static> = Form {
         },
         OWN_OFFSET,
         OWN_TABLE,
+        Parameter {
+            name: "table-file",
+            help: "The file that has the table line, in place of --table, and that the new line is kept in",
+            kind: Kind::Optional("FILE"),
+        },
         JOURNAL,
         QUIET,
     ],
@@ -35,6 +38,7 @@ pub struct EditWords<'a> {
     pub script_path: &'a str,
     pub hash_offset: Option<&'a str>,
     pub table: Option<&'a str>,
+    pub table_file: Option<&'a str>,
     pub journal: Option<&'a str>,
     pub is_quiet: bool,
 }
@@ -46,6 +50,7 @@ pub fn edit_words<'a>(matches: &ArgMatches<'a>) -> Option<EditWords<'a>> {
         script_path: matches.get_str("SCRIPT")?,
         hash_offset: matches.get_str("hash-offset"),
         table: matches.get_str("table"),
+        table_file: matches.get_str("table-file"),
         journal: matches.get_str("journal"),
         is_quiet: matches.get_flag("quiet"),
     })

@@ -9,7 +9,7 @@ pub const FORM: Form<'static> = Form {
     about: "Makes the hash device of a block image, and prints the table line",
     example: "Example:
   dalgovuun format image image.hash --salt 00ff \\
-    --uuid 01234567-89ab-cdef-0123-456789abcdef > image.table",
+    --uuid 01234567-89ab-cdef-0123-456789abcdef --table-file image.table",
     parameters: &[
         DATA,
         Parameter {
@@ -67,6 +67,11 @@ pub const FORM: Form<'static> = Form {
             help: "Makes all but level 0; standard input has the lines of the slices",
             kind: Kind::Flag,
         },
+        Parameter {
+            name: "table-file",
+            help: "Keeps the table line in this file, too",
+            kind: Kind::Optional("FILE"),
+        },
         QUIET,
     ],
 };
@@ -85,6 +90,7 @@ pub struct FormatWords<'a> {
     pub hash_offset: &'a str,
     pub slice: Option<&'a str>,
     pub is_joined: bool,
+    pub table_file: Option<&'a str>,
     pub is_quiet: bool,
 }
 
@@ -101,6 +107,7 @@ pub fn format_words<'a>(matches: &ArgMatches<'a>) -> Option<FormatWords<'a>> {
         hash_offset: matches.get_str("hash-offset")?,
         slice: matches.get_str("slice"),
         is_joined: matches.get_flag("join"),
+        table_file: matches.get_str("table-file"),
         is_quiet: matches.get_flag("quiet"),
     })
 }

@@ -20,6 +20,8 @@ pub enum Kind<'a> {
     Required(&'a str),
     /// An option that may be missing, with a value of this name.
     Optional(&'a str),
+    /// An option with a value of this name that stands in place of another one, and not beside it.
+    InPlace { value: &'a str, of: &'a str },
     /// An option with a value of this name, and what it is where it is missing.
     Default { value: &'a str, text: &'a str },
     /// An option without a value.
@@ -41,23 +43,29 @@ pub fn command_of<'a>(alloc: Global, form: Form<'a>) -> Result<Command<'a>, Allo
         .about(form.about)
         .after_help(form.example);
     for parameter in form.parameters {
-        command = command.arg(arg_of(alloc, *parameter))?;
+        let arg = arg_of(alloc, *parameter)?;
+        command = command.arg(arg)?;
     }
     Ok(command)
 }
 
-/// A parameter, as `clap` has it.
-fn arg_of<'a>(alloc: Global, parameter: Parameter<'a>) -> Arg<'a> {
+/// A parameter, as `clap` has it. An option that has to be given may be missing where one is that excludes it.
+fn arg_of<'a>(alloc: Global, parameter: Parameter<'a>) -> Result<Arg<'a>, AllocError> {
     let arg = Arg::new(alloc, parameter.name).help(parameter.help);
     match parameter.kind {
-        Kind::Argument => arg.required(true),
-        Kind::Required(value) => arg.long(parameter.name).value_name(value).required(true),
-        Kind::Optional(value) => arg.long(parameter.name).value_name(value),
-        Kind::Default { value, text } => arg
+        Kind::Argument => Ok(arg.required(true)),
+        Kind::Required(value) => Ok(arg.long(parameter.name).value_name(value).required(true)),
+        Kind::Optional(value) => Ok(arg.long(parameter.name).value_name(value)),
+        Kind::InPlace { value, of } => arg
             .long(parameter.name)
             .value_name(value)
-            .default_value(text),
-        Kind::Flag => arg.long(parameter.name).action(ArgAction::SetTrue),
+            .conflicts_with(of),
+        Kind::Default { value, text } => Ok(
+            arg.long(parameter.name)
+                .value_name(value)
+                .default_value(text),
+        ),
+        Kind::Flag => Ok(arg.long(parameter.name).action(ArgAction::SetTrue)),
     }
 }
 
@@ -111,6 +119,16 @@ pub const TABLE: Parameter<'static> = Parameter {
     name: "table",
     help: "The table line of the volume",
     kind: Kind::Required("LINE"),
+};
+
+/// `--table-file`, of the commands that trust a table line.
+pub const TABLE_FILE: Parameter<'static> = Parameter {
+    name: "table-file",
+    help: "A file that has the table line, in place of LINE",
+    kind: Kind::InPlace {
+        value: "FILE",
+        of: "table",
+    },
 };
 
 /// `--name`, of the commands that serve.

@@ -8,8 +8,7 @@ pub const FORM: Form<'static> = Form {
     name: "pull",
     about: "Makes DATA and HASH the volume of a trusted table line, from the devices that it names",
     example: "Example:
-  dalgovuun pull copy copy.hash --to \"$(cat image.table)\" > answers &&
-      sed -n 's/^pulled //p' answers > copy.table",
+  dalgovuun pull copy copy.hash --to-file image.table --table-file copy.table",
     parameters: &[
         Parameter {
             name: "DATA",
@@ -24,12 +23,22 @@ pub const FORM: Form<'static> = Form {
         Parameter {
             name: "to",
             help: "The trusted table line, which names the source's devices",
-            kind: Kind::Required("LINE"),
+            kind: Kind::Optional("LINE"),
+        },
+        Parameter {
+            name: "to-file",
+            help: "The file that holds that line, in place of --to",
+            kind: Kind::Optional("FILE"),
         },
         Parameter {
             name: "table",
             help: "The trusted table line of the volume as it is now; blocks that are the same under both lines aren't read",
             kind: Kind::Optional("LINE"),
+        },
+        Parameter {
+            name: "table-file",
+            help: "The file that holds that line, in place of --table, and that the new line is kept in",
+            kind: Kind::Optional("FILE"),
         },
         Parameter {
             name: "uuid",
@@ -42,13 +51,16 @@ pub const FORM: Form<'static> = Form {
     ],
 };
 
-/// The words of `pull`.
+/// The words of `pull`. Where FILE of the line is named, `to` is empty.
 #[derive(Clone, Copy, Debug)]
 pub struct PullWords<'a> {
     pub data_path: &'a str,
     pub hash_path: &'a str,
+    /// Empty where `--to` isn't given.
     pub to: &'a str,
+    pub to_file: Option<&'a str>,
     pub table: Option<&'a str>,
+    pub table_file: Option<&'a str>,
     pub uuid: Option<&'a str>,
     pub hash_offset: Option<&'a str>,
     pub timeout: &'a str,
@@ -59,8 +71,10 @@ pub fn pull_words<'a>(matches: &ArgMatches<'a>) -> Option<PullWords<'a>> {
     Some(PullWords {
         data_path: matches.get_str("DATA")?,
         hash_path: matches.get_str("HASH")?,
-        to: matches.get_str("to")?,
+        to: matches.get_str("to").unwrap_or(""),
+        to_file: matches.get_str("to-file"),
         table: matches.get_str("table"),
+        table_file: matches.get_str("table-file"),
         uuid: matches.get_str("uuid"),
         hash_offset: matches.get_str("hash-offset"),
         timeout: matches.get_str("timeout")?,

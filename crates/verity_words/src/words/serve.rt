@@ -1,6 +1,6 @@
 //! The words of `serve`.
 
-use super::parts::{CACHE, Form, Kind, NAME, Parameter, TABLE, TIMEOUT};
+use super::parts::{CACHE, Form, Kind, NAME, Parameter, TABLE, TABLE_FILE, TIMEOUT};
 use clap::ArgMatches;
 
 /// The command.
@@ -8,11 +8,12 @@ pub const FORM: Form<'static> = Form {
     name: "serve",
     about: "Serves a volume over NBD, to up to 64 clients at once",
     example: "Example:
-  dalgovuun serve --table \"$(cat image.table)\" \\
+  dalgovuun serve --table-file image.table \\
     --listen 127.0.0.1:10809 --name vol &
   nbdcopy nbd://127.0.0.1/vol copy",
     parameters: &[
         TABLE,
+        TABLE_FILE,
         Parameter {
             name: "listen",
             help: "The address to listen on, as HOST:PORT or unix:PATH",
@@ -48,10 +49,11 @@ pub const FORM: Form<'static> = Form {
     ],
 };
 
-/// The words of `serve`.
+/// The words of `serve`. Where FILE is named, `table` is empty.
 #[derive(Clone, Copy, Debug)]
 pub struct ServeWords<'a> {
     pub table: &'a str,
+    pub table_file: Option<&'a str>,
     pub listen: &'a str,
     pub name: &'a str,
     pub cache: &'a str,
@@ -63,7 +65,8 @@ pub struct ServeWords<'a> {
 
 pub fn serve_words<'a>(matches: &ArgMatches<'a>) -> Option<ServeWords<'a>> {
     Some(ServeWords {
-        table: matches.get_str("table")?,
+        table: matches.get_str("table").unwrap_or(""),
+        table_file: matches.get_str("table-file"),
         listen: matches.get_str("listen")?,
         name: matches.get_str("name")?,
         cache: matches.get_str("cache")?,

@@ -1,5 +1,6 @@
+use Rattle.std.proofs.Common.{refl}
 use Rattle.verity_answers.specs.Printed.{Done, Committed, Refused}
-use Rattle.verity_answers.proofs.Answering.{one_answer}
+use Rattle.verity_answers.proofs.Answering.{answered_as, one_answer}
 use Rattle.verity_answers.proofs.script.print_answer.Goals as goal
 
 pub returns-in_ok-writeln-in-Done-clause-answered : goal.returns-in_ok-writeln-in-Done-clause-answered
@@ -13,3 +14,20 @@ returns-in_ok-writeln-in-Committed-clause-answered g c =
 pub returns-in_ok-writeln-in-Refused-clause-answered : goal.returns-in_ok-writeln-in-Refused-clause-answered
 returns-in_ok-writeln-in-Refused-clause-answered g c =
     one_answer c.args.devices _ _ (Refused c.in-Refused.fault) c.in_ok-writeln-in-Refused.ensures.bytes
+
+pub returns-in_ok-writeln-in-Done-clause-printed : goal.returns-in_ok-writeln-in-Done-clause-printed
+returns-in_ok-writeln-in-Done-clause-printed g c =
+    answered_as c.args.devices _ _ _ c.args.answer _ _ c.in-Done.is
+    (record { printed = c.in_ok-writeln-in-Done.ensures.bytes; status = refl })
+
+pub returns-in_ok-writeln-in-Committed-clause-printed : goal.returns-in_ok-writeln-in-Committed-clause-printed
+returns-in_ok-writeln-in-Committed-clause-printed g c =
+    answered_as c.args.devices _ _ _ c.args.answer _ _ c.in-Committed.is (record {
+      printed = rw c.superblock.ensures at (rw c.in_ok-line-in-Committed.ensures.text at c.in_ok-writeln-in-Committed.ensures.bytes);
+      status = refl;
+    })
+
+pub returns-in_ok-writeln-in-Refused-clause-printed : goal.returns-in_ok-writeln-in-Refused-clause-printed
+returns-in_ok-writeln-in-Refused-clause-printed g c =
+    answered_as c.args.devices _ _ _ c.args.answer _ _ c.in-Refused.is
+    (record { printed = c.in_ok-writeln-in-Refused.ensures.bytes; status = refl })

@@ -1,4 +1,4 @@
-use Rattle.std.proofs.Common.{rules, ◌≡◌, Some}
+use Rattle.std.proofs.Common.{rules, Some}
 use Rattle.verity_work.proofs.Doing.{own_for}
 use Rattle.verity_work.proofs.over.begin.Goals as goal
 

@@ -1,4 +1,3 @@
-use Rattle.std.proofs.Common.{◌≡◌}
 use Rattle.verity_work.proofs.Doing.{done_as_before}
 use Rattle.verity_work.proofs.ways.do_in_place.Goals as goal
 
