@@ -1,1 +1,3 @@
+pub mod KeepingLemmas
+pub mod Moments
 pub mod Results

@@ -1,5 +1,5 @@
 -- What follows of what a call answers.
-use Rattle.std.proofs.Common.{◌≡◌, ℕ, List, Option, Result, Ok, Err, IfOk, OnOk, subst}
+use Rattle.std.proofs.Common.{◌≡◌, ℕ, List, Option, Result, Ok, Err, IfOk, IfErr, OnOk, OnErr, subst}
 use Rattle.verity_store.specs.declared.store.BlockStore as store
 use Rattle.verity_superblock.specs.Line.{TableLine}
 use Rattle.verity_moved.specs.Moved.{Moving}
@@ -17,6 +17,18 @@ if_ok P Q (Err e) follows p = tt
 pub on_ok : {T E P Q : Type 0} (answer : Result T E) → (P → Q) → OnOk answer P → OnOk answer Q
 on_ok (Ok x) follows p = follows p
 on_ok (Err e) follows p = tt
+
+pub on_err : {T E P : Type 0} (answer : Result T E) → P → OnErr answer P
+on_err (Ok x) p = tt
+on_err (Err e) p = p
+
+pub on_err_then : {T E P Q : Type 0} (answer : Result T E) → (P → Q) → OnErr answer P → OnErr answer Q
+on_err_then (Ok x) follows p = p
+on_err_then (Err e) follows p = follows p
+
+pub if_err : {T E P : Type 0} (Q : E → Type 0) (answer : Result T E) → ((e : E) → P → Q e) → OnErr answer P → IfErr answer Q
+if_err Q (Ok x) follows p = tt
+if_err Q (Err e) follows p = follows e p
 
 -- what was done by a line was done by the same line
 pub done_by : {D : Type 0} (facts : store.Ghosts D) (moving : store.Ghosts (Moving D)) (asked : Asked) (t u : TableLine)

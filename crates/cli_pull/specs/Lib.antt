@@ -1,4 +1,5 @@
 pub mod Faults
+pub mod Keeping
 pub mod Opening
 pub mod Printed
 pub mod Superblocks

@@ -75,6 +75,12 @@ abbrev pub IsReady : {S F D J : Type 0} → Ghosts S F D J → disks.Ghosts J �
 IsReady facts devices before ready words = (ready ≡ before) ⊎ ((is_recovered : Bool)
     × IsMadeWhole facts devices before ready None words.data_path.now words.hash_path.now is_recovered)
 
+-- all that is done to the volume's files, from the system before to the one after
+abbrev pub IsMade : {S F D J : Type 0} → Ghosts S F D J → store.Ghosts D → disks.Ghosts J → store.Ghosts (Moving D) → (before after : S)
+    → PullWords → Asked → Counts → Type 0
+IsMade facts stores devices moving before after words asked counts = (ready : _) × IsReady facts devices before ready words
+    × IsFilled facts stores moving ready after words asked counts
+
 -- What `pull` prints, and what was done then: a commit that had been cut short was recovered first; the counts, and the line of the words,
 -- with DATA and HASH as its devices, where HASH's tree begins.
 pub record IsPulledThere {S F D J : Type 0} (facts : Ghosts S F D J) (stores : store.Ghosts D) (devices : disks.Ghosts J)

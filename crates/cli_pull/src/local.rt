@@ -112,6 +112,42 @@ pub fn open_local<S: System>(
     }
 }
 
+/// Looks whether DATA and HASH, where they are there, will be opened: S1, S5, and not understood, as [`open_local`] has these. Nothing is
+/// changed, and no lock is kept.
+pub fn look_at_local<S: System>(
+    system: &S,
+    words: &PullWords<'_>,
+    source: &Source<S::Store>,
+) -> Result<(), Failure> {
+    let others = Others::of(source, source.hash_file);
+    let own = look_at(system, words.data_path, Which::Data, others)?;
+    let others = Others::of(source, own.unwrap_or(source.hash_file));
+    look_at(system, words.hash_path, Which::Hash, others)?;
+    Ok(())
+}
+
+/// Which file one of the two is, where it is there and none of three others, and nobody has a lock on it.
+fn look_at<S: System>(
+    system: &S,
+    path: &str,
+    which: Which,
+    others: Others,
+) -> Result<Option<Identity>, Failure> {
+    if !system.is_there(path)? {
+        return Ok(None);
+    }
+    let file = system.open(path)?;
+    let identity = system.identity_of(&file);
+    if !is_other(identity, others) {
+        return Err(Failure::Word(match which {
+            Which::Data => Word::Data,
+            Which::Hash => Word::Hash,
+        }));
+    }
+    system.lock(&file, Command::Pull.lock(), which)?;
+    Ok(Some(identity))
+}
+
 /// Removes those of the two files that were made, where nothing was written to them.
 pub fn unmake<S: System>(
     system: &mut S,

@@ -2,16 +2,18 @@
 ghost use Rattle.std.specs.Prelude.{◌≡◌, ◌≤◌, ◌^◌, ◌+◌, length, IfOk, OnOk};
 ghost use Rattle.std.specs.Io.KnownBytes.{Appends};
 ghost use Rattle.verity_chain.specs.Table.{tree_len};
-ghost use Rattle.cli_pull.specs.Printed.{pulled_text, IsDoneBy, IsFilled, IsPulledThere, IsReady};
-ghost use Rattle.cli_pull.specs.Words.{own_line, IsElsewhere};
+ghost use Rattle.verity_superblock.specs.Line.{IsTableLine};
+ghost use Rattle.cli_pull.specs.Printed.{pulled_text, IsDoneBy, IsFilled, IsMade, IsPulledThere, IsReady};
+ghost use Rattle.cli_pull.specs.Words.{own_line, IsAsked, IsElsewhere};
 
 use crate::faults::failure_of;
 use crate::line::{Asked, old_root, read_asked, tree_at};
-use crate::local::{Local, open_local, unmake};
+use crate::local::{Local, look_at_local, open_local, unmake};
 use crate::meter::Pace;
 use crate::source::{Source, open_source};
 use crate::superblock::superblock_of;
 use os_journal::recover_volume;
+use std::alloc::Global;
 use std::io::{Eprint, IsTerminal, Write};
 use std::time::Clock;
 use verity_chain::Tree;
@@ -40,23 +42,70 @@ pub fn pull<R: Clock + Eprint + AllocGlobal, S: System, W: Write, E: Write + IsT
     ensures pulled { OnOk result (IsPulledThere S.System S.Store.BlockStore S.Journalled.Disks ⟦<Moved<S::Store> as BlockStore>⟧
         system.old system.new words.now (W.contents output.old) (W.contents output.new)) }
 {
+    let read = prepare(rt.alloc(), words)?;
+    let (asked, tree) = read;
+    let mut tree = tree;
+    let text = tree.table().text()?;
+    let counts = fill(rt, system, words, &asked, &mut tree, errors)?;
+    print_pulled(counts, &text, output)
+}
+
+/// Reads the words: what they ask for, and the tree of the line of the volume that is made.
+pub(crate) fn prepare(alloc: Global, words: &PullWords<'_>) -> Result<(Asked, Tree), Failure>
+    ensures asked { IfOk result (λ read. IsAsked words.now read.0) }
+    ensures line { IfOk result (λ read. read.1 ≡ own_line words.now read.0) }
+    ensures profile { IfOk result (λ read. IsTableLine read.1) }
+    ensures near { IfOk result (λ read. read.0.start ≤ 2 ^ 40) }
+{
     check_paths(words.data_path, words.hash_path)?;
-    let asked = read_asked(rt.alloc(), words)?;
-    let mut tree = tree_at(
-        rt.alloc(),
+    let asked = read_asked(alloc, words)?;
+    let tree = tree_at(
+        alloc,
         &asked.to,
         words.data_path,
         words.hash_path,
         asked.start,
     )?;
-    let text = tree.table().text()?;
-    let is_recovered = recover_first(system, words)?;
-    tell_recovered(is_recovered, words.hash_path, errors);
-    let counts = pull_files(rt, system, words, &asked, &mut tree, errors)?;
-    print_pulled(counts, &text, output)
+    Ok((asked, tree))
 }
 
-fn print_pulled<W: Write>(counts: Counts, line: &str, output: &mut W) -> Result<(), Failure>
+/// Looks whether the source can be opened, and DATA and HASH, where they are there, with the faults that these have. Nothing is changed.
+pub(crate) fn look_first<S: System>(
+    system: &S,
+    words: &PullWords<'_>,
+    asked: &Asked,
+    tree: &Tree,
+) -> Result<(), Failure> {
+    let opened = open_source(system, &asked.to, source_end(&asked.to, tree))?;
+    look_at_local(system, words, &opened)
+}
+
+/// Recovers a commit that was cut short, opens the four files and pulls: all that is done to the volume's files.
+pub(crate) fn fill<R: Clock + Eprint + AllocGlobal, S: System, E: Write + IsTerminal>(
+    rt: &R,
+    system: &mut S,
+    words: &PullWords<'_>,
+    asked: &Asked,
+    tree: &mut Tree,
+    errors: &mut E,
+) -> Result<Counts, Failure>
+    requires line { tree.old ≡ own_line words.now asked.now }
+    requires near { asked.now.start ≤ 2 ^ 40 }
+    ensures made { IfOk result (IsMade S.System S.Store.BlockStore S.Journalled.Disks ⟦<Moved<S::Store> as BlockStore>⟧ system.old
+        system.new words.now asked.now) }
+    ensures same { tree.new ≡ tree.old }
+{
+    let is_recovered = recover_first(system, words)?;
+    tell_recovered(is_recovered, words.hash_path, errors);
+    pull_files(rt, system, words, asked, tree, errors)
+}
+
+/// Prints the counts, and the line of the volume.
+pub(crate) fn print_pulled<W: Write>(
+    counts: Counts,
+    line: &str,
+    output: &mut W,
+) -> Result<(), Failure>
     ensures printed { OnOk result (Appends (W.contents output.old) (W.contents output.new) (pulled_text counts line.now)) }
 {
     let Counts { fetched, kept } = counts;

@@ -1,6 +1,7 @@
 //! Recoveries, whole, of volumes that a crash left in memory.
-use crate::{MemSystem, recover_in_memory};
+use crate::{MemFolders, MemSystem, recover_in_memory};
 use cli_recover::recover;
+use os_line_file::OsFolders;
 use std::process::Abort;
 use std::test::Fail;
 use test_volumes::{device, image};
@@ -12,6 +13,7 @@ const WORDS: RecoverWords<'static> = RecoverWords {
     data_path: "data",
     hash_path: "hash",
     journal: None,
+    table_file: None,
 };
 
 // The journal of a commit that cuts `data` to two blocks, the first of which begins with `ab`, and fills `hash` up by one; behind an open
@@ -45,7 +47,7 @@ fn volume(rt: &HostRuntime, journal: Option<Vec<u8>>, calls: u64) -> Result<MemS
 // What is printed, and the answer.
 fn recovered(rt: &HostRuntime, system: &mut MemSystem) -> (Vec<u8>, Result<(), Failure>) {
     let mut output = Vec::new(rt.alloc());
-    let done = recover(system, &WORDS, &mut output);
+    let done = recover(system, &mut OsFolders::new(rt), &WORDS, &mut output);
     (output, done)
 }
 
@@ -106,7 +108,10 @@ fn recover_goes_on_after_each_call_that_fails(rt: HostRuntime) -> Result<(), Fai
         assert!(rt; output.is_empty());
         assert!(rt; system.journal.is_some());
         system.calls = u64::MAX;
-        assert!(rt; recover_in_memory(&mut system, &WORDS, &mut output_of(&rt)).is_ok());
+        let mut folders = OsFolders::new(&rt);
+        assert!(rt;
+            recover_in_memory(&mut system, &mut folders, &WORDS, &mut output_of(&rt)).is_ok()
+        );
         assert!(rt; holds(&rt, &system, true)?);
         failed = failed.saturating_add(1);
     }

@@ -1,6 +1,6 @@
 //! `pull`, whole, over files in memory.
-use crate::{Four, FourFiles};
-use cli_pull::pull;
+use crate::{Four, FourFiles, MemFolders};
+use cli_pull::{pull, pull_kept};
 use std::alloc::Global;
 use std::process::Abort;
 use std::test::Fail;
@@ -52,13 +52,39 @@ fn pulled(
         data_path: "data",
         hash_path: "hash",
         to: line,
+        to_file: None,
         table,
+        table_file: None,
         uuid: None,
         hash_offset: None,
         timeout: "30",
         is_quiet: true,
     };
     let done = pull(rt, system, &words, &mut output, &mut rt.stderr());
+    (output, done)
+}
+
+// Pulls, with the line in a file.
+fn pulled_by_file(
+    rt: &HostRuntime,
+    system: &mut FourFiles,
+    folders: &mut MemFolders,
+    line: &str,
+) -> (Vec<u8>, Result<(), Failure>) {
+    let mut output = Vec::new(rt.alloc());
+    let words = PullWords {
+        data_path: "data",
+        hash_path: "hash",
+        to: line,
+        to_file: None,
+        table: None,
+        table_file: Some("line"),
+        uuid: None,
+        hash_offset: None,
+        timeout: "30",
+        is_quiet: true,
+    };
+    let done = pull_kept(rt, system, folders, &words, &mut output, &mut rt.stderr());
     (output, done)
 }
 
@@ -125,6 +151,32 @@ fn pull_goes_over_an_old_volume(rt: HostRuntime) -> Result<(), Fail> {
             .as_slice()
             .starts_with(b"fetched 0\nkept 17\n".as_slice())
     );
+    Ok(())
+}
+
+#[test]
+fn pull_keeps_the_line_that_it_prints(rt: HostRuntime) -> Result<(), Fail> {
+    let alloc = rt.alloc();
+    let (mut system, line) = source(alloc)?;
+    let mut folders = MemFolders::new(alloc);
+    for begins in ["fetched 16\nkept 1\npulled ", "fetched 0\nkept 17\npulled "] {
+        let (output, done) = pulled_by_file(&rt, &mut system, &mut folders, &line);
+        assert!(rt; done.is_ok());
+        assert!(rt; are_made(&system));
+        assert!(rt; output.as_slice().starts_with(begins.as_bytes()));
+        assert!(rt; folders.have(output.get(begins.len()..), None));
+    }
+    let kept = match &folders.line {
+        Some(kept) => kept.to_vec(alloc)?,
+        None => Vec::new(alloc),
+    };
+    flip(&mut system.from_hash, 512);
+    system.image = None;
+    system.device = None;
+    let (output, done) = pulled_by_file(&rt, &mut system, &mut folders, &line);
+    assert!(rt; done.is_err());
+    assert!(rt; output.as_slice().is_empty());
+    assert!(rt; folders.have(Some(&kept), Some(b"pull\n")));
     Ok(())
 }
 

@@ -4,14 +4,16 @@ ghost use Rattle.system_tests.specs.Files.{AreRecovered};
 
 use crate::memory::MemSystem;
 use cli_recover::recover;
+use os_line_file::LineFolders;
 use std::io::Write;
 use verity_files::Failure;
 use verity_words::RecoverWords;
 
 /// Recovers `data` and `hash`, whose journal is the one beside `hash`: after Ok both are, byte for byte, what the journal's bytes make of
 /// what they were, and the journal is gone. All of it is synced: what isn't is lost here.
-pub fn recover_in_memory<W: Write>(
+pub fn recover_in_memory<L: LineFolders, W: Write>(
     system: &mut MemSystem,
+    folders: &mut L,
     words: &RecoverWords<'_>,
     output: &mut W,
 ) -> Result<(), Failure>
@@ -20,7 +22,7 @@ pub fn recover_in_memory<W: Write>(
     requires beside { words.now.journal ≡ None }
     ensures recovered { OnOk result (AreRecovered system.old system.new) }
 {
-    match recover(system, words, output) {
+    match recover(system, folders, words, output) {
         Ok(()) => Ok(()),
         Err(failure) => Err(failure),
     }

@@ -1,6 +1,6 @@
 -- Refusals, and the words that they blame.
 use Rattle.std.proofs.Common.{◌≡◌, Bool, true, false, ℕ, List, Option, Some, None, Result, Ok, Err, IfErr, IsErrAnd}
-use Rattle.std.proofs.Common.{subst, sym, ap, inr, ◌∙◌}
+use Rattle.std.proofs.Common.{subst, sym, ap, inl, inr, ◌∙◌}
 use Rattle.std.specs.Prelude.{if◌then◌else◌, ok_or}
 use Rattle.std.specs.Str.Parse.{digits_value}
 use Rattle.uuid.specs.Text.{parsed}
@@ -15,6 +15,7 @@ use Rattle.verity_gate.specs.Refusals.{BlamesAtMost}
 use Rattle.verity_words.specs.declared.words.format.FormatWords.{FormatWords}
 use Rattle.verity_format.specs.Blamed.{FormatBlames, Misreads}
 use Rattle.verity_format.specs.Formatting.{IsOneFile}
+use Rattle.verity_format.specs.Kept.{IsOfArgument}
 
 only : (read : Bool) (n : ℕ) (known e : Failure) → (if read then Ok n else Err known) ≡ Err e → e ≡ known
 only true n known e is = absurd (cc is)
@@ -45,6 +46,18 @@ of_uuid words e is =
     let same = unread (parsed words.uuid.now) (failure.Word word.Uuid) e is in
     subst (Misreads words) (sym same) (is ∙ ap Err same)
 
+-- each of them blames an argument
+pub argument_of_number : {T : Type 0} (done : Result T Failure) (w : Word) (text : List ℕ) (e : Failure)
+    → IsErrAnd done (λ other. other ≡ e) → number_in w text ≡ Err e → IfErr done IsOfArgument
+argument_of_number (Ok done) w text e is was = tt
+argument_of_number (Err other) w text e is was = subst IsOfArgument (sym is) (inl (w, by_number w text e was))
+
+pub argument_of_uuid : {T : Type 0} (done : Result T Failure) (text : List ℕ) (e : Failure) → IsErrAnd done (λ other. other ≡ e)
+    → uuid_in text ≡ Err e → IfErr done IsOfArgument
+argument_of_uuid (Ok done) text e is was = tt
+argument_of_uuid (Err other) text e is was =
+    subst IsOfArgument (sym is) (inl (word.Uuid, unread (parsed text) (failure.Word word.Uuid) e was))
+
 -- which isn't S1
 pub never_s1 : {T : Type 0} (done : Result T Failure) (text : List ℕ) (e : Failure) → IsErrAnd done (λ other. other ≡ e)
     → uuid_in text ≡ Err e → IfErr done (IsS1For ⊥)
@@ -71,6 +84,8 @@ of_misread facts s words (failure.Word word.Memory) is_misread = is_misread
 of_misread facts s words (failure.Word word.Idle) is_misread = is_misread
 of_misread facts s words (failure.Word word.Timeout) is_misread = is_misread
 of_misread facts s words (failure.Word word.Slice) is_misread = is_misread
+of_misread facts s words (failure.Word word.TableFile) is_misread = is_misread
+of_misread facts s words (failure.Word word.ToFile) is_misread = is_misread
 of_misread facts s words (failure.Refused fault) is_misread = is_misread
 of_misread facts s words failure.NoMemory is_misread = is_misread
 of_misread facts s words failure.Output is_misread = is_misread

@@ -1,4 +1,5 @@
 pub mod Blaming
 pub mod Formatted
+pub mod Keeping
 pub mod Moving
 pub mod Told

@@ -1,5 +1,6 @@
 pub mod Blamed
 pub mod Formatting
+pub mod Kept
 pub mod Printed
 pub mod Made
 pub mod Opening

@@ -16,6 +16,7 @@ ghost use Rattle.verity_volume.specs.Lines.{IsOfLine};
 ghost use Rattle.verity_gate.specs.Refusals.{BlamesAtMost};
 ghost use Rattle.verity_format.specs.Blamed.{FormatBlames, Misreads};
 ghost use Rattle.verity_format.specs.Formatting.{line_made, some_blocks, AreTaken, FallsShort, IsAsked, IsOneFile, IsShort};
+ghost use Rattle.verity_format.specs.Kept.{IsOfArgument};
 ghost use Rattle.verity_format.specs.Made.{data_part, device_of, hash_part, IsLeft, IsMadeOf, LiesAsked, LiesFor};
 ghost use Rattle.verity_format.specs.Opening.{IsOpenedAnew, IsOpenedAsked};
 ghost use Rattle.verity_format.specs.Printed.{IsFormatted};
@@ -116,6 +117,7 @@ pub(crate) fn made_line(
 pub(crate) fn read_shape(words: &FormatWords<'_>) -> Result<Shape, Failure>
     ensures asked { IfOk result (IsAsked words.now) }
     ensures blames { IfErr result (Misreads words.now) }
+    ensures argument { IfErr result IsOfArgument }
     ensures system { IfErr result (IsS1For ⊥) }
 {
     Ok(Shape {

@@ -3,3 +3,4 @@ mod Refusing
 mod Reporting
 mod Talks
 mod SliceReporting
+mod Keeping

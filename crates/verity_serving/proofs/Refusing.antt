@@ -1,5 +1,5 @@
--- Refusals that aren't S1.
-use Rattle.std.proofs.Common.{◌≡◌, Result, Ok, Err, IfErr, sym, ◌∙◌}
+-- Refusals that aren't S1, and what holds where a command is done.
+use Rattle.std.proofs.Common.{◌≡◌, Result, Ok, Err, IfErr, OnOk, sym, ◌∙◌}
 use Rattle.verity_files.specs.Errors.{IsS1For}
 use Rattle.verity_files.specs.declared.failure.Failure.{Failure}
 use Rattle.verity_files.specs.declared.failure.Failure.TheVariants as failure
@@ -14,3 +14,8 @@ pub of_memory : {T : Type 0} (reason : Type 0) (done : Result T Failure) → IfE
     → IfErr done (IsS1For reason)
 of_memory reason (Ok status) is = tt
 of_memory reason (Err e) is = λ at. absurd (cc (sym is ∙ at))
+
+-- what holds, holds where it is done
+pub on_ok : {T E P : Type 0} (done : Result T E) → P → OnOk done P
+on_ok (Ok status) is = is
+on_ok (Err e) is = tt

@@ -1,9 +1,8 @@
 -- Which words a command blames, and of which of them a clause says that they aren't understood.
-use Rattle.std.specs.Prelude.{◌≡◌, ◌≢◌, ℕ, List, codes, None, Err, ⊤}
+use Rattle.std.specs.Prelude.{⊤}
 use Rattle.verity_files.specs.Misread.{IsMisread}
 use Rattle.verity_files.specs.declared.failure.Failure.{Failure}
 use Rattle.verity_files.specs.declared.failure.Failure.TheVariants as failure
-use Rattle.verity_files.specs.declared.failure.Word.{Word}
 use Rattle.verity_files.specs.declared.failure.Word.TheVariants as word
 use Rattle.verity_words.specs.declared.words.serve.ServeWords.{ServeWords}
 use Rattle.verity_words.specs.declared.words.talk.TalkWords.{TalkWords}

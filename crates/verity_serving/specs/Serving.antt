@@ -1,7 +1,6 @@
 -- What `talk` serves, and to what end.
-use Rattle.std.specs.Prelude.{◌≡◌, ℕ, ◌*◌, ◌^◌, List, length, Result, Ok, Err}
+use Rattle.std.specs.Prelude.{ℕ, ◌-◌, ◌^◌, List, Result, Ok, Err}
 use Rattle.verity_store.specs.declared.store.BlockStore as store
-use Rattle.nbd_session.specs.declared.offer.Offer.{Offer}
 use Rattle.nbd_hub.specs.declared.fault.ServeFault.{ServeFault}
 use Rattle.nbd_hub.specs.declared.fault.ServeFault.TheVariants as serve
 use Rattle.nbd_hub.specs.Stream.{Ends, Served, ServedBy}
@@ -9,7 +8,9 @@ use Rattle.verity_superblock.specs.Line.{TableLine, Line}
 use Rattle.verity_chain.specs.Right.{Fits}
 use Rattle.verity_check.specs.Verifier.{Verifying, IsOnlyReading}
 use Rattle.verity_hub.specs.Verdicts.{facts_of, SaysRight}
-use Rattle.verity_opening.specs.Opening.{offered, IsJustMade}
+use Rattle.verity_files.specs.declared.system.System.{Ghosts}
+use Rattle.verity_gate.specs.Shut.{IsShutBeside}
+use Rattle.verity_opening.specs.Opening.{offered, IsJustMade, LiesAt}
 use Rattle.verity_words.specs.declared.words.talk.TalkWords.{TalkWords}
 
 -- the most turns of a session
@@ -21,6 +22,16 @@ abbrev pub status_of_session : Result (Unit {0}) ServeFault → ℕ
 status_of_session (Ok done) = 0
 status_of_session (Err serve.Starved) = 3
 status_of_session (Err fault) = 1
+
+-- the volume of this line was opened: two stores of what was opened at the line's paths, and no commit is under way beside its hash device
+pub record IsOpenedBy {S F D J : Type 0} (facts : Ghosts S F D J) (s : S) (text : List ℕ) : Type 0 where
+  pub table : TableLine
+  pub image : D
+  pub device : D
+  pub line : Line text table
+  pub of_data : LiesAt facts s table.dev table.data_blocks image
+  pub of_hash : LiesAt facts s table.hash_dev (2 ^ 64 - 1) device
+  pub shut : IsShutBeside facts s table.hash_dev
 
 module _ {D H : Type 0} (data_facts : store.Ghosts D) (hash_facts : store.Ghosts H) where
   -- What `talk` has read and said where its session ended so: the talk of what it read by verdicts of a verifier of the line among its

@@ -6,18 +6,22 @@
 //! `talk` reads and says, clauses say, over an input and an output whose bytes are known, and that `talk` leaves its client for a failed
 //! read or write where one failed, and nowhere else; all else that is printed and refused is shown by tests.
 //!
-//! The definitions stand in `specs/`: `Printed` (what `verify` and `serve` print), `Sliced` (what
+//! Where the line may stand in a file, `verify_kept` and its kin read it there first, and a clause says that it is that file's.
+//!
+//! The definitions stand in `specs/`: `Kept` (the trusted line), `Printed` (what `verify` and `serve` print), `Sliced` (what
 //! `verify --slice` prints), `Serving` (what `talk` serves), `Blamed` (which words
 //! a command blames).
 #![tactic(auto)]
 
 mod failing;
+mod kept;
 mod serving;
 mod slicing;
 mod talking;
 mod verifying;
 
 pub use failing::fail;
+pub use kept::{serve_kept, talk_kept, verify_kept, verify_slice_kept};
 pub use serving::{serve, serve_on};
 pub use slicing::verify_slice;
 pub use talking::talk;

@@ -1,6 +1,6 @@
 //! The command `serve`: serves a volume over NBD.
 
-ghost use Rattle.std.specs.Prelude.{◌≡◌, ℕ, List, true, Ok, IfErr};
+ghost use Rattle.std.specs.Prelude.{◌≡◌, ℕ, List, true, Ok, IfErr, OnOk};
 ghost use Rattle.nbd_hub.specs.History.{Step};
 ghost use Rattle.nbd_hub.specs.After.{IsAfter};
 ghost use Rattle.nbd_serve.specs.Lines.{IsServed};
@@ -11,6 +11,7 @@ ghost use Rattle.verity_files.specs.Errors.{IsS1For};
 ghost use Rattle.verity_gate.specs.Refusals.{BlamesNone};
 ghost use Rattle.verity_serving.specs.Blamed.{ServeBlames};
 ghost use Rattle.verity_serving.specs.Printed.{IsServedAsAsked};
+ghost use Rattle.verity_serving.specs.Serving.{IsOpenedBy};
 ghost use Rattle.verity_files.specs.declared.failure.Word.{Word};
 
 use crate::failing::fail;
@@ -44,6 +45,7 @@ pub fn serve<
     S: System,
     W: Write,
 >(rt: &R, system: &S, words: &ServeWords<'_>, output: &mut W) -> Result<u8, Failure>
+    ensures opened { OnOk result (IsOpenedBy S.System system.now words.now.table.now) }
     ensures done { result ≡ Ok 0
         → IsServedAsAsked words.now.sessions.now (W.contents output.old) (W.contents output.new) }
     ensures blames { IfErr result (ServeBlames words.now) }
@@ -69,6 +71,7 @@ fn serve_over<
     count: u64,
     output: &mut W,
 ) -> Result<u8, Failure>
+    ensures opened { OnOk result (IsOpenedBy S.System system.now words.now.table.now) }
     ensures done { result ≡ Ok 0 → IsServed (W.contents output.old) (W.contents output.new) count true }
     ensures blames { IfErr result BlamesNone }
     ensures system { IfErr result (IsS1For (S.refuses system.now ≡ true)) }

@@ -2,7 +2,8 @@
 //!
 //! The system's type is a deep one, so each is named in a function of its own that asks no more of what it is given than it needs.
 
-use cli_pull::pull;
+use cli_pull::pull_kept;
+use os_line_file::OsFolders;
 use os_system::{Network, Notes, OsSystem, patience};
 use std::fs::File;
 use std::io::{Eprint, IsTerminal, Read, Write};
@@ -11,7 +12,9 @@ use std::rt::Files;
 use std::time::Clock;
 use verity_changes::update;
 use verity_files::Failure;
-use verity_serving::{CountedReader, CountedWriter, serve, talk, verify, verify_slice};
+use verity_serving::{
+    CountedReader, CountedWriter, serve_kept, talk_kept, verify_kept, verify_slice_kept,
+};
 use verity_words::{PullWords, ServeWords, TalkWords, UpdateWords, VerifyWords};
 
 /// `verify` over the real system.
@@ -27,9 +30,10 @@ pub fn verify_anywhere<
     errors: &E,
 ) -> Result<u8, Failure> {
     let network = Network::new(rt, patience(words.timeout)?);
-    verify(
+    verify_kept(
         rt,
         &OsSystem::new(rt, &network, notes),
+        &mut OsFolders::new(rt),
         words,
         output,
         errors,
@@ -50,9 +54,10 @@ pub fn verify_slice_anywhere<
     errors: &E,
 ) -> Result<u8, Failure> {
     let network = Network::new(rt, patience(words.timeout)?);
-    verify_slice(
+    verify_slice_kept(
         rt,
         &OsSystem::new(rt, &network, notes),
+        &mut OsFolders::new(rt),
         words,
         asked,
         output,
@@ -67,7 +72,13 @@ pub fn serve_anywhere<
     W: Write,
 >(net: &N, rt: &R, words: &ServeWords<'_>, notes: &Notes, output: &mut W) -> Result<u8, Failure> {
     let network = Network::new(net, patience(words.timeout)?);
-    serve(rt, &OsSystem::new(net, &network, notes), words, output)
+    serve_kept(
+        rt,
+        &OsSystem::new(net, &network, notes),
+        &mut OsFolders::new(net),
+        words,
+        output,
+    )
 }
 
 /// `talk` over the real system.
@@ -79,8 +90,9 @@ pub fn talk_anywhere<R: Files<File = File> + Net + Clock + AllocGlobal, I: Read,
     output: &mut W,
 ) -> Result<u8, Failure> {
     let network = Network::new(rt, patience(words.timeout)?);
-    talk(
+    talk_kept(
         &OsSystem::new(rt, &network, notes),
+        &mut OsFolders::new(rt),
         words,
         &mut CountedReader::new(input),
         &mut CountedWriter::new(output),
@@ -100,9 +112,10 @@ pub fn pull_anywhere<
     errors: &mut E,
 ) -> Result<(), Failure> {
     let network = Network::new(rt, patience(words.timeout)?);
-    pull(
+    pull_kept(
         rt,
         &mut OsSystem::new(rt, &network, notes),
+        &mut OsFolders::new(rt),
         words,
         output,
         errors,
@@ -123,5 +136,5 @@ pub fn update_anywhere<
 ) -> Result<u8, Failure> {
     let network = Network::new(rt, patience(words.timeout)?);
     let sources = OsSystem::new(rt, &network, notes);
-    update(rt, &sources, words, output, errors)
+    update(rt, &mut OsFolders::new(rt), &sources, words, output, errors)
 }

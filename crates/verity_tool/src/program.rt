@@ -9,19 +9,20 @@ use clap::Error;
 use clap::error::ErrorKind;
 use cli_dump::dump;
 use cli_recover::recover;
-use os_system::{Notes, check_here};
+use os_line_file::OsFolders;
+use os_system::{Notes, check_here, is_url};
 use std::fs::File;
 use std::io::{Eprint, IsTerminal, Read, Write};
 use std::net::{Net, TcpListener, TcpStream};
 use std::rt::Files;
 use std::time::Clock;
 use verity_changes::{edit, scratch};
-use verity_files::{DONE, Failure, Host, NOT_UNDERSTOOD, REFUSED};
-use verity_format::{format, format_join, format_slice};
+use verity_files::{DONE, Failure, Host, NOT_UNDERSTOOD, REFUSED, Word};
+use verity_format::{format_join_kept, format_kept, format_slice};
 use verity_serving::fail;
 use verity_words::{
     FormatWords, Request, explain, explain_block_size, explain_corrupt, explain_usage,
-    explain_words, read_words,
+    explain_words, read_words, table_file, to_file,
 };
 
 /// Does what the words ask for, of which the first is the program's own name, and answers the status that the process
@@ -91,6 +92,8 @@ fn answer<
     errors: &mut E,
 ) -> Result<u8, Failure> {
     check_written(request)?;
+    check_line_file(table_file(request), Word::TableFile)?;
+    check_line_file(to_file(request), Word::ToFile)?;
     match request {
         Request::Scratch => scratch(rt, input, output, errors),
         Request::Format(words) => {
@@ -99,7 +102,7 @@ fn answer<
             Ok(DONE)
         },
         Request::Dump(words) => dump(&Host::new(rt), &words, output).map(|()| DONE),
-        Request::Edit(words) => edit(rt, &words, output, errors),
+        Request::Edit(words) => edit(rt, &mut OsFolders::new(rt), &words, output, errors),
         Request::Verify(words) => match words.slice {
             Some(asked) => verify_slice_anywhere(rt, &words, asked, notes, output, errors),
             None => verify_anywhere(rt, &words, notes, output, errors),
@@ -112,7 +115,9 @@ fn answer<
             &mut Told::new(output, errors, words.listen),
         ),
         Request::Talk(words) => talk_anywhere(rt, &words, notes, input, output),
-        Request::Recover(words) => recover(&mut Host::new(rt), &words, output).map(|()| DONE),
+        Request::Recover(words) => {
+            recover(&mut Host::new(rt), &mut OsFolders::new(rt), &words, output).map(|()| DONE)
+        }
         Request::Update(words) => update_anywhere(rt, &words, notes, output, errors),
         Request::Pull(words) => pull_anywhere(rt, &words, notes, output, errors).map(|()| DONE),
     }
@@ -132,10 +137,14 @@ fn format_as_asked<
     errors: &E,
 ) -> Result<(), Failure> {
     let mut system = Host::new(rt);
+    let mut folders = OsFolders::new(rt);
     match words.slice {
+        Some(_) if words.table_file.is_some() => Err(Failure::Word(Word::TableFile)),
         Some(asked) => format_slice(rt, &mut system, words, asked, output, errors),
-        None if words.is_joined => format_join(rt.alloc(), &mut system, words, input, output),
-        None => format(rt, &mut system, words, output, errors),
+        None if words.is_joined => {
+            format_join_kept(rt.alloc(), &mut system, &mut folders, words, input, output)
+        }
+        None => format_kept(rt, &mut system, &mut folders, words, output, errors),
     }
 }
 
@@ -147,6 +156,14 @@ fn check_written(request: Request<'_>) -> Result<(), Failure> {
         Request::Update(words) => check_here(words.data_path, words.hash_path),
         Request::Pull(words) => check_here(words.data_path, words.hash_path),
         Request::Recover(words) => check_here(words.data_path, words.hash_path),
+        _ => Ok(()),
+    }
+}
+
+/// That the file of a table line, where one is named, is named by a path, and by no URL.
+fn check_line_file(path: Option<&str>, word: Word) -> Result<(), Failure> {
+    match path {
+        Some(path) if path.is_empty() || is_url(path) => Err(Failure::Word(word)),
         _ => Ok(()),
     }
 }

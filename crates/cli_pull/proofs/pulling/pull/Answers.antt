@@ -1,6 +1,5 @@
-use Rattle.std.proofs.Common.{rules, ◌≡◌, ◌∙◌, List, ℕ, ap, subst, sym}
-use Rattle.std.proofs.Common.{OnOk, Result, Ok, Err}
-use Rattle.verity_superblock.specs.Line.{TableLine, IsTableLine, canonical}
+use Rattle.std.proofs.Common.{◌≡◌, ◌∙◌, List, ℕ, ap, subst}
+use Rattle.verity_superblock.specs.Line.{IsTableLine, canonical}
 use Rattle.std.specs.Io.KnownBytes.{Appends}
 use Rattle.cli_pull.specs.Printed.{pulled_text}
 use Rattle.cli_pull.specs.Words.{own_line}
@@ -10,20 +9,21 @@ use Rattle.cli_pull.proofs.pulling.pull.Goals as goal
 pub returns : goal.returns
 returns g c =
     let words = c.args.words.now in
-    let asked = c.in_ok-asked.asked in
+    let asked = c.in_ok-read.read.0 in
     let counts = c.in_ok-counts.counts in
-    let line : c.in_ok-tree.tree ≡ own_line words asked = c.in_ok-tree.ensures.value in
+    let made = c.in_ok-counts.ensures.made in
+    let line : c.in_ok-read.read.1 ≡ own_line words asked = c.in_ok-read.ensures.line in
     let text : c.deref.result.now ≡ canonical (own_line words asked) =
     c.deref.ensures ∙ (c.in_ok-text.ensures.text ∙ (ap canonical c.table.ensures.value ∙ ap canonical line)) in
     record {
       pulled = on_ok c.print_pulled.result (λ printed. record {
-        ready = c.recover_first.new.system;
-        is_ready = c.in_ok-is_recovered.ensures.ready;
+        ready = made.0;
+        is_ready = made.1;
         asked = asked;
         counts = counts;
-        is_asked = c.in_ok-asked.ensures.asked;
-        profile = subst IsTableLine line c.in_ok-tree.ensures.profile;
-        filled = c.in_ok-counts.ensures.filled;
+        is_asked = c.in_ok-read.ensures.asked;
+        profile = subst IsTableLine line c.in_ok-read.ensures.profile;
+        filled = made.2;
         printed = subst (λ (bytes : List ℕ). Appends (g.W.Write.contents c.args.output.now) (g.W.Write.contents c.print_pulled.new.output)
             (pulled_text counts bytes)) text printed;
       }) c.print_pulled.ensures.printed;

@@ -1,4 +1,4 @@
-use Rattle.std.proofs.Common.{◌≡◌, ◌+◌, subst}
+use Rattle.std.proofs.Common.{◌+◌, subst}
 use Rattle.verity_chain.specs.Table.{tree_len}
 use Rattle.verity_files.specs.declared.part.Part.TheVariants.{AtMost}
 use Rattle.cli_pull.specs.Opening.{IsOpened}

@@ -1,4 +1,4 @@
-use Rattle.std.proofs.Common.{◌≡◌, ◌∙◌, ◌-◌, ℕ, ap, arith}
+use Rattle.std.proofs.Common.{◌≡◌, ◌∙◌, ◌-◌, ap, arith}
 use Rattle.verity_chain.specs.Table.{Table, tree_len}
 use Rattle.verity_moved.specs.Moved.{moved_from}
 use Rattle.verity_pull.proofs.LayLemmas.{end_few}

@@ -1,4 +1,4 @@
-use Rattle.std.proofs.Common.{◌≡◌, ◌∙◌, ℕ, List, [], ◌++◌, length, take, drop, ap, sym, subst, append-nil, arith}
+use Rattle.std.proofs.Common.{◌≡◌, ◌∙◌, ℕ, List, ◌++◌, length, take, drop, ap, sym, subst, append-nil, arith}
 use Rattle.std.proofs.lemmas.List.{drop_all, take_all}
 use Rattle.verity_store.specs.Given.{GaveSince}
 use Rattle.verity_store.proofs.GivenLemmas.{since_now}

@@ -1,4 +1,4 @@
-use Rattle.std.proofs.Common.{◌≡◌, subst}
+use Rattle.std.proofs.Common.{subst}
 use Rattle.verity_superblock.specs.Reading.{Reads}
 use Rattle.cli_pull.proofs.superblock.superblock_before.Goals as goal
 

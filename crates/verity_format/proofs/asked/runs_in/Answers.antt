@@ -1,7 +1,7 @@
 use Rattle.std.proofs.Common.{rules, ◌≡◌, ◌<◌, ◌≤◌, ◌+◌, ◌-◌, ℕ, List, [], ◌∷◌, ◌++◌, length, slice_index, subst, arith}
 use Rattle.std.specs.Prelude.{Contains}
 use Rattle.verity_slice.specs.declared.run.Run.{Run}
-use Rattle.verity_format.specs.Asked.{IsLine, Tells}
+use Rattle.verity_format.specs.Asked.{IsLine}
 use Rattle.verity_format.proofs.Told.{told_more}
 use Rattle.verity_format.proofs.asked.runs_in.Goals as goal
 use Rattle.verity_format.proofs.asked.runs_in.Goals.{in-Some+in_ok-push, in_default}

@@ -1,4 +1,4 @@
-use Rattle.std.proofs.Common.{◌≡◌, refl, length, sym, subst, ap, ◌∙◌}
+use Rattle.std.proofs.Common.{refl, length, sym, subst, ap, ◌∙◌}
 use Rattle.verity_profile.specs.Profile.{AllSized}
 use Rattle.verity_superblock.specs.Image.{hash_blocks}
 use Rattle.verity_build.specs.Parameters.{front, volume}

@@ -1,4 +1,4 @@
-use Rattle.std.proofs.Common.{◌≡◌, ℕ, List, ap, sym, subst, ◌∙◌}
+use Rattle.std.proofs.Common.{◌≡◌, ap, sym, subst, ◌∙◌}
 use Rattle.verity_digest.specs.Hash.{hashing}
 use Rattle.verity_superblock.specs.Image.{hash_blocks}
 use Rattle.verity_build.specs.Parameters.{Parameters, front, salted_by, volume}

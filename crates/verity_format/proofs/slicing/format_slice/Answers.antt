@@ -1,4 +1,4 @@
-use Rattle.std.proofs.Common.{◌≡◌, Some, ap, sym, ◌∙◌}
+use Rattle.std.proofs.Common.{Some, ap, sym, ◌∙◌}
 use Rattle.verity_format.proofs.Told.{on_done}
 use Rattle.verity_format.proofs.slicing.format_slice.Goals as goal
 

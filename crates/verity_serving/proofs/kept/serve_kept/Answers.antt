@@ -1,0 +1,13 @@
+use Rattle.std.proofs.Common.{◌≡◌, true}
+use Rattle.std.specs.String.{string_bytes}
+use Rattle.verity_files.specs.Errors.{IsS1For}
+use Rattle.verity_serving.specs.Blamed.{ServeBlames}
+use Rattle.verity_serving.proofs.Keeping.{fails_under}
+use Rattle.verity_serving.proofs.kept.serve_kept.Goals as goal
+
+pub returns-clause-refused : goal.returns-clause-refused
+returns-clause-refused g c =
+    let a = c.args in
+    fails_under g.L.LineFolders g.L.Folder.LineFolder a.folders.now c.line_text.new.folders c.serve-2.result (ServeBlames a.words.now)
+    (IsS1For (g.S.System.refuses a.system.now ≡ true)) a.words.now.table_file c.in-Some.path (string_bytes c.in_ok-line.line)
+    c.in-Some.is c.in_ok-line.ensures.line c.serve-2.ensures.blames c.serve-2.ensures.system
