@@ -1,9 +1,9 @@
 """The tables of cases, a file for each command."""
-from cases import dumping, editing, explaining, fetching, formatting, pulling, readers, reading_words, recovering
-from cases import serving, slicing, slips, talking, trusting, updating, verifying
+from cases import dumping, editing, explaining, fetching, formatting, keeping, keeping_changes, pulling, readers, reading_words
+from cases import recovering, serving, slicing, slips, talking, trusting, updating, verifying
 
 TABLES = (formatting, slicing, dumping, editing, updating, pulling, trusting, verifying,
-          serving, talking, reading_words, slips, readers, recovering, explaining, fetching)
+          serving, talking, keeping, keeping_changes, reading_words, slips, readers, recovering, explaining, fetching)
 
 
 def all_cases():
