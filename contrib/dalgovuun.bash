@@ -8,18 +8,20 @@ _dalgovuun() {
     case $before in
     --algorithm) mapfile -t COMPREPLY < <(compgen -W 'sha256 sha512' -- "$current"); return ;;
     --journal) mapfile -t COMPREPLY < <(compgen -f -- "$current"); return ;;
+    --table-file) mapfile -t COMPREPLY < <(compgen -f -- "$current"); return ;;
+    --to-file) mapfile -t COMPREPLY < <(compgen -f -- "$current"); return ;;
     --cache | --data-block-size | --data-blocks | --hash-block-size | --hash-offset | --idle | --listen | --memory | --name | --salt | --sessions | --slice | --table | --timeout | --to | --uuid) return ;;
     esac
     case ${COMP_WORDS[1]} in
-    format) options='--salt --uuid --data-blocks --data-block-size --hash-block-size --algorithm --hash-offset --slice --join --quiet --help' ;;
+    format) options='--salt --uuid --data-blocks --data-block-size --hash-block-size --algorithm --hash-offset --slice --join --table-file --quiet --help' ;;
     dump) options='--hash-offset --help' ;;
-    edit) options='--hash-offset --table --journal --quiet --help' ;;
-    update) options='--hash-offset --table --journal --timeout --quiet --help' ;;
-    pull) options='--to --table --uuid --hash-offset --timeout --quiet --help' ;;
-    recover) options='--journal --help' ;;
-    verify) options='--table --slice --timeout --quiet --help' ;;
-    serve) options='--table --listen --name --cache --sessions --memory --idle --timeout --help' ;;
-    talk) options='--table --name --cache --timeout --help' ;;
+    edit) options='--hash-offset --table --table-file --journal --quiet --help' ;;
+    update) options='--hash-offset --table --table-file --journal --timeout --quiet --help' ;;
+    pull) options='--to --to-file --table --table-file --uuid --hash-offset --timeout --quiet --help' ;;
+    recover) options='--journal --table-file --help' ;;
+    verify) options='--table --table-file --slice --timeout --quiet --help' ;;
+    serve) options='--table --table-file --listen --name --cache --sessions --memory --idle --timeout --help' ;;
+    talk) options='--table --table-file --name --cache --timeout --help' ;;
     *) options= ;;
     esac
     case $current in
