@@ -16,8 +16,6 @@ mod crashes;
 mod folders;
 mod formats;
 mod four_files;
-#[cfg(test)]
-mod lines;
 mod memory;
 #[cfg(test)]
 mod pulls;
