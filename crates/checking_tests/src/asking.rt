@@ -27,6 +27,8 @@ pub enum Ask {
     Refuses(u64, u32, CheckFault),
     /// This block is refused with this fault, and nothing is appended.
     RefusesBlock(u64, CheckFault),
+    /// These ranges, each an offset and a length, are read beforehand, where that can be.
+    Warms(&'static [(u64, u32)]),
     /// A report lists these faults and counts so many places as unchecked.
     Reports(&'static [(Place, Verdict)], u64),
     /// A report lists this fault alone and counts so many places as unchecked.
@@ -65,6 +67,10 @@ fn is_answered<D: BlockStore, H: BlockStore, A: Allocator + Copy + Drop>(
         Ask::ServesBlocks(from, end) => serves_blocks(alloc, verifier, from, end),
         Ask::Refuses(offset, len, fault) => refuses(alloc, verifier, offset, len, fault),
         Ask::RefusesBlock(n, fault) => refuses_block(alloc, verifier, n, fault),
+        Ask::Warms(ranges) => {
+            verifier.warm(ranges);
+            true
+        }
         Ask::Reports(faults, unchecked) => reports(verifier, faults, unchecked),
         Ask::ReportsOne(place, verdict, unchecked) => {
             reports(verifier, &[(place, verdict)], unchecked)
@@ -75,6 +81,21 @@ fn is_answered<D: BlockStore, H: BlockStore, A: Allocator + Copy + Drop>(
             None => false,
         },
     }
+}
+
+/// How many things in a row a verifier answers as it is to; its memory is from a heap if there is one.
+pub fn answered_by<D: BlockStore, H: BlockStore, A: Allocator + Copy + Drop>(
+    alloc: Global,
+    heap: Option<&LocalHeap>,
+    verifier: &mut Verifier<D, H, A>,
+    asks: &[Ask],
+) -> usize {
+    for (count, ask) in asks.iter().enumerate() {
+        if !is_answered(alloc, heap, verifier, *ask) {
+            return count;
+        }
+    }
+    asks.len()
 }
 
 /// How many things in a row are answered as they are to be by a verifier over these stores whose memory is `memory`, which is a
@@ -90,12 +111,7 @@ pub fn answered_over<D: BlockStore + Drop, H: BlockStore + Drop, A: Allocator + 
     asks: &[Ask],
 ) -> Result<usize, CheckFault> {
     let mut verifier = Verifier::new(memory, table, data, hash, cache)?;
-    for (count, ask) in asks.iter().enumerate() {
-        if !is_answered(alloc, heap, &mut verifier, *ask) {
-            return Ok(count);
-        }
-    }
-    Ok(asks.len())
+    Ok(answered_by(alloc, heap, &mut verifier, asks))
 }
 
 /// Which call of a store fails.

@@ -1,5 +1,5 @@
-//! Reads and reports: values from outside, refusals, stores that fail or answer otherwise the second time, and memory that is
-//! refused. Tests, and nothing else.
+//! Reads and reports: values from outside, refusals, stores that fail or answer otherwise the second time, data blocks that are kept,
+//! and memory that is refused. Tests, and nothing else.
 #![tactic(auto)]
 
 #[cfg(test)]
@@ -8,6 +8,8 @@ mod asking;
 mod borders;
 #[cfg(test)]
 mod failures;
+#[cfg(test)]
+mod kept;
 #[cfg(test)]
 mod lies;
 #[cfg(test)]

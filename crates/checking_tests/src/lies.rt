@@ -9,8 +9,8 @@ use verity_check::{CheckFault, Place};
 use verity_digest::Algorithm;
 use verity_store::Block;
 
-// A store of as many blocks as there are bytes for, that gives these blocks of the bytes, in turn.
-fn picks(alloc: Global, bytes: &[u8], numbers: &[usize]) -> Result<ScriptStore, Fail> {
+/// A store of as many blocks as there are bytes for, that gives these blocks of the bytes, in turn.
+pub fn picks(alloc: Global, bytes: &[u8], numbers: &[usize]) -> Result<ScriptStore, Fail> {
     let mut answers = Vec::new(alloc);
     for n in numbers {
         let block = bytes.chunks(512).nth(*n).unwrap_or(&[]);

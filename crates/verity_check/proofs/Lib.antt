@@ -5,6 +5,8 @@ pub mod WalkLemmas
 pub mod RunLemmas
 pub mod RangeLemmas
 pub mod RangeRuns
+pub mod PartLemmas
 pub mod VerifierLemmas
 pub mod HoldsLaws
 pub mod ReportLaws
+mod WarmLemmas

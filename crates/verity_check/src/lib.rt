@@ -3,7 +3,9 @@
 //! A [`Verifier`] is made of a table line, which is trusted, and two stores, which are not: it reads no superblock. It
 //! appends data blocks ([`Verifier::read_block`]) and ranges of bytes ([`Verifier::read_at`]), and reports what is wrong
 //! in the whole volume ([`Verifier::report`]). The block that was checked is the block that is served: one read, one
-//! buffer. Hash blocks that were checked stay in a cache of bounded size, by level and index.
+//! buffer. Hash blocks that were checked stay in a cache of bounded size, by level and index. Beside it a verifier may have a cache of
+//! checked data blocks ([`Verifier::with_data_cache`]): a block of which a range takes a part only is served from it, where it has that
+//! block, without a read and without a digest. What waiting requests will ask for can be read into it side by side ([`Verifier::warm`]).
 //!
 //! The one contract that the layers above rely on, whatever the stores return: each block that is served ends a chain of
 //! blocks that the stores gave since the verifier was made, from the root hash of the table line down; a mismatch names a
@@ -17,17 +19,20 @@
 //!
 //! The tree of a table line, chains of given blocks, the image's own blocks and clashes are defined in `verity_chain`, below, and what
 //! a report finds and lists in `verity_report`. The other definitions stand in `specs/`: `Range` (ranges of bytes), `Refusal` (why a
-//! read is refused), `Holds` (stores that hold an image), `Verifier` (what contracts see of one); `Cache` has the invariant of the cache.
+//! read is refused), `Holds` (stores that hold an image), `Verifier` (what contracts see of one); `Cache` has the invariants of the caches.
 #![tactic(auto)]
 
 mod cache;
+mod data_cache;
 mod fault;
 pub mod laws;
+mod part;
 mod range;
 mod run;
 mod since;
 mod verifier;
 mod walk;
+mod warm;
 
 pub use cache::Key;
 pub use fault::CheckFault;

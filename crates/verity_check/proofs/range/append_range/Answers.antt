@@ -10,7 +10,7 @@ use Rattle.verity_chain.specs.Table.{Table, height}
 use Rattle.verity_check.specs.Range.{Served, touched}
 use Rattle.verity_chain.specs.Stores.{hash_given}
 use Rattle.verity_report.specs.Stores.{given_in}
-use Rattle.verity_check.specs.Cache.{IsChained}
+use Rattle.verity_check.specs.Cache.{IsChained, AreKept}
 use Rattle.verity_check.specs.Refusal.{RefusesOneOf}
 use Rattle.verity_check.proofs.WalkLemmas.{given_in-grows}
 use Rattle.verity_check.proofs.RangeLemmas.{IsDone, done_none, done_all}
@@ -44,6 +44,7 @@ loop-left-init g c =
       );
       position = λ p. omega (arith, ap (λ s. c.args.offset / s * t.data_block_size + c.args.offset % s) whole, split);
       chained = c.requires.chained;
+      kept = c.requires.kept;
       data_keeps = only_read_same D c.args.data_store.now;
       hash_keeps = only_read_same H c.args.hash_store.now;
       spare = c.requires.spare;
@@ -54,16 +55,33 @@ loop-left-init g c =
       same = refl;
     }
 
-pub read_run-requires-clause-chained : goal.read_run-requires-clause-chained
-read_run-requires-clause-chained g c =
+pub read_next-requires-clause-chained : goal.read_next-requires-clause-chained
+read_next-requires-clause-chained g c =
     let H = g.H.BlockStore in
     subst (λ tr. IsChained tr (hash_given H tr c.args.since.now.of_hash c.loop-left.hash_store) c.loop-left.cache)
     (sym c.loop-left.invariant.same) c.loop-left.invariant.chained
 
+pub read_next-requires-clause-kept : goal.read_next-requires-clause-kept
+read_next-requires-clause-kept g c =
+    let D = g.D.BlockStore in
+    let H = g.H.BlockStore in
+    subst (λ tr. AreKept tr (given_in D H tr c.args.since.now c.loop-left.data_store c.loop-left.hash_store) c.loop-left.data_cache)
+    (sym c.loop-left.invariant.same) c.loop-left.invariant.kept
+
+pub read_next-requires-clause-single : goal.read_next-requires-clause-single
+read_next-requires-clause-single g c = λ is. (c.takes_part-is_part.ensures.0 is).1
+
+pub returns-in-Err-clause-kept : goal.returns-in-Err-clause-kept
+returns-in-Err-clause-kept g c =
+    let D = g.D.BlockStore in
+    let H = g.H.BlockStore in
+    subst (λ tr. AreKept tr (given_in D H tr c.args.since.now c.read_next.new.data_store c.read_next.new.hash_store)
+    c.read_next.new.data_cache) c.loop-left.invariant.same c.in-Err.ensures.kept
+
 pub returns-in-Err-clause-chained : goal.returns-in-Err-clause-chained
 returns-in-Err-clause-chained g c =
     let H = g.H.BlockStore in
-    subst (λ tr. IsChained tr (hash_given H tr c.args.since.now.of_hash c.read_run.new.hash_store) c.read_run.new.cache)
+    subst (λ tr. IsChained tr (hash_given H tr c.args.since.now.of_hash c.read_next.new.hash_store) c.read_next.new.cache)
     c.loop-left.invariant.same c.in-Err.ensures.chained
 
 pub returns-in-Err-clause-err : goal.returns-in-Err-clause-err
@@ -74,21 +92,27 @@ returns-in-Err-clause-err g c =
     let inv = c.loop-left.invariant in
     let e = c.in-Err.ensures in
     let old = given_in D H t c.args.since.now c.loop-left.data_store c.loop-left.hash_store in
-    let new = given_in D H t c.args.since.now c.read_run.new.data_store c.read_run.new.hash_store in
-    let grows = given_in-grows D H t c.args.since.now c.loop-left.data_store c.read_run.new.data_store c.loop-left.hash_store
-    c.read_run.new.hash_store e.data_keeps e.hash_keeps in
-    let why : RefusesOneOf t new (D.failures c.loop-left.data_store < D.failures c.read_run.new.data_store)
-    (H.failures c.loop-left.hash_store < H.failures c.read_run.new.hash_store) c.loop-left.n c.run_len-count.result c.in-Err.fault =
-    subst (λ tr. RefusesOneOf tr (given_in D H tr c.args.since.now c.read_run.new.data_store c.read_run.new.hash_store)
-    (D.failures c.loop-left.data_store < D.failures c.read_run.new.data_store)
-    (H.failures c.loop-left.hash_store < H.failures c.read_run.new.hash_store) c.loop-left.n c.run_len-count.result c.in-Err.fault)
+    let new = given_in D H t c.args.since.now c.read_next.new.data_store c.read_next.new.hash_store in
+    let grows = given_in-grows D H t c.args.since.now c.loop-left.data_store c.read_next.new.data_store c.loop-left.hash_store
+    c.read_next.new.hash_store e.data_keeps e.hash_keeps in
+    let why : RefusesOneOf t new (D.failures c.loop-left.data_store < D.failures c.read_next.new.data_store)
+    (H.failures c.loop-left.hash_store < H.failures c.read_next.new.hash_store) c.loop-left.n c.run_len-count.result c.in-Err.fault =
+    subst (λ tr. RefusesOneOf tr (given_in D H tr c.args.since.now c.read_next.new.data_store c.read_next.new.hash_store)
+    (D.failures c.loop-left.data_store < D.failures c.read_next.new.data_store)
+    (H.failures c.loop-left.hash_store < H.failures c.read_next.new.hash_store) c.loop-left.n c.run_len-count.result c.in-Err.fault)
     inv.same e.err in
     refuses_run t old new grows _ _ _ _
-    (λ (p : D.failures c.loop-left.data_store < D.failures c.read_run.new.data_store). omega (arith, p, inv.data_keeps.later.failures))
-    (λ (p : H.failures c.loop-left.hash_store < H.failures c.read_run.new.hash_store). omega (arith, p, inv.hash_keeps.later.failures))
+    (λ (p : D.failures c.loop-left.data_store < D.failures c.read_next.new.data_store). omega (arith, p, inv.data_keeps.later.failures))
+    (λ (p : H.failures c.loop-left.hash_store < H.failures c.read_next.new.hash_store). omega (arith, p, inv.hash_keeps.later.failures))
     c.args.offset c.args.len c.loop-left.n c.loop-left.skip c.loop-left.left inv.done.0 inv.done.2 c.run_len-count.result
     (block_size_some t.data_block_size c.requires.allowed.data_size) c.loop-left-test.true
-    (omega (arith, c.run_len-count.ensures.most, c.min.ensures, ap (λ s. (c.loop-left.skip + c.loop-left.left - 1) / s) inv.size))
+    (omega (
+      arith,
+      c.run_len-count.ensures.most,
+      c.min.ensures,
+      c.blocks_at_most-most.ensures.most,
+      ap (λ s. (c.loop-left.skip + c.loop-left.left - 1) / s) inv.size,
+    ))
     (inv.position c.loop-left-test.true) c.in-Err.fault why
 
 pub returns-in-Err-clause-data_reads : goal.returns-in-Err-clause-data_reads
@@ -97,8 +121,13 @@ returns-in-Err-clause-data_reads g c =
     let inv = c.loop-left.invariant in
     let next = run_few t c.args.offset c.args.len c.loop-left.n c.run_len-count.result c.loop-left.skip c.loop-left.left
     (block_size_some t.data_block_size c.requires.allowed.data_size) c.loop-left-test.true (omega (arith, inv.done.2.count))
-    c.run_len-count.ensures.some (omega
-    (arith, c.run_len-count.ensures.most, c.min.ensures, ap (λ s. (c.loop-left.skip + c.loop-left.left - 1) / s) inv.size))
+    c.run_len-count.ensures.some (omega (
+      arith,
+      c.run_len-count.ensures.most,
+      c.min.ensures,
+      c.blocks_at_most-most.ensures.most,
+      ap (λ s. (c.loop-left.skip + c.loop-left.left - 1) / s) inv.size,
+    ))
     (inv.position c.loop-left-test.true) in
     omega (arith, c.in-Err.ensures.data_reads, inv.data_reads, next)
 
@@ -110,8 +139,13 @@ returns-in-Err-clause-hash_reads g c =
     let first : ℕ = c.args.offset / t.data_block_size in
     let next = run_few t c.args.offset c.args.len c.loop-left.n c.run_len-count.result c.loop-left.skip c.loop-left.left
     (block_size_some t.data_block_size c.requires.allowed.data_size) c.loop-left-test.true (omega (arith, inv.done.2.count))
-    c.run_len-count.ensures.some (omega
-    (arith, c.run_len-count.ensures.most, c.min.ensures, ap (λ s. (c.loop-left.skip + c.loop-left.left - 1) / s) inv.size))
+    c.run_len-count.ensures.some (omega (
+      arith,
+      c.run_len-count.ensures.most,
+      c.min.ensures,
+      c.blocks_at_most-most.ensures.most,
+      ap (λ s. (c.loop-left.skip + c.loop-left.left - 1) / s) inv.size,
+    ))
     (inv.position c.loop-left-test.true) in
     let up : (c.loop-left.n + c.run_len-count.result) * height t ≤ (first + touched t c.args.offset c.args.len) * height t =
     mul-le-mul_right (height t) next in
@@ -134,14 +168,14 @@ loop-left-preserved g c =
     let e = c.in_default.ensures in
     let count : ℕ = c.run_len-count.result in
     let z : ℕ = t.data_block_size in
-    let x : List ℕ = c.read_run.new.run in
+    let x : List ℕ = c.read_next.new.run in
     let some = block_size_some t.data_block_size c.requires.allowed.data_size in
     let old = given_in D H t c.args.since.now c.loop-left.data_store c.loop-left.hash_store in
-    let new = given_in D H t c.args.since.now c.read_run.new.data_store c.read_run.new.hash_store in
-    let grows = given_in-grows D H t c.args.since.now c.loop-left.data_store c.read_run.new.data_store c.loop-left.hash_store
-    c.read_run.new.hash_store e.data_keeps e.hash_keeps in
+    let new = given_in D H t c.args.since.now c.read_next.new.data_store c.read_next.new.hash_store in
+    let grows = given_in-grows D H t c.args.since.now c.loop-left.data_store c.read_next.new.data_store c.loop-left.hash_store
+    c.read_next.new.hash_store e.data_keeps e.hash_keeps in
     let size : c.data_block_size-size.result ≡ t.data_block_size = inv.size in
-    let whole : length x ≡ count * z = c.read_run.auto.run
+    let whole : length x ≡ count * z = c.read_next.auto.run
     ∙ length-take-le (count * c.data_block_size-size.result) c.loop-left.run c.run_len-count.ensures.fits ∙ ap (λ m. count * m) size in
     let one : z ≤ count * z = omega (arith, mul-le-mul_right z c.run_len-count.ensures.some) in
     let rest : List ℕ = drop (count * c.data_block_size-size.result) c.loop-left.run in
@@ -166,7 +200,7 @@ loop-left-preserved g c =
     ∙ ap (λ o. o ++ take c.min-piece.result (drop c.loop-left.skip x)) inv.done.1
     ∙ append_assoc c.args.out.now.items inv.done.0 (take c.min-piece.result (drop c.loop-left.skip x)) in
     let served : Served t new c.loop-left.n (cut z count x) =
-    subst (λ tr. Served tr (given_in D H tr c.args.since.now c.read_run.new.data_store c.read_run.new.hash_store) c.loop-left.n
+    subst (λ tr. Served tr (given_in D H tr c.args.since.now c.read_next.new.data_store c.read_next.new.hash_store) c.loop-left.n
     (cut tr.data_block_size count x)) inv.same e.ok in
     record {
       done = (
@@ -178,8 +212,10 @@ loop-left-preserved g c =
       size = inv.size;
       skips = some;
       position = λ p. omega (arith, p, piece, whole, inv.position c.loop-left-test.true, one, inv.skips, add-mul c.loop-left.n count z);
-      chained = subst (λ tr. IsChained tr (hash_given H tr c.args.since.now.of_hash c.read_run.new.hash_store) c.read_run.new.cache)
+      chained = subst (λ tr. IsChained tr (hash_given H tr c.args.since.now.of_hash c.read_next.new.hash_store) c.read_next.new.cache)
           inv.same e.chained;
+      kept = subst (λ tr. AreKept tr (given_in D H tr c.args.since.now c.read_next.new.data_store c.read_next.new.hash_store)
+          c.read_next.new.data_cache) inv.same e.kept;
       data_keeps = only_read_then D _ _ _ inv.data_keeps e.data_keeps;
       hash_keeps = only_read_then H _ _ _ inv.hash_keeps e.hash_keeps;
       spare = omega (
@@ -196,10 +232,16 @@ loop-left-preserved g c =
         cut_len,
         piece,
       );
-      room = (omega (arith, all, inv.room.0), c.read_run.auto.hash_block ∙ inv.room.1);
+      room = (omega (arith, all, inv.room.0), c.read_next.auto.hash_block ∙ inv.room.1);
       few = run_few t c.args.offset c.args.len c.loop-left.n count c.loop-left.skip c.loop-left.left some c.loop-left-test.true
           (omega (arith, inv.done.2.count)) c.run_len-count.ensures.some
-          (omega (arith, c.run_len-count.ensures.most, c.min.ensures, ap (λ s. (c.loop-left.skip + c.loop-left.left - 1) / s) inv.size))
+          (omega (
+            arith,
+            c.run_len-count.ensures.most,
+            c.min.ensures,
+            c.blocks_at_most-most.ensures.most,
+            ap (λ s. (c.loop-left.skip + c.loop-left.left - 1) / s) inv.size,
+          ))
           (inv.position c.loop-left-test.true);
       data_reads = omega (arith, e.data_reads, inv.data_reads);
       hash_reads = omega (
@@ -228,15 +270,21 @@ returns-clause-hash_reads g c =
     let up : c.loop-left.n * height t ≤ (first + touched t c.args.offset c.args.len) * height t = mul-le-mul_right (height t) inv.few in
     omega (arith, inv.hash_reads, add-mul first (touched t c.args.offset c.args.len) (height t))
 
-pub read_run-requires-clause-below : goal.read_run-requires-clause-below
-read_run-requires-clause-below g c =
+pub read_next-requires-clause-below : goal.read_next-requires-clause-below
+read_next-requires-clause-below g c =
     let t = c.args.tree.now in
     let inv = c.loop-left.invariant in
     subst (λ (tr : Table). c.loop-left.n + c.run_len-count.result ≤ tr.data_blocks) (sym inv.same)
     (run_below c.loop-left.n c.run_len-count.result t.data_block_size c.loop-left.skip c.loop-left.left (c.args.offset + c.args.len)
     t.data_blocks (block_size_some t.data_block_size c.requires.allowed.data_size)
     c.loop-left-test.true c.run_len-count.ensures.some
-    (omega (arith, c.run_len-count.ensures.most, c.min.ensures, ap (λ s. (c.loop-left.skip + c.loop-left.left - 1) / s) inv.size))
+    (omega (
+      arith,
+      c.run_len-count.ensures.most,
+      c.min.ensures,
+      c.blocks_at_most-most.ensures.most,
+      ap (λ s. (c.loop-left.skip + c.loop-left.left - 1) / s) inv.size,
+    ))
     (inv.position c.loop-left-test.true) c.requires.inside)
 
 pub overflow_add-n : goal.overflow_add-n
@@ -246,7 +294,13 @@ overflow_add-n g c =
     let below = run_below c.loop-left.n c.run_len-count.result t.data_block_size c.loop-left.skip c.loop-left.left
     (c.args.offset + c.args.len) t.data_blocks (block_size_some t.data_block_size c.requires.allowed.data_size)
     c.loop-left-test.true c.run_len-count.ensures.some
-    (omega (arith, c.run_len-count.ensures.most, c.min.ensures, ap (λ s. (c.loop-left.skip + c.loop-left.left - 1) / s) inv.size))
+    (omega (
+      arith,
+      c.run_len-count.ensures.most,
+      c.min.ensures,
+      c.blocks_at_most-most.ensures.most,
+      ap (λ s. (c.loop-left.skip + c.loop-left.left - 1) / s) inv.size,
+    ))
     (inv.position c.loop-left-test.true) c.requires.inside in
     omega (arith, below, block_count_high t.data_blocks c.requires.allowed.blocks)
 
@@ -258,19 +312,19 @@ shape_of-run-in-Err g c =
     let rest : List ℕ = drop (c.run_len-count.result * c.data_block_size-size.result) c.loop-left.run in
     omega (
       arith,
-      length-append c.read_run.new.run rest,
+      length-append c.read_next.new.run rest,
       length-drop (c.run_len-count.result * c.data_block_size-size.result) c.loop-left.run,
       length-take-le (c.run_len-count.result * c.data_block_size-size.result) c.loop-left.run c.run_len-count.ensures.fits,
-      c.read_run.auto.run,
+      c.read_next.auto.run,
       c.loop-left.invariant.room.0,
       c.run_len-count.ensures.fits,
     )
 
-pub read_run-requires-clause-data_since : goal.read_run-requires-clause-data_since
-read_run-requires-clause-data_since g c = omega (arith, c.requires.data_since, goes_on_len _ _ c.loop-left.invariant.data_keeps.later.gave)
+pub read_next-requires-clause-data_since : goal.read_next-requires-clause-data_since
+read_next-requires-clause-data_since g c = omega (arith, c.requires.data_since, goes_on_len _ _ c.loop-left.invariant.data_keeps.later.gave)
 
-pub read_run-requires-clause-hash_since : goal.read_run-requires-clause-hash_since
-read_run-requires-clause-hash_since g c = omega (arith, c.requires.hash_since, goes_on_len _ _ c.loop-left.invariant.hash_keeps.later.gave)
+pub read_next-requires-clause-hash_since : goal.read_next-requires-clause-hash_since
+read_next-requires-clause-hash_since g c = omega (arith, c.requires.hash_since, goes_on_len _ _ c.loop-left.invariant.hash_keeps.later.gave)
 
 pub returns-in-Err-clause-data_keeps : goal.returns-in-Err-clause-data_keeps
 returns-in-Err-clause-data_keeps g c = only_read_then g.D.BlockStore _ _ _ c.loop-left.invariant.data_keeps c.in-Err.ensures.data_keeps

@@ -1,4 +1,4 @@
-use Rattle.std.proofs.Common.{◌≡◌, ℕ, ◌+◌, ◌<◌, sym, subst}
+use Rattle.std.proofs.Common.{◌+◌, sym, subst}
 use Rattle.std.specs.Fork.{slice_chunk}
 use Rattle.verity_store.specs.Given.{GaveSince}
 use Rattle.verity_store.proofs.RunLemmas.{since_run}

@@ -1,0 +1,208 @@
+//! Data blocks that waiting requests will ask for, read and hashed side by side beforehand.
+//!
+//! They are kept in the data cache, each once it was checked, and nothing else comes of it: one that isn't right or can't be read is
+//! left to the request that asks for it.
+ghost use Rattle.std.specs.Prelude.{◌≡◌, ℕ, ◌+◌, ◌*◌, ◌<◌, ◌≤◌, ◌⊎◌, true, []};
+ghost use Rattle.std.specs.Prelude.{List, length, slice_index_or};
+ghost use Rattle.std.specs.Fork.{slice_chunk};
+ghost use Rattle.verity_store.specs.Given.{GaveSince};
+ghost use Rattle.verity_store.specs.Stores.{IsOnlyRead};
+ghost use Rattle.verity_chain.specs.Table.{IsTable, height};
+ghost use Rattle.verity_chain.specs.Chain.{Names};
+ghost use Rattle.verity_chain.specs.Stores.{hash_given, IsHashStoreOf};
+ghost use Rattle.verity_report.specs.Stores.{given_in, IsDataStoreOf};
+ghost use Rattle.verity_check.specs.Cache.{IsChained, IsKept, AreKept};
+
+use crate::cache::Cache;
+use crate::data_cache::{DataCache, is_kept, lies_in_one, remember_block};
+use crate::since::Since;
+use crate::walk::name;
+use std::alloc::Allocator;
+use verity_chain::Tree;
+use verity_digest::Digest;
+use verity_store::BlockStore;
+
+/// How many data blocks are read and hashed side by side at most.
+pub(crate) const BESIDE: usize = 8;
+
+// Whether the last of the first `count` numbers is this one.
+fn ends_with(numbers: &[u64], count: usize, n: u64) -> bool
+    requires { count ≤ length numbers.now }
+{
+    match count.checked_sub(1) {
+        Some(last) => numbers[last] == n,
+        None => false,
+    }
+}
+
+/// Notes in `numbers` the data blocks of those ranges that lie in one block which isn't kept; up to `most`, and of ranges in a row that lie
+/// in the same block that one once. How many.
+pub(crate) fn choose<A: Allocator>(
+    data_cache: &Option<DataCache<A>>,
+    ranges: &[(u64, u32)],
+    size: u64,
+    blocks: u64,
+    most: usize,
+    numbers: &mut [u64],
+) -> usize
+    requires size { 0 < size }
+    ensures most { result ≤ most }
+    ensures fits { result ≤ length numbers.old }
+    ensures each { result ≤ length ranges.now }
+    ensures below { (j : ℕ) → j < result → slice_index_or numbers.new j 0 < blocks }
+{
+    let mut count = 0;
+    'each: for i in 0..ranges.len() {
+        let (offset, len) = ranges[i];
+        let n = offset / size;
+        let is_one = lies_in_one(offset, u64::from(len), size) && n < blocks;
+        let is_new = !ends_with(numbers, count, n) && !is_kept(data_cache, n);
+        if count < most && count < numbers.len() && is_one && is_new {
+            numbers[count] = n;
+            count += 1;
+        }
+    }
+    count
+}
+
+/// The digests that the checked blocks above these data blocks name for them, up to the first for which there is none. How many.
+fn name_each<H: BlockStore, A: Allocator + Copy + Drop>(
+    tree: &mut Tree<A>,
+    hash_store: &mut H,
+    hash_block: &mut [u8],
+    cache: &mut Cache<A>,
+    alloc: A,
+    since: &Since,
+    numbers: &[u64],
+    names: &mut [Digest],
+) -> usize
+    requires allowed { IsTable tree.old }
+    requires store { IsHashStoreOf H.BlockStore tree.old hash_store.old }
+    requires whole { length hash_block.old ≡ tree.old.hash_block_size }
+    requires since { since.now.of_hash ≤ length (H.given hash_store.old) }
+    requires chained { IsChained tree.old (hash_given H.BlockStore tree.old since.now.of_hash hash_store.old) cache.old }
+    requires below { (j : ℕ) → j < length numbers.now → slice_index_or numbers.now j 0 < tree.old.data_blocks }
+    requires room { length names.old ≡ length numbers.now }
+    ensures most { result ≤ length numbers.now }
+    ensures named { (j : ℕ) → j < result → Names tree.old (hash_given H.BlockStore tree.old since.now.of_hash hash_store.new) 0
+        (slice_index_or numbers.now j 0) (slice_index_or names.new j []) }
+    ensures chained { IsChained tree.old (hash_given H.BlockStore tree.old since.now.of_hash hash_store.new) cache.new }
+    ensures keeps { IsOnlyRead H.BlockStore hash_store.old hash_store.new }
+    ensures reads { H.reads hash_store.new ≤ H.reads hash_store.old + length numbers.now * height tree.old }
+    ensures same { tree.new ≡ tree.old }
+{
+    'each: for j in 0..numbers.len() {
+        match name(
+            tree, hash_store, hash_block, cache, alloc, since, numbers[j],
+        ) {
+            Ok(digest) => names[j] = digest,
+            Err(_) => return j,
+        }
+    }
+    numbers.len()
+}
+
+/// Reads these blocks into `out`, which has the bytes of as many, one after the other, up to the first that can't be read. How many.
+fn read_each<S: BlockStore>(store: &mut S, numbers: &[u64], size: usize, out: &mut [u8]) -> usize
+    requires size { size ≡ S.size store.old }
+    requires within { (j : ℕ) → j < length numbers.now → slice_index_or numbers.now j 0 < length (S.content store.old) }
+    requires sized { length out.old ≡ length numbers.now * size }
+    ensures most { result ≤ length numbers.now }
+    ensures given { (mark : ℕ) → mark ≤ length (S.given store.old) → (j : ℕ) → j < result
+        → GaveSince (S.given store.new) mark (slice_index_or numbers.now j 0) (slice_chunk out.new size j) }
+    ensures right { S.tells store.old ≡ true → (j : ℕ) → j < result
+        → slice_index_or (S.content store.old) (slice_index_or numbers.now j 0) [] ≡ slice_chunk out.new size j }
+    ensures counted { S.reads store.new ≤ S.reads store.old + length numbers.now }
+    ensures read { IsOnlyRead S.BlockStore store.old store.new }
+{
+    'each: for j in 0..numbers.len() {
+        let at = j * size;
+        match store.read(numbers[j], &mut out[at..at + size]) {
+            Ok(()) => {}
+            Err(_) => return j,
+        }
+    }
+    numbers.len()
+}
+
+fn is_same(a: &Digest, b: &Digest) -> bool
+    ensures { result ≡ true → a.now ≡ b.now }
+{
+    a.bytes() == b.bytes()
+}
+
+/// Keeps those of these blocks whose digest is the one that is named for them.
+fn keep_each<A: Allocator + Copy + Drop>(
+    data_cache: &mut Option<DataCache<A>>,
+    alloc: A,
+    numbers: &[u64],
+    names: &[Digest],
+    digests: &[Digest],
+    blocks: &[u8],
+    size: usize,
+)
+    requires names { length digests.now ≤ length names.now }
+    requires numbers { length digests.now ≤ length numbers.now }
+    requires sized { length digests.now * size ≤ length blocks.now }
+    ensures kept { (m : ℕ) (b : List ℕ) → IsKept data_cache.new m b → IsKept data_cache.old m b
+        ⊎ ((j : ℕ) × (j < length digests.now) × (slice_index_or digests.now j [] ≡ slice_index_or names.now j [])
+        × (m ≡ slice_index_or numbers.now j 0) × (b ≡ slice_chunk blocks.now size j)) }
+{
+    'each: for j in 0..digests.len() {
+        if is_same(&digests[j], &names[j]) {
+            let at = j * size;
+            remember_block(data_cache, alloc, numbers[j], &blocks[at..at + size]);
+        }
+    }
+}
+
+/// Reads these data blocks into `run`, which has room for as many, hashes them side by side, and keeps those that are right. It stops
+/// reading at the first whose path isn't right, or which can't be read.
+pub(crate) fn warm_blocks<D: BlockStore, H: BlockStore, A: Allocator + Copy + Drop>(
+    tree: &mut Tree<A>,
+    data_store: &mut D,
+    hash_store: &mut H,
+    hash_block: &mut [u8],
+    run: &mut [u8],
+    cache: &mut Cache<A>,
+    data_cache: &mut Option<DataCache<A>>,
+    alloc: A,
+    since: &Since,
+    numbers: &[u64],
+)
+    requires allowed { IsTable tree.old }
+    requires data_store { IsDataStoreOf D.BlockStore tree.old data_store.old }
+    requires hash_store { IsHashStoreOf H.BlockStore tree.old hash_store.old }
+    requires hash_whole { length hash_block.old ≡ tree.old.hash_block_size }
+    requires few { length numbers.now ≤ 8 }
+    requires room { length numbers.now * tree.old.data_block_size ≤ length run.old }
+    requires below { (j : ℕ) → j < length numbers.now → slice_index_or numbers.now j 0 < tree.old.data_blocks }
+    requires data_since { since.now.of_data ≤ length (D.given data_store.old) }
+    requires hash_since { since.now.of_hash ≤ length (H.given hash_store.old) }
+    requires chained { IsChained tree.old (hash_given H.BlockStore tree.old since.now.of_hash hash_store.old) cache.old }
+    requires kept { AreKept tree.old (given_in D.BlockStore H.BlockStore tree.old since.now data_store.old hash_store.old) data_cache.old }
+    ensures chained { IsChained tree.old (hash_given H.BlockStore tree.old since.now.of_hash hash_store.new) cache.new }
+    ensures kept { AreKept tree.old (given_in D.BlockStore H.BlockStore tree.old since.now data_store.new hash_store.new) data_cache.new }
+    ensures data_keeps { IsOnlyRead D.BlockStore data_store.old data_store.new }
+    ensures hash_keeps { IsOnlyRead H.BlockStore hash_store.old hash_store.new }
+    ensures data_reads { D.reads data_store.new ≤ D.reads data_store.old + length numbers.now }
+    ensures hash_reads { H.reads hash_store.new ≤ H.reads hash_store.old + length numbers.now * height tree.old }
+    ensures same { tree.new ≡ tree.old }
+{
+    let size = tree.table().data_block_size();
+    let mut room_for_names = [tree.root(); BESIDE];
+    let names = &mut room_for_names[..numbers.len()];
+    let named = name_each(
+        tree, hash_store, hash_block, cache, alloc, since, numbers, names,
+    );
+    let read = read_each(
+        data_store,
+        &numbers[..named],
+        size,
+        &mut run[..named * size],
+    );
+    let mut room_for_digests = [tree.root(); BESIDE];
+    let digests = &mut room_for_digests[..read];
+    tree.digest_run(&run[..read * size], size, digests);
+    keep_each(data_cache, alloc, numbers, names, digests, run, size);
+}
