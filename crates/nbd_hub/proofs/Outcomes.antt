@@ -40,6 +40,11 @@ together b offer hub h e n c x =
     let q = subst P (sym e) x in
     record { next = n; count = c; sessions = λ k. (q k).stands; told = λ k. (q k).told; fresh = λ k. (q k).fresh }
 
+-- what a hub was after, it is after still
+pub after_warmed : (a b : Facts) (hub : HubState) (h : List Step) → Keeps a b → IsAfter a hub h → IsAfter b hub h
+after_warmed a b hub h keeps x = together b hub.offer hub h refl x.next x.count
+    (λ k. later a b hub.offer h k (lookup k hub.sessions) keeps (knows a hub h x k))
+
 -- a session of another number
 other : (a b : Facts) (offer : Offer) (h : List Step) (s : Step) (k : ℕ) (o o' : Option State) → Keeps a b
     → taken s k ≡ Nothing → said s k ≡ [] → ends s k ≡ false → (k < opened (h ++ s ∷ []) → k < opened h) → o' ≡ o →

@@ -22,6 +22,10 @@
 //! What an export says of its own value (its `later`) holds between any two moments of its sessions, so the layer above
 //! knows its export again.
 //!
+//! [`Sessions::warm`] is no step: it tells the export what waiting bytes will ask for, changes no session, and leaves them after
+//! every history that they were after. The export may then have been read by more than its sessions asked for. Neither
+//! [`Sessions::run`] nor [`serve`] calls it.
+//!
 //! # Errors
 //!
 //! [`HubFault`], H1 to H4: a refused call changes nothing. [`ServeFault`], N1 to N5. `AllocError` of [`Sessions::run`].
@@ -39,5 +43,5 @@ pub use ends::{CountedReader, CountedWriter, Input, Output};
 pub use events::{Event, HubReply};
 pub use fault::{HubFault, ServeFault};
 pub use held_bytes::HeldBytes as Piece;
-pub use sessions::Sessions;
+pub use sessions::{MAX_AHEAD, Sessions};
 pub use stream::serve;

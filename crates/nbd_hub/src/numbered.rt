@@ -1,7 +1,8 @@
 //! A session and its number.
 
-ghost use Rattle.std.specs.Prelude.{◌≡◌, ◌≤◌, ℕ, List, length, false, MatchOption, None};
+ghost use Rattle.std.specs.Prelude.{◌≡◌, ◌≤◌, ℕ, List, length, take, false, All, MatchOption, None};
 ghost use Rattle.nbd_session.specs.Protocol.{short};
+ghost use Rattle.nbd_session.specs.Export.{IsWithin};
 ghost use Rattle.nbd_session.specs.Session.{Feeds, IsAt, added};
 ghost use Rattle.nbd_session.specs.Short.{asked};
 ghost use Rattle.nbd_session.specs.Conversation.{Grows};
@@ -65,6 +66,14 @@ impl<A: Allocator> Numbered<A> {
             → result ≡ asked (added self.now.session.offer input piece.now) }
     {
         self.session.asks(piece)
+    }
+
+    /// Notes what the READs that wait will ask the export for, and returns how many it noted.
+    pub fn ahead(&self, waiting: &[u8], ranges: &mut [(u64, u32)]) -> usize
+        ensures count { result ≤ length ranges.new }
+        ensures within { All (IsWithin self.now.session.offer.size) (take result ranges.new) }
+    {
+        self.session.ahead(waiting, ranges)
     }
 }
 

@@ -23,6 +23,9 @@ const MAX_OPEN: usize = 64;
 /// How many sessions may ever be opened.
 const MAX_OPENED: u64 = 1 << 32;
 
+/// How many ranges the export is told beforehand, at most.
+pub const MAX_AHEAD: usize = 8;
+
 /// Sessions over one export. Contracts see what they offer, the number of the next, those that are open, and the export.
 #[derive(Drop)]
 pub struct Sessions<E: Export, A: Allocator = Global> {
@@ -150,6 +153,30 @@ impl<E: Export, A: Allocator + Copy> Sessions<E, A> {
             Some(at) => self.open[at].asks(piece),
             None => 0,
         }
+    }
+
+    /// Tells the export what the READs at the head of these bytes will ask for, which wait to be fed to a session: the first
+    /// [`MAX_AHEAD`] at most, as [`Session::ahead`] notes them. Where there are fewer than two, or no session of this number is
+    /// open, it tells nothing.
+    ///
+    /// It is a hint to [`Export::warm`], which may read beforehand: no session changes, and nothing is said to a client.
+    pub fn warm(&mut self, id: u64, waiting: &[u8])
+        ensures state { self.new.0 ≡ self.old.0 }
+        ensures keeps { Keeps (E.facts self.old.1) (E.facts self.new.1) }
+        ensures later { E.later self.old.1 self.new.1 }
+        ensures unknown { lookup id self.old.0.sessions ≡ None → self.new ≡ self.old }
+        ensures after { (history : List Step) → IsAfter (E.facts self.old.1) self.old.0 history
+            → IsAfter (E.facts self.new.1) self.new.0 history }
+    {
+        let Some(at) = find(&self.open, id) else {
+            return;
+        };
+        let mut ranges = [(0u64, 0u32); MAX_AHEAD];
+        let noted = self.open[at].ahead(waiting, &mut ranges);
+        if noted < 2 {
+            return;
+        }
+        self.export.warm(&ranges[..noted]);
     }
 
     /// Ends a session.

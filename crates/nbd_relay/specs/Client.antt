@@ -6,7 +6,7 @@ use Rattle.nbd_session.specs.declared.offer.Offer.{Offer}
 use Rattle.nbd_session.specs.declared.phase.Phase.TheVariants as phase
 use Rattle.nbd_session.specs.declared.status.Status.{Status}
 use Rattle.nbd_session.specs.declared.status.Status.TheVariants as status
-use Rattle.nbd_session.specs.Export.{Facts}
+use Rattle.nbd_session.specs.Export.{Facts, Keeps}
 use Rattle.nbd_session.specs.Talk.{Verdict, Judged, hear, talk, replies}
 use Rattle.nbd_session.specs.Session.{added}
 use Rattle.nbd_session.specs.Short.{asked}
@@ -107,6 +107,11 @@ IsPart client part.Send = 0 < length client.unsent
 IsPart client part.End = (client.unsent ≡ []) × (client.over ≡ true)
 IsPart client part.Feed = (client.unsent ≡ []) × (client.over ≡ false) × (0 < length client.waiting)
 IsPart client part.Read = (client.unsent ≡ []) × (client.over ≡ false) × (client.waiting ≡ [])
+
+-- The export was told what will be asked for: the hub is after whatever it was after.
+pub record IsWarmed (old_facts new_facts : Facts) (hub : HubState) : Type 0 where
+  pub keeps : Keeps old_facts new_facts
+  pub after : (history : List Step) → IsAfter old_facts hub history → IsAfter new_facts hub history
 
 -- A piece of what waited was fed where nothing was unsent, or the session is starved.
 pub record Feeds (old_facts new_facts : Facts) (old_hub new_hub : HubState) (old new : ClientState) (result : Turn) : Type 0 where

@@ -14,11 +14,11 @@ ghost use Rattle.nbd_hub.specs.History.{Step, Opening, own};
 ghost use Rattle.nbd_hub.specs.Sessions.{lookup, OpensOne, max_open, max_opened};
 ghost use Rattle.nbd_hub.specs.After.{IsAfter};
 ghost use Rattle.nbd_relay.specs.Asked.{IsHandedOn};
-ghost use Rattle.nbd_relay.specs.Client.{AsksFor, IsServed, TurnsOn, IsPart, Sends, Reads, Feeds, ends, input_bytes, IsUnready, Moves};
-ghost use Rattle.nbd_relay.specs.Client.{fault_in};
+ghost use Rattle.nbd_relay.specs.Client.{AsksFor, IsServed, TurnsOn, IsPart, Sends, Reads, IsWarmed, Feeds, ends, input_bytes, IsUnready};
+ghost use Rattle.nbd_relay.specs.Client.{Moves, fault_in};
 
 use crate::stream::Stream;
-use nbd_hub::{HubFault, ServeFault, Sessions};
+use nbd_hub::{HubFault, MAX_AHEAD, ServeFault, Sessions};
 use nbd_session::{Export, Status};
 use std::alloc::{Allocator, Global};
 use std::io::{self, ErrorKind};
@@ -29,6 +29,9 @@ const INPUT_BYTES: usize = 4_096;
 
 /// The most bytes that are fed at once: those of a request's header, so that at most one READ's bytes are pending.
 const PIECE_BYTES: usize = 28;
+
+/// The most waiting bytes that are announced at once: the headers of as many requests as an export is told beforehand.
+const AHEAD_BYTES: usize = MAX_AHEAD * PIECE_BYTES;
 
 /// The most bytes of memory that are kept for what is said once all of it is sent.
 const KEPT_BYTES: usize = 65_536;
@@ -69,6 +72,8 @@ pub struct Client<S, A: Allocator = Global> {
     input: [u8; INPUT_BYTES],
     begin: usize,
     end: usize,
+    /// Up to where the hub was told what the bytes of the input will ask for.
+    announced: usize,
     pending: Vec<u8, A>,
     sent: usize,
     over: bool,
@@ -125,6 +130,7 @@ impl<S: Stream + Drop, A: Allocator> Client<S, A> {
                 input: [0; INPUT_BYTES],
                 begin: 0,
                 end: 0,
+                announced: 0,
                 pending,
                 sent: 0,
                 over: false,
@@ -271,6 +277,7 @@ impl<S: Stream + Drop, A: Allocator> Client<S, A> {
             Ok(taken) => {
                 self.begin = 0;
                 self.end = taken;
+                self.announced = 0;
                 Turn::Again
             }
             Err(e) => {
@@ -283,6 +290,24 @@ impl<S: Stream + Drop, A: Allocator> Client<S, A> {
                 }
             }
         }
+    }
+
+    /// Tells the hub what the requests that wait will ask for, where they are two at least and all that it was told of before is
+    /// fed.
+    fn announce<E: Export, H: Allocator + Copy>(&mut self, hub: &mut Sessions<E, H>)
+        ensures same { self.new ≡ self.old }
+        ensures state { hub.new.0 ≡ hub.old.0 }
+        ensures keeps { KeepsFacts (E.facts hub.old.1) (E.facts hub.new.1) }
+        ensures later { E.later hub.old.1 hub.new.1 }
+        ensures unknown { lookup self.old.0.id hub.old.0.sessions ≡ None → hub.new ≡ hub.old }
+        ensures after { (history : List Step) → IsAfter (E.facts hub.old.1) hub.old.0 history
+            → IsAfter (E.facts hub.new.1) hub.new.0 history }
+    {
+        if self.begin < self.announced || self.end - self.begin < 2 * PIECE_BYTES {
+            return;
+        }
+        hub.warm(self.session, &self.input[self.begin..self.end]);
+        self.announced = self.end.min(self.begin + AHEAD_BYTES);
     }
 
     /// Feeds a piece of what waits, where nothing is unsent.
@@ -318,9 +343,30 @@ impl<S: Stream + Drop, A: Allocator> Client<S, A> {
         }
     }
 
+    /// Announces what waits, then feeds a piece of it.
+    fn feed_ahead<E: Export, H: Allocator + Copy>(&mut self, hub: &mut Sessions<E, H>) -> Turn
+        requires drained { self.old.0.unsent ≡ [] }
+        requires some { 0 < length self.old.0.waiting }
+        requires goes_on { self.old.0.over ≡ false }
+        ensures stream { self.new.1 ≡ self.old.1 }
+        ensures waiting { length self.new.0.waiting ≤ input_bytes }
+        ensures later { E.later hub.old.1 hub.new.1 }
+        ensures feeds { (result ≡ Turn.Failed (ServeFault.Hub HubFault.Unknown) → ⊥)
+            → (warm : E) × IsWarmed (E.facts hub.old.1) (E.facts warm) hub.old.0
+            × Feeds (E.facts warm) (E.facts hub.new.1) hub.old.0 hub.new.0 self.old.0 self.new.0 result }
+        ensures gone { result ≡ Turn.Failed (ServeFault.Hub HubFault.Unknown)
+            → (lookup self.old.0.id hub.old.0.sessions ≡ None) × (hub.new ≡ hub.old) × (self.new.0 ≡ self.old.0) }
+    {
+        self.announce(hub);
+        self.feed(hub)
+    }
+
     /// Does one thing: sends what is unsent; else feeds at most 28 bytes of what waits; else reads.
     ///
     /// It feeds nothing while anything is unsent, and reads nothing while anything waits: that is the back pressure.
+    ///
+    /// Where several whole requests wait, it tells the hub before it feeds the first of them what they will ask for
+    /// ([`Sessions::warm`]), of at most eight at once: what is sent is the same, and in the same order.
     pub fn turn<E: Export, H: Allocator + Copy>(&mut self, hub: &mut Sessions<E, H>) -> Turn
         ensures serves { (history : List Step) (read wrote : List ℕ) → IsAfter (E.facts hub.old.1) hub.old.0 history
             → IsServed hub.old.0.offer history self.old.0 read wrote
@@ -364,7 +410,7 @@ impl<S: Stream + Drop, A: Allocator> Client<S, A> {
         match self.part() {
             Part::Send => self.send(),
             Part::End => Turn::Done,
-            Part::Feed => self.feed(hub),
+            Part::Feed => self.feed_ahead(hub),
             Part::Read => self.receive(),
         }
     }

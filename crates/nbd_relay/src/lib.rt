@@ -6,6 +6,9 @@
 //! it bounds what a client makes its hub hold. There are no threads and no sockets here; a loop above asks which streams are
 //! ready, and gives out the turns.
 //!
+//! Where several whole READs wait, a turn tells the hub's export of up to eight of them before it feeds the first. So an export
+//! that is read from a device may read and check their blocks side by side. The hint is no step of the hub's history.
+//!
 //! # The contract
 //!
 //! `specs/Client.antt` says what it is for a client to be served after a history of its hub's steps (`IsServed`): all that

@@ -10,7 +10,7 @@ use Rattle.nbd_session.specs.declared.export.ExportFault.{ExportFault}
 use Rattle.nbd_session.specs.declared.export.ExportFault.TheVariants.{Io, NoMemory}
 
 -- an allowed READ that isn't empty asks for its range
-read_asks : (size : ℕ) (r : Request) → true ≡ may_read size r → (r.len ≡ 0 → ⊥) → read_answer size r ≡ Asks r.offset r.len r.cookie
+pub read_asks : (size : ℕ) (r : Request) → true ≡ may_read size r → (r.len ≡ 0 → ⊥) → read_answer size r ≡ Asks r.offset r.len r.cookie
 read_asks size r h n =
     ap (λ t. cond (not t) (Says (simple_reply 22 r.cookie)) (cond (eqb r.len 0) (Says (simple_reply 0 r.cookie))
     (Asks r.offset r.len r.cookie))) (sym h)

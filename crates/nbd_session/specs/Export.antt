@@ -24,6 +24,10 @@ pub record Facts : Type 1 where
   -- holds of each number by which one read of a range raised that count
   pub may_cost : (offset len n : ℕ) → Type 0
 
+-- a range, an offset and a length, that doesn't go past the end of so many bytes
+abbrev pub IsWithin : (size : ℕ) → (range : ℕ × ℕ) → Type 0
+IsWithin size range = range.0 + range.1 ≤ size
+
 -- what no read changes or takes back
 pub record Keeps (old new : Facts) : Type 0 where
   pub size : new.size ≡ old.size

@@ -8,6 +8,7 @@ pub mod Talk
 pub mod Export
 pub mod Session
 pub mod Short
+pub mod Announcing
 pub mod Texts
 pub mod Inbox
 pub mod Conversation

@@ -1,7 +1,7 @@
 //! What a session reads from.
 
-ghost use Rattle.std.specs.Prelude.{◌≡◌, ◌≤◌, ◌<◌, ◌+◌, ◌++◌, ℕ, List, OnOk, OnErr, IsErrOf, vec_len, vec_capacity};
-ghost use Rattle.nbd_session.specs.Export.{Costs, Facts, Failed, Keeps, Lacked, Served};
+ghost use Rattle.std.specs.Prelude.{◌≡◌, ◌≤◌, ◌<◌, ◌+◌, ◌++◌, ℕ, List, OnOk, OnErr, IsErrOf, vec_len, vec_capacity, All};
+ghost use Rattle.nbd_session.specs.Export.{Costs, Facts, Failed, IsWithin, Keeps, Lacked, Served};
 
 use std::alloc::Allocator;
 
@@ -19,11 +19,11 @@ pub enum ExportFault {
 /// Contracts see its `facts` at a moment: `size` and `block`; `may_serve`, which holds of each answer that was given;
 /// `may_refuse` and `may_lack`, which hold of each range that was refused; `steady content`, which says that the whole
 /// content is known; a count of `failures` and one of `reads` of the device, and `may_cost`, which holds of each number by
-/// which one read of a range raised the second. No read takes any of them back.
+/// which one read of a range raised the second. Neither a read nor a warming takes any of them back.
 pub trait Export {
     ghost facts: { Self → Facts };
 
-    /// What an implementation says of its own value after any number of reads, where its facts don't say it.
+    /// What an implementation says of its own value after any number of reads and warmings, where its facts don't say it.
     ghost later: { Self → Self → Type 0 };
 
     /// The size in bytes.
@@ -56,6 +56,15 @@ pub trait Export {
         ensures unread { IsErrOf result ExportFault.NoMemory → (facts self.new).reads ≡ (facts self.old).reads }
         ensures costs { Costs (facts self.old) (facts self.new) offset len }
         ensures unchanged { OnErr result (out.new.items ≡ out.old.items) };
+
+    /// A hint: these ranges, each an offset and a length in bytes, will be asked for soon, in this order. It returns nothing, and
+    /// a read of one of them may still fail. An export may do nothing, as here, or read of its device beforehand: such reads are
+    /// of no request, so `reads` and `failures` may rise by any number, and `may_cost` doesn't speak of them.
+    fn warm(&mut self, ranges: &[(u64, u32)])
+        requires { All (IsWithin (facts self.old).size) ranges.now }
+        ensures keeps { Keeps (facts self.old) (facts self.new) }
+        ensures later { later self.old self.new }
+    {}
 
     /// No read at all is one number of reads.
     ghost later_same: { (x : Self) → later x x };

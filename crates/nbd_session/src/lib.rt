@@ -15,6 +15,8 @@
 //! [`ExportFault::Io`], ENOMEM where it answered [`ExportFault::NoMemory`]. The module [`laws`] has the law by which
 //! feeds add up to a conversation.
 //!
+//! [`Session::ahead`] tells beforehand what READs that wait will ask the export for, and [`Export::warm`] takes that as a hint.
+//!
 //! A session holds at most one unfinished message: 4 bytes of flags, an option of at most 16 + 65,536 bytes, or a
 //! request's header of 28 bytes. A WRITE's payload is counted off and never kept.
 //!
@@ -28,9 +30,11 @@
 //!
 //! In `specs/`, in reading order: `Protocol` (the numbers), `Messages` (how some bytes begin), `Handshake`, `Options`,
 //! `Transmission` (what is said to each message), `Answers`, `Talk` (the whole conversation), `Export` (what contracts
-//! see of an export), `Session` (what a feed ensures). `Vectors`, `Rows` and `Borders` check them by computation.
+//! see of an export), `Session` (what a feed ensures), `Announcing` (what waiting requests ask for). `Vectors`, `Rows` and
+//! `Borders` check them by computation.
 #![tactic(auto)]
 
+mod ahead;
 mod conversation;
 mod export;
 mod fault;

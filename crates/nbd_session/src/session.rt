@@ -1,13 +1,16 @@
 //! A session.
 
-ghost use Rattle.std.specs.Prelude.{◌≡◌, ◌≤◌, ◌+◌, ◌++◌, ℕ, List, [], length, false, IfOk, OnOk, OnErr, IsOk, Err, vec_len};
-ghost use Rattle.std.specs.Prelude.{vec_capacity};
+ghost use Rattle.std.specs.Prelude.{◌≡◌, ◌≤◌, ◌<◌, ◌+◌, ◌++◌, ℕ, List, [], length, take, false, All, IfOk, OnOk, OnErr, IsOk, Err};
+ghost use Rattle.std.specs.Prelude.{vec_len, vec_capacity};
 ghost use Rattle.nbd_session.specs.Handshake.{greeting};
 ghost use Rattle.nbd_session.specs.Protocol.{short};
 ghost use Rattle.nbd_session.specs.Session.{Feeds, IsAt, added};
 ghost use Rattle.nbd_session.specs.Short.{asked};
+ghost use Rattle.nbd_session.specs.Export.{IsWithin};
+ghost use Rattle.nbd_session.specs.Announcing.{AsksFirst};
 ghost use Rattle.nbd_session.specs.Conversation.{Grows};
 
+use crate::ahead::note;
 use crate::conversation::turns;
 use crate::export::Export;
 use crate::fault::SessionFault;
@@ -16,12 +19,9 @@ use crate::inbox::Inbox;
 use crate::offer::{ExportName, Offer};
 use crate::phase::Phase;
 use crate::status::Status;
-use crate::transmission::asked;
+use crate::transmission::{HEADER_BYTES, asked};
 use std::alloc::{Allocator, Global};
 use std::marker::Model;
-
-/// The bytes of a request's header.
-const HEADER_BYTES: usize = 28;
 
 /// One client's session with a server of one export.
 ///
@@ -146,5 +146,28 @@ impl<A: Allocator> Session<A> {
         header[..begun].copy_from_slice(&self.inbox.held[..begun]);
         header[begun..].copy_from_slice(&piece[..more]);
         asked(self.offer.size, &header)
+    }
+
+    /// Notes in `ranges`, an offset and a length each, what the READs ask for that the waiting bytes begin with, in order, and
+    /// returns how many it noted: the whole headers from the first byte on, up to the first request that isn't a READ of some
+    /// bytes that is allowed, and no more than `ranges` has places. None where the session isn't in transmission, or the next
+    /// byte doesn't begin a request.
+    ///
+    /// A feed of the waiting bytes asks the export for these ranges first. It costs a look at each header, and takes no memory.
+    pub fn ahead(&self, waiting: &[u8], ranges: &mut [(u64, u32)]) -> usize
+        ensures count { result ≤ length ranges.new }
+        ensures within { All (IsWithin self.now.offer.size) (take result ranges.new) }
+        ensures phase { 0 < result → self.now.phase ≡ Phase.Transmission }
+        ensures asks { (input : List ℕ) → self.now.starved ≡ false → IsAt self.now input
+            → AsksFirst (take result ranges.new) (added self.now.offer input waiting.now) }
+    {
+        match self.inbox.phase {
+            Phase::Transmission => {}
+            _ => return 0,
+        }
+        if !self.inbox.held.is_empty() {
+            return 0;
+        }
+        note(&self.offer, waiting, ranges)
     }
 }

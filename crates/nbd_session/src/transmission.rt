@@ -9,10 +9,11 @@
 //! | TRIM 4, WRITE_ZEROES 6 | EPERM |
 //! | all others | EINVAL |
 
-ghost use Rattle.std.specs.Prelude.{◌≡◌, ◌≤◌, ◌+◌, ◌++◌, length, take, IfOk, OnOk, OnErr};
+ghost use Rattle.std.specs.Prelude.{◌≡◌, ◌≤◌, ◌+◌, ◌++◌, length, take, IfOk, IfSome, OnOk, OnErr};
 ghost use Rattle.nbd_session.specs.Messages.{request_body};
 ghost use Rattle.nbd_session.specs.Transmission.{may_read, phase_after_request, read_answer, request_answer, request_of, simple_reply};
 ghost use Rattle.nbd_session.specs.Short.{header_asks};
+ghost use Rattle.nbd_session.specs.Announcing.{IsReadOf};
 ghost use Rattle.nbd_session.specs.Export.{Keeps, error_number};
 ghost use Rattle.nbd_session.specs.Conversation.{AppendsAnswer, Grows};
 
@@ -46,6 +47,9 @@ const NBD_EINVAL: u32 = 22;
 
 /// The longest READ, and the longest payload of a WRITE, in bytes.
 pub const MAX_LENGTH: u32 = 33_554_432;
+
+/// The bytes of a request's header.
+pub const HEADER_BYTES: usize = 28;
 
 /// The fields of a request's header, behind its magic ("Request message").
 #[derive(Clone, Copy, Debug)]
@@ -111,6 +115,22 @@ pub fn asked(size: u64, header: &[u8]) -> u32
         request.len
     } else {
         0
+    }
+}
+
+/// The range of a READ, its offset and its length, where a request is one that is allowed and not empty.
+pub fn range_of(size: u64, header: &[u8]) -> Option<(u64, u32)>
+    requires { 28 ≤ length header.now }
+    ensures { IfSome result (IsReadOf size header.now) }
+{
+    let Some(0) = body_size(header) else {
+        return None;
+    };
+    let request = Request::of(header);
+    if request.kind == NBD_CMD_READ && request.len > 0 && request.may_read(size) {
+        Some((request.offset, request.len))
+    } else {
+        None
     }
 }
 
