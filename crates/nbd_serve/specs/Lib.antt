@@ -2,3 +2,4 @@ pub mod Lines
 pub mod Pending
 pub mod Serving
 pub mod Sockets
+pub mod Stalling

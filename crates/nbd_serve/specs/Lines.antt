@@ -1,6 +1,6 @@
 -- What a server prints.
 use Rattle.std.specs.Prelude.{◌≡◌, ◌+◌, ◌==◌, ◌&&◌, ◌≤◌, ℕ, Bool, true, false, not, ◌||◌, if◌then◌else◌, nat_le}
-use Rattle.std.specs.Prelude.{Option, Some, None, List, [], ◌∷◌, ◌++◌, length, map, codes}
+use Rattle.std.specs.Prelude.{Option, Some, None, slice_get, List, [], ◌∷◌, ◌++◌, length, map, codes}
 use Rattle.std.specs.List.{flat_map, list_any, sum_by}
 use Rattle.std.specs.Fmt.{decimal}
 use Rattle.std.specs.Io.KnownBytes.{Appends}
@@ -15,6 +15,12 @@ line text = text ++ 10 ∷ []
 abbrev pub ended_line : ℕ × Option ServeFault → List ℕ
 ended_line (number, None) = codes "session " ++ (decimal number ++ line (codes " ended"))
 ended_line (number, Some fault) = codes "session " ++ (decimal number ++ (codes " " ++ line (serve_text fault)))
+
+-- the line of the session at this place was printed
+pub record IsEnded (old new : Option (List ℕ)) (numbers : List ℕ) (at : ℕ) (fault : Option ServeFault) : Type 0 where
+  pub number : ℕ
+  pub is_there : slice_get numbers at ≡ Some number
+  pub printed : Appends old new (ended_line (number, fault))
 
 -- it names a fault
 abbrev pub names_fault : ℕ × Option ServeFault → Bool

@@ -1,14 +1,16 @@
 //! The clients that are connected, each with its seat.
 
-ghost use Rattle.std.specs.Prelude.{◌≡◌, ◌+◌, ◌<◌, [], ◌∷◌, ◌++◌, List, length, slice_get, Some, IfOk, IfErr, OnOk, OnErr};
+ghost use Rattle.std.specs.Prelude.{◌≡◌, ◌+◌, ◌<◌, ◌⊎◌, [], ◌∷◌, ◌++◌, List, length, slice_get, Some, IfOk, IfErr, OnOk, OnErr};
 ghost use Rattle.std.specs.List.{remove};
 ghost use Rattle.nbd_hub.specs.Sessions.{HubState};
 ghost use Rattle.nbd_serve.specs.Serving.{GoesOn};
 ghost use Rattle.nbd_serve.specs.Sockets.{AreKept, AreServed, IsTold, Visits, nothing};
+ghost use Rattle.nbd_serve.specs.Stalling.{IsNoted};
 
 use crate::budget::Budget;
 use crate::connection::Connection;
 use crate::door::Door;
+use crate::lull::Lull;
 use crate::socket::Socket;
 use crate::turns::{Came, go_on};
 use mio::unix::SourceFd;
@@ -22,21 +24,23 @@ use std::time::Duration;
 
 /// What is kept of a client beside its relay.
 #[derive(Clone, Copy, Debug)]
-struct Seat {
+pub(crate) struct Seat {
     /// Whether it may go on.
-    ready: bool,
+    pub(crate) ready: bool,
     /// Whether all was said, and the last bytes are to be handed on.
-    done: bool,
+    pub(crate) done: bool,
     /// When something last came of it.
-    heard: Option<Duration>,
+    pub(crate) heard: Option<Duration>,
+    /// Since when it takes nothing of what is pending for it.
+    pub(crate) lull: Lull,
 }
 
 /// The clients that are connected, with a seat and a number for each at the same place.
 #[derive(Drop)]
 pub struct Connected<C: Connection> {
     alloc: Global,
-    clients: Vec<Client<Socket<C>>>,
-    seats: Vec<Seat>,
+    pub(crate) clients: Vec<Client<Socket<C>>>,
+    pub(crate) seats: Vec<Seat>,
     /// Under which each was accepted.
     pub(crate) numbers: Vec<u64>,
     ghost placed: { length seats.items ≡ length clients.items },
@@ -79,6 +83,7 @@ impl<C: Connection + Drop> Connected<C> {
         now: Option<Duration>,
         registry: &Registry,
     ) -> Result<(), (ServeFault, C)>
+        requires { C.log connection ≡ nothing }
         ensures goes_on { GoesOn E.later hub.old hub.new }
         ensures added { OnOk result (length self.new.clients.items ≡ length self.old.clients.items + 1) }
         ensures refused { OnErr result (length self.new.clients.items ≡ length self.old.clients.items) }
@@ -114,6 +119,7 @@ impl<C: Connection + Drop> Connected<C> {
             ready: true,
             done: false,
             heard: now,
+            lull: Lull::new(),
         };
         match (self.seats.push(seat), self.numbers.push(number)) {
             (Ok(()), Ok(())) => Ok(()),
@@ -157,12 +163,15 @@ impl<C: Connection + Drop> Connected<C> {
         }
     }
 
-    /// The turns of one client, and what it then holds is handed on where nothing follows at once.
-    pub fn turns_of<E: Export>(
+    /// The turns of one client, if it is due, and what it then holds is handed on where nothing follows at once. What it takes is
+    /// noted.
+    pub fn turns_of<E: Export, L: Door<Connection = C>>(
         &mut self,
         hub: &mut Sessions<E>,
+        door: &L,
         at: usize,
         budget: Budget,
+        stall: Option<Duration>,
         now: Option<Duration>,
     ) -> Came
         requires { at < length self.old.clients.items }
@@ -171,12 +180,26 @@ impl<C: Connection + Drop> Connected<C> {
         ensures numbers { self.new.numbers.items ≡ self.old.numbers.items }
         ensures serves { AreServed E.facts C.log hub.old self.old.clients.items
             → AreServed E.facts C.log hub.new self.new.clients.items }
+        ensures noted { ((hub.new ≡ hub.old) × (self.new.clients.items ≡ self.old.clients.items))
+            ⊎ IsNoted C.log self.new.clients.items self.new.seats.items at }
     {
-        let seat = &mut self.seats[at];
-        if !seat.ready {
+        if !self.is_due(hub, at, budget, stall, now) {
             return Came::Waits;
         }
-        seat.heard = now;
+        let came = self.go_through(hub, at, budget);
+        self.note(at, door.now());
+        came
+    }
+
+    /// The turns of one client, and what it then holds is handed on where nothing follows at once.
+    fn go_through<E: Export>(&mut self, hub: &mut Sessions<E>, at: usize, budget: Budget) -> Came
+        requires { at < length self.old.clients.items }
+        ensures goes_on { GoesOn E.later hub.old hub.new }
+        ensures count { length self.new.clients.items ≡ length self.old.clients.items }
+        ensures numbers { self.new.numbers.items ≡ self.old.numbers.items }
+        ensures serves { AreServed E.facts C.log hub.old self.old.clients.items
+            → AreServed E.facts C.log hub.new self.new.clients.items }
+    {
         let came = self.take_turns(hub, at, budget);
         let blocked = match self.hand_on::<E>(at, came) {
             Ok(()) => false,

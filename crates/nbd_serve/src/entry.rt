@@ -107,6 +107,7 @@ impl<C: Connection + Drop> Room<C> {
         registry: &Registry,
         output: &mut W,
     ) -> Result<(), Stop>
+        requires fresh { C.log connection ≡ nothing }
         requires sessions { self.old.accepted < self.old.sessions }
         requires seat { length self.old.connected.clients.items + length self.old.partings.leaving.items < 64 }
         ensures goes_on { GoesOn E.later hub.old hub.new }

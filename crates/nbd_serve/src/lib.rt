@@ -8,12 +8,21 @@
 //! within the share is fed whatever is pending for others; of a longer one, what is beyond the share has to fit what the shares
 //! leave of the limit. So clients that ask and never read keep nobody from short READs. A client's fault ends that client alone.
 //!
+//! Nor do they keep anybody from long READs for ever: while a client waits for memory, another one is left (N2) if something is pending
+//! for it and its socket has taken not a byte for [`Limits::stall`], usually 30 seconds. The time begins when a reply becomes pending,
+//! and anew with each byte that is taken; before a client is left, its socket is asked once more. Without a client that waits, or
+//! without a clock, none is left so.
+//!
 //! # The contract
 //!
 //! [`go_on`] is what a client does until the next one has its turns. It keeps what `nbd_relay` says of all clients, for every
 //! order of turns: each is served as its own talk asks for. The budget is kept, or the client that went beyond it is to be left;
 //! and a budget that is kept keeps what is pending within its limit ([`keeps_the_limit`]). Where a client has to wait for room,
 //! its next READ asks for more than its share.
+//!
+//! Who is left for taking nothing has stalled (`HasStalled`, `specs/Stalling.antt`): something is pending for that client; its connection
+//! has taken not a byte since a moment that was noted, and that lies as long before now as the limit says; and the next READ of another
+//! client asks for more than that one's share.
 //!
 //! [`serve_clients`] says what it has printed once all are served: `listening`, then one line for each connection; and that it
 //! answers whether no line named a fault. At most 64 are there at a time, those who take their leave among them, and no more are
@@ -25,7 +34,8 @@
 //! takes no bytes ([`Carried`]); what connections that were given back had carried stands with the listener ([`Door`], [`Visited`]).
 //!
 //! What the system's sockets do with the bytes, the clock and the system's poll are outside what contracts can say. Nothing is proved
-//! of which client is ready, who is idle, who is next and when a connection is accepted, but that the loop's steps are safe.
+//! of which client is ready, who is idle, who is next and when a connection is accepted, but that the loop's steps are safe; nor that
+//! each client that has stalled is left, and that the memory which another one waits for is then wanting.
 //!
 //! # Errors
 //!
@@ -40,11 +50,14 @@ mod door;
 mod entry;
 mod limits;
 mod line;
+mod lull;
 mod parting;
 mod partings;
 mod room;
 mod server;
+mod silence;
 mod socket;
+mod stalling;
 mod stop;
 mod turns;
 

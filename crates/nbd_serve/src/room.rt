@@ -1,15 +1,19 @@
 //! Who is there: the clients that are connected, those that are taking their leave, and whether somebody may be at the door.
 
-ghost use Rattle.std.specs.Prelude.{◌≡◌, ◌+◌, ◌<◌, ◌≤◌, ℕ, [], length, true, false, None, IfOk, OnOk, IsTrue};
+ghost use Rattle.std.specs.Prelude.{◌≡◌, ◌+◌, ◌<◌, ◌≤◌, ℕ, [], length, slice_get, true, false, Some, None, IfSome, IfOk, OnOk, IsTrue};
+ghost use Rattle.std.specs.Duration.{as_nanos};
+ghost use Rattle.std.specs.List.{remove};
 ghost use Rattle.nbd_hub.specs.Sessions.{HubState};
-ghost use Rattle.nbd_serve.specs.Lines.{standing, Tells};
+ghost use Rattle.nbd_relay.specs.Client.{ClientState};
+ghost use Rattle.nbd_serve.specs.Lines.{standing, IsEnded, Tells};
 ghost use Rattle.nbd_serve.specs.Serving.{GoesOn};
-ghost use Rattle.nbd_serve.specs.Sockets.{AreKept, AreGivenBack, AreTold, IsTold, Visits};
+ghost use Rattle.nbd_serve.specs.Sockets.{AreKept, AreGivenBack, AreTold, IsTold, SocketState, Visits};
 
 use crate::budget::Budget;
 use crate::connected::Connected;
 use crate::connection::Connection;
 use crate::door::Door;
+use crate::limits::Limits;
 use crate::line::tell_end;
 use crate::partings::Partings;
 use crate::stop::Stop;
@@ -46,6 +50,8 @@ pub struct Room<C: Connection> {
     pub(crate) retries: bool,
     /// Whether a line named a fault.
     pub(crate) faulty: bool,
+    /// Whether the next round goes from the last client to the first.
+    pub(crate) backward: bool,
     ghost few: { length connected.clients.items + length partings.leaving.items ≤ 64 },
     ghost most: { accepted ≤ sessions },
     ghost all: { ended + length connected.clients.items ≡ accepted },
@@ -73,6 +79,7 @@ impl<C: Connection + Drop> Room<C> {
             knocks: true,
             retries: false,
             faulty: false,
+            backward: false,
         })
     }
 
@@ -106,23 +113,28 @@ impl<C: Connection + Drop> Room<C> {
     }
 
     /// How long to wait until something comes: not at all where somebody goes on at once; half a second where something is to be looked
-    /// at again though nothing comes, as a door that failed for the moment, somebody who takes their leave, or where clients are left
-    /// for their silence, one of them; else as long as it takes.
+    /// at again though nothing comes, as a door that failed for the moment, somebody who takes their leave, a request that waits for
+    /// memory, or where clients are left for their silence, one of them; else as long as it takes.
     pub fn wait(&self, at_once: bool, leaves_idle: bool) -> Option<Duration>
         ensures partings { result ≡ None → length self.now.partings.leaving.items ≡ 0 }
         ensures clients { result ≡ None → leaves_idle ≡ true → length self.now.connected.clients.items ≡ 0 }
+        ensures held_back { result ≡ None → (at : ℕ) (client : ClientState × SocketState C)
+            → slice_get self.now.connected.clients.items at ≡ Some client → client.0.unsent ≡ [] → client.0.over ≡ false
+            → client.0.waiting ≡ [] }
+        ensures most { IfSome result (λ wait. as_nanos wait ≤ 500000000) }
     {
         if at_once {
             return Some(Duration::ZERO);
         }
-        if self.retries || self.partings.len() > 0 || leaves_idle && self.connected.len() > 0 {
+        let leaves = self.partings.len() > 0 || leaves_idle && self.connected.len() > 0;
+        if self.retries || leaves || self.connected.holds_back() {
             return Some(Duration::from_millis(TICK));
         }
         None
     }
 
-    /// Lets in who is at the door, gives each client its turns, and lets those go that have said all or were silent for too long. Tells
-    /// whether somebody goes on at once.
+    /// Lets in who is at the door, gives each client its turns, and lets those go that have said all, have stalled while another one
+    /// waits for memory, or were silent for too long. Tells whether somebody goes on at once.
     ///
     /// # Errors
     ///
@@ -133,7 +145,7 @@ impl<C: Connection + Drop> Room<C> {
         door: &mut L,
         registry: &Registry,
         budget: Budget,
-        idle: Option<Duration>,
+        limits: Limits,
         output: &mut W,
     ) -> Result<bool, Stop>
         ensures goes_on { GoesOn E.later hub.old hub.new }
@@ -146,13 +158,16 @@ impl<C: Connection + Drop> Room<C> {
             self.new.connected.clients.items self.new.partings.leaving.items (L.visits door.new) }
     {
         self.accept_all(hub, door, registry, output)?;
-        let goes_on = self.round(hub, door, budget, output)?;
+        let goes_on = self.round(hub, door, budget, limits.stall, output)?;
         let parts_on = self.part_all::<E, L>(door);
-        self.leave_idle(hub, door, idle, output)?;
-        Ok(goes_on || parts_on || self.may_accept())
+        self.leave_idle(hub, door, limits.idle, output)?;
+        let feeds = self.connected.may_feed(hub, budget);
+        Ok(goes_on || parts_on || feeds || self.may_accept())
     }
 
-    /// Each client that may go on has its turns, one after the other. Tells whether some client goes on at once.
+    /// Each client that may go on has its turns, one after the other; then one is left that has stalled, if there is one. The round after
+    /// that goes from the last client to the first, if this one went from the first to the last: so memory that is freed for those that
+    /// wait goes to the two ends of their queue in turn. Tells whether some client goes on at once.
     ///
     /// # Errors
     ///
@@ -162,6 +177,7 @@ impl<C: Connection + Drop> Room<C> {
         hub: &mut Sessions<E>,
         door: &mut L,
         budget: Budget,
+        stall: Option<Duration>,
         output: &mut W,
     ) -> Result<bool, Stop>
         ensures goes_on { GoesOn E.later hub.old hub.new }
@@ -174,27 +190,35 @@ impl<C: Connection + Drop> Room<C> {
             self.new.connected.clients.items self.new.partings.leaving.items (L.visits door.new) }
     {
         let now = door.now();
+        let backward = self.backward;
         let mut goes_on = false;
-        let mut at = 0;
+        let mut seen = 0;
         for _ in 0..MOST {
-            if at >= self.connected.len() {
+            let count = self.connected.len();
+            if seen >= count {
                 break;
             }
-            let (next, at_once) = self.turns_at(hub, door, at, budget, now, output)?;
-            at = next;
+            let at = if backward { count - 1 - seen } else { seen };
+            let (next, at_once) = self.turns_at(hub, door, at, budget, stall, now, output)?;
+            if next > at {
+                seen += 1;
+            }
             goes_on = goes_on || at_once;
         }
-        Ok(goes_on)
+        let left = self.leave_stalled(hub, door, budget, stall, output)?;
+        self.backward = left && !backward;
+        Ok(goes_on || left)
     }
 
-    /// The client at this place has its turns, and leaves where it is done or failed. Tells the next one's place, and whether
-    /// some client goes on at once.
+    /// The client at this place has its turns, and leaves where it is done or failed. Returns the next one's place, and whether some
+    /// client goes on at once.
     fn turns_at<E: Export, L: Door<Connection = C>, W: Write>(
         &mut self,
         hub: &mut Sessions<E>,
         door: &mut L,
         at: usize,
         budget: Budget,
+        stall: Option<Duration>,
         now: Option<Duration>,
         output: &mut W,
     ) -> Result<(usize, bool), Stop>
@@ -208,7 +232,7 @@ impl<C: Connection + Drop> Room<C> {
             self.old.partings.leaving.items (L.visits door.old) → AreKept E.facts E.later C.log begun hub.new
             self.new.connected.clients.items self.new.partings.leaving.items (L.visits door.new) }
     {
-        match self.connected.turns_of(hub, at, budget, now) {
+        match self.connected.turns_of(hub, door, at, budget, stall, now) {
             Came::On => Ok((at + 1, true)),
             Came::Waits | Came::Hungry => Ok((at + 1, false)),
             Came::Done => {
@@ -223,7 +247,7 @@ impl<C: Connection + Drop> Room<C> {
     }
 
     /// A client's session ends without a fault, and its line is printed. Its late input is still read.
-    fn part<E: Export, L: Door<Connection = C>, W: Write>(
+    pub(crate) fn part<E: Export, L: Door<Connection = C>, W: Write>(
         &mut self,
         hub: &mut Sessions<E>,
         door: &mut L,
@@ -247,7 +271,7 @@ impl<C: Connection + Drop> Room<C> {
     }
 
     /// A client is left for a fault, and its line is printed.
-    fn leave<E: Export, L: Door<Connection = C>, W: Write>(
+    pub(crate) fn leave<E: Export, L: Door<Connection = C>, W: Write>(
         &mut self,
         hub: &mut Sessions<E>,
         door: &mut L,
@@ -264,6 +288,9 @@ impl<C: Connection + Drop> Room<C> {
         ensures kept { (begun : Visits) → AreKept E.facts E.later C.log begun hub.old self.old.connected.clients.items
             self.old.partings.leaving.items (L.visits door.old) → AreKept E.facts E.later C.log begun hub.new
             self.new.connected.clients.items self.new.partings.leaving.items (L.visits door.new) }
+        ensures left { self.new.connected.clients.items ≡ remove self.old.connected.clients.items at }
+        ensures line { OnOk result (IsEnded (W.contents output.old) (W.contents output.new) self.old.connected.numbers.items at
+            (Some fault)) }
     {
         let (number, client) = self.connected.leave(hub, at);
         self.ended += 1;
@@ -309,67 +336,6 @@ impl<C: Connection + Drop> Room<C> {
         if waited && !heard {
             self.partings.wait();
         }
-    }
-
-    /// Ends the sessions of those that were silent for so long, where there is a limit and a clock.
-    ///
-    /// # Errors
-    ///
-    /// Where a line can't be printed, as [`tell_end`].
-    fn leave_idle<E: Export, L: Door<Connection = C>, W: Write>(
-        &mut self,
-        hub: &mut Sessions<E>,
-        door: &mut L,
-        idle: Option<Duration>,
-        output: &mut W,
-    ) -> Result<(), Stop>
-        ensures goes_on { GoesOn E.later hub.old hub.new }
-        ensures sessions { self.new.sessions ≡ self.old.sessions }
-        ensures told { OnOk result (Tells (W.contents output.old) (W.contents output.new)
-            (standing self.old.ended self.old.accepted self.old.connected.numbers.items self.old.faulty)
-            (standing self.new.ended self.new.accepted self.new.connected.numbers.items self.new.faulty)) }
-        ensures kept { (begun : Visits) → AreKept E.facts E.later C.log begun hub.old self.old.connected.clients.items
-            self.old.partings.leaving.items (L.visits door.old) → AreKept E.facts E.later C.log begun hub.new
-            self.new.connected.clients.items self.new.partings.leaving.items (L.visits door.new) }
-    {
-        let (Some(idle), Some(now)) = (idle, door.now()) else {
-            return Ok(());
-        };
-        let mut at = 0;
-        for _ in 0..MOST {
-            if at >= self.connected.len() {
-                break;
-            }
-            at = self.part_if_silent(hub, door, at, idle, now, output)?;
-        }
-        Ok(())
-    }
-
-    /// Ends the session of the client at this place if it was silent for so long. Tells the next one's place.
-    fn part_if_silent<E: Export, L: Door<Connection = C>, W: Write>(
-        &mut self,
-        hub: &mut Sessions<E>,
-        door: &mut L,
-        at: usize,
-        idle: Duration,
-        now: Duration,
-        output: &mut W,
-    ) -> Result<usize, Stop>
-        requires { at < length self.old.connected.clients.items }
-        ensures goes_on { GoesOn E.later hub.old hub.new }
-        ensures sessions { self.new.sessions ≡ self.old.sessions }
-        ensures told { OnOk result (Tells (W.contents output.old) (W.contents output.new)
-            (standing self.old.ended self.old.accepted self.old.connected.numbers.items self.old.faulty)
-            (standing self.new.ended self.new.accepted self.new.connected.numbers.items self.new.faulty)) }
-        ensures kept { (begun : Visits) → AreKept E.facts E.later C.log begun hub.old self.old.connected.clients.items
-            self.old.partings.leaving.items (L.visits door.old) → AreKept E.facts E.later C.log begun hub.new
-            self.new.connected.clients.items self.new.partings.leaving.items (L.visits door.new) }
-    {
-        if self.connected.is_silent(at, idle, now) {
-            self.part(hub, door, at, output)?;
-            return Ok(at);
-        }
-        Ok(at + 1)
     }
 
     /// Ends all sessions, and gives all connections back.

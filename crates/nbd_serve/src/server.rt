@@ -125,7 +125,7 @@ fn serve_in<E: Export, L: Door, W: Write>(
     let limits = door.limits();
     let budget = Budget::of(limits.pending);
     for _ in 0..u64::MAX {
-        let at_once = room.serve_once(hub, door, poll.registry(), budget, limits.idle, output)?;
+        let at_once = room.serve_once(hub, door, poll.registry(), budget, limits, output)?;
         if room.is_empty() {
             return Ok(!room.is_faulty());
         }

@@ -2,7 +2,7 @@
 
 ghost use Rattle.std.specs.Prelude.{◌≡◌, ◌≤◌, ◌==◌, [], length, Some, IfOk, IfErr, OnOk, IsTrue};
 ghost use Rattle.std.specs.Io.{ReadsAtMost, WritesAtMost};
-ghost use Rattle.nbd_serve.specs.Sockets.{Hears, Says, log_of};
+ghost use Rattle.nbd_serve.specs.Sockets.{Hears, Says, log_of, nothing};
 
 use crate::connection::Connection;
 use nbd_relay::{Asks, Stream};
@@ -15,10 +15,12 @@ use std::marker::Model;
 const HELD_BYTES: usize = 131_072;
 
 /// A client's socket. Short replies wait in it until it is flushed, or asked to read: a relay reads once nothing else is to be
-/// answered. It isn't asked again for what it hasn't got: a read that fills less than its buffer has taken all there is.
+/// answered. It isn't asked again for what it hasn't got: a read that fills less than its buffer has taken all there is. It counts the
+/// bytes that its connection takes.
 #[derive(Drop)]
 pub struct Socket<C: Connection, A: Allocator = Global> {
     connection: C,
+    taken: u64,
     held: Vec<u8, A>,
     sent: usize,
     is_read: Cell<bool>,
@@ -27,23 +29,24 @@ pub struct Socket<C: Connection, A: Allocator = Global> {
 }
 
 impl<C: Connection, A: Allocator> Model for Socket<C, A> {
-    ghost use Rattle.std.specs.Prelude.{◌≤◌, drop, length};
+    ghost use Rattle.std.specs.Prelude.{◌≡◌, ◌≤◌, drop, length};
     ghost use Rattle.nbd_serve.specs.Sockets.{SocketState};
 
     ghost Value = { SocketState C };
 
     ghost view = { λ s. record { connection = s.connection; held = drop s.sent s.held.items; asked = s.asks } };
 
-    ghost invariant = { λ s. s.sent ≤ length s.held.items };
+    ghost invariant = { λ s. (s.sent ≤ length s.held.items) × (s.taken ≡ length (C.log s.connection).wrote) };
 }
 
 impl<C: Connection + Drop, A: Allocator> Socket<C, A> {
-    /// Takes over a connection that was prepared.
+    /// Takes over a connection that was prepared, and has carried nothing.
     ///
     /// # Errors
     ///
     /// The connection, where memory was refused for what it holds.
     pub fn new(alloc: A, connection: C) -> Result<Socket<C, A>, C>
+        requires { C.log connection ≡ nothing }
         ensures connection { IfOk result (λ socket. socket.connection ≡ connection) }
         ensures held { IfOk result (λ socket. socket.held ≡ []) }
         ensures refused { IfErr result (λ handed_back. handed_back ≡ connection) }
@@ -51,6 +54,7 @@ impl<C: Connection + Drop, A: Allocator> Socket<C, A> {
         match Vec::with_capacity(alloc, HELD_BYTES) {
             Ok(held) => Ok(Socket {
                 connection,
+                taken: 0,
                 held,
                 sent: 0,
                 is_read: Cell::new(false),
@@ -73,6 +77,13 @@ impl<C: Connection + Drop, A: Allocator> Socket<C, A> {
         ensures { result ≡ self.connection }
     {
         self.connection
+    }
+
+    /// How many bytes its connection has taken.
+    pub fn taken(&self) -> u64
+        ensures { result ≡ length (C.log self.now.connection).wrote }
+    {
+        self.taken
     }
 
     /// The system says that it may be ready, and whether its client says no more.
@@ -114,7 +125,11 @@ impl<C: Connection + Drop, A: Allocator> Socket<C, A> {
         ensures asks { self.new.asked ≡ self.old.asked }
         ensures log { log_of C.log self.new ≡ log_of C.log self.old }
     {
-        match self.connection.send(&self.held[self.sent..]) {
+        match send_counted(
+            &mut self.connection,
+            &mut self.taken,
+            &self.held[self.sent..],
+        ) {
             Ok(0) => Err(io::Error::from(ErrorKind::WriteZero)),
             Ok(taken) => {
                 self.sent += taken;
@@ -158,7 +173,7 @@ impl<C: Connection + Drop, A: Allocator> Socket<C, A> {
     {
         self.make_room(buf.len())?;
         if buf.len() >= HELD_BYTES {
-            return self.connection.send(buf);
+            return send_counted(&mut self.connection, &mut self.taken, buf);
         }
         match self.held.extend_from_slice(buf) {
             Ok(()) => Ok(buf.len()),
@@ -211,4 +226,21 @@ impl<C: Connection + Drop, A: Allocator> Stream for Socket<C, A> {
         self.asks.note_flush(&answer);
         answer
     }
+}
+
+/// Has a connection take a beginning of the bytes, and counts them. It isn't asked where their count might not fit.
+fn send_counted<C: Connection>(connection: &mut C, taken: &mut u64, buf: &[u8]) -> io::Result<usize>
+    requires { taken.old ≡ length (C.log connection.old).wrote }
+    ensures bound { WritesAtMost result buf.now }
+    ensures log { Says (C.log connection.old) (C.log connection.new) result buf.now }
+    ensures counted { taken.new ≡ length (C.log connection.new).wrote }
+{
+    if buf.len() as u64 > u64::MAX - *taken {
+        return Err(io::Error::from(ErrorKind::Other));
+    }
+    let answer = connection.send(buf);
+    if let Ok(count) = &answer {
+        *taken += *count as u64;
+    }
+    answer
 }

@@ -1,6 +1,6 @@
 //! What a client does until the next one has its turns.
 
-ghost use Rattle.std.specs.Prelude.{◌≡◌, ◌≢◌, ◌<◌, ◌⊎◌, List, length};
+ghost use Rattle.std.specs.Prelude.{◌≡◌, ◌≢◌, ◌<◌, ◌⊎◌, List, length, IsTrue};
 ghost use Rattle.nbd_hub.specs.History.{Step};
 ghost use Rattle.nbd_hub.specs.After.{IsAfter};
 ghost use Rattle.nbd_hub.specs.declared.fault.ServeFault.{ServeFault};
@@ -82,18 +82,35 @@ fn take_turn<S: Stream + Drop, A: Allocator, E: Export, H: Allocator + Copy>(
         → AllServed hub.old.0.offer history clients.old logs
         → RunsOn S.remaining S.received S.contents (E.facts hub.new.1) hub.new.0 history clients.old clients.new logs }
 {
-    let client = &clients[at];
-    if client.is_fed_next() {
-        let reply = REPLY_HEAD + u64::from(client.asks(hub));
-        if !has_room(clients, reply, budget) {
-            return Came::Hungry;
-        }
+    if waits_for_memory(clients, at, hub, budget) {
+        return Came::Hungry;
     }
     let turn = turn_at(clients, at, hub);
     match left(clients, budget) {
         Some(_) => came_to(turn),
         None => Came::Failed(ServeFault::Starved),
     }
+}
+
+/// Whether the client at this place waits for memory: its next READ asks for more than its share, and there is no room for the reply.
+/// It sends and reads nothing meanwhile.
+pub(crate) fn waits_for_memory<S: Stream + Drop, A: Allocator, E: Export, H: Allocator + Copy>(
+    clients: &[Client<S, A>],
+    at: usize,
+    hub: &Sessions<E, H>,
+    budget: Budget,
+) -> bool
+    requires { at < length clients.now }
+    ensures { IsTrue result → IsHungry budget.share (E.facts hub.now.1) hub.now.0 clients.now at }
+{
+    let client = &clients[at];
+    if client.is_fed_next() {
+        let reply = REPLY_HEAD + u64::from(client.asks(hub));
+        if !has_room(clients, reply, budget) {
+            return true;
+        }
+    }
+    false
 }
 
 fn came_to(turn: Turn) -> Came

@@ -31,6 +31,11 @@ impl Talk {
     pub fn feed(&mut self, piece: &[u8], out: &mut Vec<u8>) -> Status {
         self.session.feed(piece, &mut self.image, out)
     }
+
+    /// Notes what the READs that wait ask for, and tells how many it noted.
+    pub fn ahead(&self, waiting: &[u8], ranges: &mut [(u64, u32)]) -> usize {
+        self.session.ahead(waiting, ranges)
+    }
 }
 
 /// What is said to an input that comes in a first piece of `first` bytes and then in pieces of `step` bytes, and how

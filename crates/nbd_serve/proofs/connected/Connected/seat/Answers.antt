@@ -1,4 +1,4 @@
-use Rattle.std.proofs.Common.{◌++◌, ◌-◌, [], ◌∷◌, length, arith, sym, subst, ap, ◌∙◌, length-append}
+use Rattle.std.proofs.Common.{◌-◌, [], ◌∷◌, length, arith, sym, subst, ap, ◌∙◌, length-append}
 use Rattle.nbd_session.specs.Handshake.{greeting}
 use Rattle.nbd_hub.specs.History.{Opening, Ending}
 use Rattle.nbd_serve.specs.Sockets.{SocketState}

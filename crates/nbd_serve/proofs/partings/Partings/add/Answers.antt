@@ -1,4 +1,4 @@
-use Rattle.std.proofs.Common.{◌≡◌, ◌++◌, [], ◌∷◌, refl, sym, subst, ap, ◌∙◌}
+use Rattle.std.proofs.Common.{◌≡◌, ◌++◌, [], ◌∷◌, sym, subst, ap, ◌∙◌}
 use Rattle.nbd_serve.specs.Sockets.{SocketState, IsTold}
 use Rattle.nbd_serve.proofs.Keeping.{closed_one, leaves_one, told_same}
 use Rattle.nbd_serve.proofs.partings.Partings.add.Goals as goal

@@ -30,3 +30,8 @@ invariant_of-self g c =
       most = self.most;
       all = omega (arith, self.all, less, rest);
     }
+
+pub returns-clause-line : goal.returns-clause-line
+returns-clause-line g c =
+    where_ok c.tell_end.result (λ p. record { number = c.leave-number.result.0; is_there = c.leave-number.ensures.number; printed = p })
+    c.tell_end.ensures.printed

@@ -21,3 +21,18 @@ loop-init g c = record {
 
 pub returns-in_err-next-clause-kept : goal.returns-in_err-next-clause-kept
 returns-in_err-next-clause-kept g c = λ begun k. c.turns_at.ensures.kept begun (c.loop.invariant.kept begun k)
+
+pub returns-in_err-left-clause-kept : goal.returns-in_err-left-clause-kept
+returns-in_err-left-clause-kept g c = λ begun k. c.leave_stalled.ensures.kept begun (c.loop.invariant.kept begun k)
+
+pub returns-then-goes_on-2-clause-told : goal.returns-then-goes_on-2-clause-told
+returns-then-goes_on-2-clause-told g c = tells_then _ _ _ _ _ _ c.loop.invariant.told c.in_ok-left.ensures.told
+
+pub returns-then-goes_on-2-clause-kept : goal.returns-then-goes_on-2-clause-kept
+returns-then-goes_on-2-clause-kept g c = λ begun k. c.leave_stalled.ensures.kept begun (c.loop.invariant.kept begun k)
+
+pub returns-else-goes_on-2-clause-told : goal.returns-else-goes_on-2-clause-told
+returns-else-goes_on-2-clause-told g c = tells_then _ _ _ _ _ _ c.loop.invariant.told c.in_ok-left.ensures.told
+
+pub returns-else-goes_on-2-clause-kept : goal.returns-else-goes_on-2-clause-kept
+returns-else-goes_on-2-clause-kept g c = λ begun k. c.leave_stalled.ensures.kept begun (c.loop.invariant.kept begun k)

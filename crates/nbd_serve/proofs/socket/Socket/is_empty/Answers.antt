@@ -1,4 +1,4 @@
-use Rattle.std.proofs.Common.{drop, sym, ap, ◌∙◌, arith}
+use Rattle.std.proofs.Common.{sym, ap, ◌∙◌, arith}
 use Rattle.std.proofs.lemmas.List.{drop_all}
 use Rattle.nbd_serve.specs.Sockets.{SocketState}
 use Rattle.nbd_serve.proofs.socket.Socket.is_empty.Goals as goal
