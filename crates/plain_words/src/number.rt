@@ -229,7 +229,10 @@ impl Number {
             ),
             Number::V3 => Meaning::new("V3", "a read of this store failed"),
             Number::V4 => Meaning::new("V4", "memory was refused"),
-            Number::V5 => Meaning::new("V5", "the cache has from 1 to 65536 blocks"),
+            Number::V5 => Meaning::new(
+                "V5",
+                "a cache has at most 65536 blocks, and that of hash blocks at least 1",
+            ),
             Number::P1 => Meaning::new("P1", "an export's name has 1 to 255 bytes"),
             Number::P2 => Meaning::new("P2", "memory was refused"),
             Number::H1 => Meaning::new("H1", "64 sessions are open"),

@@ -11,4 +11,4 @@ pub use talking::{
     read, reply, run_by, run_once, serve_by, serve_once, words,
 };
 pub use two_sessions::{Want, events, is_wanted, wants};
-pub use volumes::{ROOT_17, data_17, hash_17, hub_17, hub_within, store, tree};
+pub use volumes::{ROOT_17, data_17, hash_17, hub_17, hub_within, noticed_17, store, tree};

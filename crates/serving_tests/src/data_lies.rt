@@ -8,10 +8,15 @@ use test_stores::ScriptStore;
 use test_volumes::image;
 
 /// Whether both sessions are told what they should where the data store lies.
-fn tells_of_data(alloc: Global, cache: usize, script: Script, reads: Reads) -> Result<bool, Fail> {
+fn tells_of_data(
+    alloc: Global,
+    caches: [usize; 2],
+    script: Script,
+    reads: Reads,
+) -> Result<bool, Fail> {
     let hash = hash_17(alloc)?;
     let data = lying(alloc, script)?;
-    tells_over(alloc, data, hash, cache, reads)
+    tells_over(alloc, data, hash, caches, reads)
 }
 
 /// A data store that does as scripted, and has the blocks of both volumes to give.
@@ -71,17 +76,17 @@ static DATA_LIES: [(&str, Script, Reads); 7] = [
     ),
 ];
 
-/// How many blocks the caches hold.
-const CACHES: [usize; 2] = [1, 4];
+/// How many hash blocks and how many data blocks are kept.
+const CACHES: [[usize; 2]; 3] = [[1, 0], [4, 0], [1, 8]];
 
 #[test]
 fn a_data_store_that_lies(rt: HostRuntime) -> Result<(), Fail> {
     let alloc = rt.alloc();
     for &(name, script, reads) in &DATA_LIES {
-        for &cache in &CACHES {
+        for &caches in &CACHES {
             assert!(rt;
-                tells_of_data(alloc, cache, script, reads)?,
-                "{name}, cache of {cache}"
+                tells_of_data(alloc, caches, script, reads)?,
+                "{name}, caches of {caches:?}"
             );
         }
     }

@@ -16,7 +16,7 @@ fn tells_of_hashes(
 ) -> Result<bool, Fail> {
     let data = data_17(alloc)?;
     let hash = lying(alloc, script)?;
-    tells_over(alloc, data, hash, cache, reads)
+    tells_over(alloc, data, hash, [cache, 0], reads)
 }
 
 /// A hash store that does as scripted, and has the hash blocks of both volumes to give.

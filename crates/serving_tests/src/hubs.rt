@@ -85,7 +85,7 @@ fn serve_over<S: BlockStore + Drop>(
     room: usize,
     limit: u64,
 ) -> Result<Served, Fail> {
-    let mut hub = hub_17(alloc, data, hash, 1)?;
+    let mut hub = hub_17(alloc, data, hash, [1, 0])?;
     let mut writer = Narrow {
         taken: Vec::new(alloc),
         room,
@@ -167,7 +167,7 @@ fn add_replies<S: BlockStore + Drop>(
     events: &[Event],
     replies: &mut Replies,
 ) -> Result<(), Fail> {
-    let mut hub = hub_17(alloc, data, hash, 1)?;
+    let mut hub = hub_17(alloc, data, hash, [1, 0])?;
     replies.is_refused = run_on(&mut hub, events, &mut replies.within, &mut replies.others)?;
     Ok(())
 }
@@ -177,11 +177,11 @@ pub fn tells_over<D: BlockStore + Drop, H: BlockStore + Drop>(
     alloc: Global,
     data: D,
     hash: H,
-    cache: usize,
+    caches: [usize; 2],
     reads: Reads,
 ) -> Result<bool, Fail> {
     let events = events_of(alloc, reads)?;
-    let replies = replies_over(alloc, data, hash, cache, &events)?;
+    let replies = replies_over(alloc, data, hash, caches, &events)?;
     Ok(are_told(alloc, reads, &events, &replies)?)
 }
 
@@ -190,10 +190,10 @@ fn replies_over<D: BlockStore + Drop, H: BlockStore + Drop>(
     alloc: Global,
     data: D,
     hash: H,
-    cache: usize,
+    caches: [usize; 2],
     events: &[Event],
 ) -> Result<Vec<HubReply>, Fail> {
-    let hub = hub_17(alloc, data, hash, cache)?;
+    let hub = hub_17(alloc, data, hash, caches)?;
     let mut replies = Vec::new(alloc);
     run_once(hub, events, &mut replies)?;
     Ok(replies)

@@ -15,6 +15,8 @@ mod hub_memory;
 #[cfg(test)]
 mod hubs;
 #[cfg(test)]
+mod notices;
+#[cfg(test)]
 mod reply_memory;
 #[cfg(test)]
 mod session_memory;

@@ -29,6 +29,12 @@ by_number : (w : Word) (text : List ℕ) (e : Failure) → number_in w text ≡ 
 by_number w text e is = only (is_decimal text) (digits_value 10 text) (failure.Word w) e is
 
 -- a number that `format` doesn't read blames its word
+pub of_data_block_size : (words : FormatWords) (e : Failure) → number_in word.DataBlockSize words.data_block_size.now ≡ Err e
+    → Misreads words e
+of_data_block_size words e is =
+    let same = by_number word.DataBlockSize words.data_block_size.now e is in
+    subst (Misreads words) (sym same) (is ∙ ap Err same)
+
 pub of_hash_block_size : (words : FormatWords) (e : Failure) → number_in word.HashBlockSize words.hash_block_size.now ≡ Err e
     → Misreads words e
 of_hash_block_size words e is =
@@ -39,6 +45,11 @@ pub of_hash_offset : (words : FormatWords) (e : Failure) → number_in word.Hash
 of_hash_offset words e is =
     let same = by_number word.HashOffset words.hash_offset.now e is in
     subst (Misreads words) (sym same) (is ∙ ap Err same)
+
+pub misread_data_block_size : {T : Type 0} (done : Result T Failure) (words : FormatWords) (e : Failure)
+    → IsErrAnd done (λ other. other ≡ e) → number_in word.DataBlockSize words.data_block_size.now ≡ Err e → IfErr done (Misreads words)
+misread_data_block_size (Ok done) words e is was = tt
+misread_data_block_size (Err other) words e is was = subst (Misreads words) (sym is) (of_data_block_size words e was)
 
 -- and so does a UUID
 pub of_uuid : (words : FormatWords) (e : Failure) → uuid_in words.uuid.now ≡ Err e → Misreads words e
@@ -79,9 +90,11 @@ of_misread facts s words (failure.Word word.HashOffset) is_misread = is_misread
 of_misread facts s words (failure.Word word.New) is_misread = is_misread
 of_misread facts s words (failure.Word word.Journal) is_misread = is_misread
 of_misread facts s words (failure.Word word.Cache) is_misread = is_misread
+of_misread facts s words (failure.Word word.DataCache) is_misread = is_misread
 of_misread facts s words (failure.Word word.Sessions) is_misread = is_misread
 of_misread facts s words (failure.Word word.Memory) is_misread = is_misread
 of_misread facts s words (failure.Word word.Idle) is_misread = is_misread
+of_misread facts s words (failure.Word word.Stall) is_misread = is_misread
 of_misread facts s words (failure.Word word.Timeout) is_misread = is_misread
 of_misread facts s words (failure.Word word.Slice) is_misread = is_misread
 of_misread facts s words (failure.Word word.TableFile) is_misread = is_misread

@@ -12,6 +12,7 @@ ghost use Rattle.nbd_hub.specs.After.{AsksOn, EachAfter, Given, IsAfter, OpenedA
 ghost use Rattle.verity_hub.specs.Verdicts.{facts_of, IsRightFor};
 
 use crate::checked_image::CheckedImage;
+use crate::notices::{Notices, Silent};
 use nbd_hub::{Event, HubFault, HubReply, Sessions};
 use nbd_session::{ExportName, Status};
 use std::alloc::{AllocError, Allocator, Global};
@@ -19,14 +20,20 @@ use std::marker::Model;
 use verity_check::Verifier;
 use verity_store::BlockStore;
 
-/// Many NBD sessions over one verifier and its one cache. Contracts see what the sessions offer, the number of the next,
-/// those that are open, and the verifier.
+/// Many NBD sessions over one verifier and its one cache, whose refusals are notified. Contracts see what the sessions offer, the
+/// number of the next, those that are open, and the verifier.
 #[derive(Drop)]
-pub struct Hub<D: BlockStore, H: BlockStore, A: Allocator + Copy + Drop = Global> {
-    pub(crate) sessions: Sessions<CheckedImage<D, H, A>, A>,
+pub struct Hub<
+    D: BlockStore,
+    H: BlockStore,
+    A: Allocator + Copy + Drop = Global,
+    N: Notices = Silent,
+> {
+    pub(crate) sessions: Sessions<CheckedImage<D, H, A, N>, A>,
 }
 
-impl<D: BlockStore, H: BlockStore, A: Allocator + Copy + Drop> Model for Hub<D, H, A> {
+impl<D: BlockStore, H: BlockStore, A: Allocator + Copy + Drop, N: Notices> Model
+    for Hub<D, H, A, N> {
     ghost use Rattle.verity_check.specs.Verifier.{Verifying};
     ghost use Rattle.nbd_hub.specs.Sessions.{HubState};
 
@@ -36,7 +43,7 @@ impl<D: BlockStore, H: BlockStore, A: Allocator + Copy + Drop> Model for Hub<D, 
 }
 
 impl<D: BlockStore, H: BlockStore, A: Allocator + Copy + Drop> Hub<D, H, A> {
-    /// A hub with no session, over an export of this name. It takes no memory.
+    /// A hub with no session, over an export of this name, of whose refusals nobody is notified. It takes no memory.
     pub fn new(alloc: A, verifier: Verifier<D, H, A>, name: ExportName) -> Hub<D, H, A>
         ensures verifier { result.1 ≡ verifier }
         ensures offer { result.0.offer ≡ record {
@@ -47,8 +54,30 @@ impl<D: BlockStore, H: BlockStore, A: Allocator + Copy + Drop> Hub<D, H, A> {
         ensures none { (result.0.next ≡ 0) × (result.0.sessions ≡ []) }
         ensures after { IsAfter (facts_of D.BlockStore H.BlockStore verifier) result.0 [] }
     {
+        Hub::noticed(alloc, verifier, name, Silent)
+    }
+}
+
+impl<D: BlockStore, H: BlockStore, A: Allocator + Copy + Drop, N: Notices> Hub<D, H, A, N> {
+    /// A hub with no session, over an export of this name, and who is notified of the READs that its verifier refuses with V2 or V3. It
+    /// takes no memory.
+    pub fn noticed(
+        alloc: A,
+        verifier: Verifier<D, H, A>,
+        name: ExportName,
+        notices: N,
+    ) -> Hub<D, H, A, N>
+        ensures verifier { result.1 ≡ verifier }
+        ensures offer { result.0.offer ≡ record {
+          name = name;
+          size = verifier.table.data_blocks * verifier.table.data_block_size;
+          block = verifier.table.data_block_size;
+        } }
+        ensures none { (result.0.next ≡ 0) × (result.0.sessions ≡ []) }
+        ensures after { IsAfter (facts_of D.BlockStore H.BlockStore verifier) result.0 [] }
+    {
         Hub {
-            sessions: Sessions::new(alloc, CheckedImage::new(verifier), name),
+            sessions: Sessions::new(alloc, CheckedImage::new(verifier, notices), name),
         }
     }
 

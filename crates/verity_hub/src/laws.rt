@@ -14,13 +14,14 @@ ghost use Rattle.verity_check.specs.Verifier.{Verifying};
 ghost use Rattle.verity_hub.specs.Verdicts.{facts_of, HoldsFor, IsRightFor};
 
 use crate::hub::Hub;
+use crate::notices::Notices;
 use std::alloc::Allocator;
 use verity_store::BlockStore;
 
 /// Whatever was done with a hub since it was made, and whatever its stores returned: for every image that fits the table
 /// line, each session's output is the talk of its own input, by verdicts that are right.
-pub fn outputs_are_right<D: BlockStore, H: BlockStore, A: Allocator + Copy + Drop>(
-    hub: &Hub<D, H, A>,
+pub fn outputs_are_right<D: BlockStore, H: BlockStore, A: Allocator + Copy + Drop, N: Notices>(
+    hub: &Hub<D, H, A, N>,
 )
     ensures { (history : List Step) → IsAfter (facts_of D.BlockStore H.BlockStore hub.now.1) hub.now.0 history
         → (image : List (List ℕ)) → Fits hub.now.1.table image
@@ -31,8 +32,8 @@ pub fn outputs_are_right<D: BlockStore, H: BlockStore, A: Allocator + Copy + Dro
 
 /// And of each client of such a hub: what was written to it is a beginning of the talk of what was read from it, by verdicts
 /// that are right, and all of it once nothing waits and nothing is unsent.
-pub fn clients_are_told_right<D: BlockStore, H: BlockStore, A: Allocator + Copy + Drop>(
-    hub: &Hub<D, H, A>,
+pub fn clients_are_told_right<D: BlockStore, H: BlockStore, A: Allocator + Copy + Drop, N: Notices>(
+    hub: &Hub<D, H, A, N>,
 )
     ensures { (history : List Step) → IsAfter (facts_of D.BlockStore H.BlockStore hub.now.1) hub.now.0 history
         → (image : List (List ℕ)) → Fits hub.now.1.table image

@@ -25,6 +25,10 @@
 //! been sent is a beginning of what its session said to what it had sent, right for every image that fits the table line.
 //! [`laws::clients_are_told_right`] says the same of the clients of `nbd_relay` over such a hub.
 //!
+//! [`Hub::noticed`] makes a hub that notifies someone ([`Notices`]) of each READ that its verifier refuses for a block: V2, a block that
+//! isn't the one that the table line names, or V3, one that can't be read. A client is told EIO for either. That each such refusal is
+//! notified once, and nothing else, is said of a read of the verifier (`specs/Noticed.antt`); the contracts above don't see it.
+//!
 //! # Errors
 //!
 //! [`HubFault`], H1 to H4: a refused call changes nothing. [`ServeFault`], N1 to N5. `AllocError` of [`Hub::run`].
@@ -33,6 +37,8 @@
 mod checked_image;
 mod hub;
 pub mod laws;
+mod noticed;
+mod notices;
 mod server;
 mod stream;
 
@@ -40,5 +46,6 @@ pub use hub::Hub;
 pub use nbd_hub::{
     CountedReader, CountedWriter, Event, HubFault, HubReply, Input, Output, Piece, ServeFault,
 };
+pub use notices::{Notices, Silent};
 pub use server::serve_clients;
 pub use stream::serve_stream;

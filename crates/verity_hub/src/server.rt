@@ -10,7 +10,9 @@ ghost use Rattle.verity_check.specs.Verifier.{IsOnlyReading};
 ghost use Rattle.verity_hub.specs.Verdicts.{facts_of, IsRightFor};
 
 use crate::hub::Hub;
+use crate::notices::Notices;
 use nbd_serve::{Door, Stop};
+use std::alloc::Global;
 use std::io::Write;
 use verity_store::BlockStore;
 
@@ -23,8 +25,8 @@ use verity_store::BlockStore;
 /// # Errors
 ///
 /// Those of [`nbd_serve::serve_clients`].
-pub fn serve_clients<D: BlockStore, H: BlockStore, L: Door, W: Write>(
-    hub: &mut Hub<D, H>,
+pub fn serve_clients<D: BlockStore, H: BlockStore, N: Notices, L: Door, W: Write>(
+    hub: &mut Hub<D, H, Global, N>,
     door: &mut L,
     sessions: u64,
     output: &mut W,

@@ -11,6 +11,7 @@ ghost use Rattle.verity_check.specs.Verifier.{IsOnlyReading};
 ghost use Rattle.verity_hub.specs.Verdicts.{facts_of, HoldsFor, SaysRight, SaysExact};
 
 use crate::hub::Hub;
+use crate::notices::Notices;
 use nbd_hub::{HubFault, Input, Output, ServeFault, serve};
 use std::alloc::Allocator;
 use verity_store::BlockStore;
@@ -27,12 +28,14 @@ use verity_store::BlockStore;
 /// N1 where the reader failed, and nowhere else; N2 where the writer failed or took no byte, and nowhere else, and what went
 /// out is a beginning of the output; N3 where `limit` turns gave bytes and the session hasn't ended; N4 where the session
 /// starved; N5 where no session could be opened, with the hub's own fault, and nothing was read or written.
-pub fn serve_stream<D: BlockStore, H: BlockStore, A: Allocator + Copy + Drop, R: Input, W: Output>(
-    hub: &mut Hub<D, H, A>,
-    reader: &mut R,
-    writer: &mut W,
-    limit: u64,
-) -> Result<(), ServeFault>
+pub fn serve_stream<
+    D: BlockStore,
+    H: BlockStore,
+    A: Allocator + Copy + Drop,
+    N: Notices,
+    R: Input,
+    W: Output,
+>(hub: &mut Hub<D, H, A, N>, reader: &mut R, writer: &mut W, limit: u64) -> Result<(), ServeFault>
     ensures offer { hub.new.0.offer ≡ hub.old.0.offer }
     ensures verifier { IsOnlyReading D.BlockStore H.BlockStore hub.old.1 hub.new.1 }
     ensures served { Served (facts_of D.BlockStore H.BlockStore hub.old.1) (facts_of D.BlockStore H.BlockStore hub.new.1) hub.old.0.offer

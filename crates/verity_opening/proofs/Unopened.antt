@@ -1,5 +1,5 @@
 -- Why no hub is made.
-use Rattle.std.proofs.Common.{◌≡◌, ◌⊎◌, inl, inr, Bool, true, false, ℕ, List, Result, Ok, Err, IfErr, IsErrAnd, subst, sym}
+use Rattle.std.proofs.Common.{◌≡◌, ◌≤◌, ◌⊎◌, inl, inr, Bool, true, false, ℕ, List, Result, Ok, Err, IfErr, IsErrAnd, subst, sym}
 use Rattle.std.specs.Prelude.{if◌then◌else◌}
 use Rattle.verity_check.specs.Verifier.{IsCacheSize}
 use Rattle.verity_check.specs.declared.fault.CheckFault.{CheckFault}
@@ -19,38 +19,39 @@ use Rattle.verity_opening.specs.Opening.{OpensNone, OpensNoHub}
 
 module _ {S F D J : Type 0} (facts : Ghosts S F D J) (s : S) (command : Command) where
   -- a verifier isn't made for one of three reasons
-  pub unmade : (line name : List ℕ) (cache : ℕ) (e : CheckFault) → (e ≡ check.CacheSize → ¬ IsCacheSize cache)
+  pub unmade : (line name : List ℕ) (cache data_cache : ℕ) (e : CheckFault)
+      → (e ≡ check.CacheSize → ¬ (IsCacheSize cache × (data_cache ≤ 65536)))
       → (e ≡ check.Lengths) ⊎ (e ≡ check.CacheSize) ⊎ (e ≡ check.NoMemory)
-      → OpensNoHub facts s line name cache command (failure_of (fault.Check e))
-  unmade line name cache e size (inl is) =
-      subst (λ e. OpensNoHub facts s line name cache command (failure_of (fault.Check e))) (sym is) tt
-  unmade line name cache e size (inr (inl is)) =
-      subst (λ e. OpensNoHub facts s line name cache command (failure_of (fault.Check e))) (sym is) (size is)
-  unmade line name cache e size (inr (inr is)) =
-      subst (λ e. OpensNoHub facts s line name cache command (failure_of (fault.Check e))) (sym is) tt
+      → OpensNoHub facts s line name cache data_cache command (failure_of (fault.Check e))
+  unmade line name cache data_cache e size (inl is) =
+      subst (λ e. OpensNoHub facts s line name cache data_cache command (failure_of (fault.Check e))) (sym is) tt
+  unmade line name cache data_cache e size (inr (inl is)) =
+      subst (λ e. OpensNoHub facts s line name cache data_cache command (failure_of (fault.Check e))) (sym is) (size is)
+  unmade line name cache data_cache e size (inr (inr is)) =
+      subst (λ e. OpensNoHub facts s line name cache data_cache command (failure_of (fault.Check e))) (sym is) tt
 
   module _ (table : TableLine) where
     -- nor where its files aren't opened
-    pub unopened : (line name : List ℕ) (cache : ℕ) (e : Failure) → Line line table → OpensNone facts s table command e
-        → OpensNoHub facts s line name cache command e
-    unopened line name cache failure.NoMemory parsed is = tt
-    unopened line name cache (failure.Refused (fault.Store f)) parsed is = (table, parsed, is)
-    unopened line name cache (failure.Refused (fault.InUse which.Data)) parsed is = (table, parsed, is)
-    unopened line name cache (failure.Refused (fault.InUse which.Hash)) parsed is = (table, parsed, is)
-    unopened line name cache (failure.Refused fault.UnderWay) parsed is = (table, parsed, is)
-    unopened line name cache (failure.Refused fault.Journal) parsed is = (table, parsed, is)
-    unopened line name cache (failure.Word word) parsed is = elim is [ ]
-    unopened line name cache (failure.Refused fault.NewInUse) parsed is = elim is [ ]
-    unopened line name cache (failure.Refused (fault.Salt f)) parsed is = elim is [ ]
-    unopened line name cache (failure.Refused (fault.Superblock f)) parsed is = elim is [ ]
-    unopened line name cache (failure.Refused (fault.Table f)) parsed is = elim is [ ]
-    unopened line name cache (failure.Refused (fault.Build f)) parsed is = elim is [ ]
-    unopened line name cache (failure.Refused fault.Uncovered) parsed is = elim is [ ]
-    unopened line name cache (failure.Refused (fault.Check f)) parsed is = elim is [ ]
-    unopened line name cache (failure.Refused (fault.Edit f)) parsed is = elim is [ ]
-    unopened line name cache (failure.Refused (fault.Session f)) parsed is = elim is [ ]
-    unopened line name cache (failure.Refused fault.Socket) parsed is = elim is [ ]
-    unopened line name cache failure.Output parsed is = elim is [ ]
+    pub unopened : (line name : List ℕ) (cache data_cache : ℕ) (e : Failure) → Line line table → OpensNone facts s table command e
+        → OpensNoHub facts s line name cache data_cache command e
+    unopened line name cache data_cache failure.NoMemory parsed is = tt
+    unopened line name cache data_cache (failure.Refused (fault.Store f)) parsed is = (table, parsed, is)
+    unopened line name cache data_cache (failure.Refused (fault.InUse which.Data)) parsed is = (table, parsed, is)
+    unopened line name cache data_cache (failure.Refused (fault.InUse which.Hash)) parsed is = (table, parsed, is)
+    unopened line name cache data_cache (failure.Refused fault.UnderWay) parsed is = (table, parsed, is)
+    unopened line name cache data_cache (failure.Refused fault.Journal) parsed is = (table, parsed, is)
+    unopened line name cache data_cache (failure.Word word) parsed is = elim is [ ]
+    unopened line name cache data_cache (failure.Refused fault.NewInUse) parsed is = elim is [ ]
+    unopened line name cache data_cache (failure.Refused (fault.Salt f)) parsed is = elim is [ ]
+    unopened line name cache data_cache (failure.Refused (fault.Superblock f)) parsed is = elim is [ ]
+    unopened line name cache data_cache (failure.Refused (fault.Table f)) parsed is = elim is [ ]
+    unopened line name cache data_cache (failure.Refused (fault.Build f)) parsed is = elim is [ ]
+    unopened line name cache data_cache (failure.Refused fault.Uncovered) parsed is = elim is [ ]
+    unopened line name cache data_cache (failure.Refused (fault.Check f)) parsed is = elim is [ ]
+    unopened line name cache data_cache (failure.Refused (fault.Edit f)) parsed is = elim is [ ]
+    unopened line name cache data_cache (failure.Refused (fault.Session f)) parsed is = elim is [ ]
+    unopened line name cache data_cache (failure.Refused fault.Socket) parsed is = elim is [ ]
+    unopened line name cache data_cache failure.Output parsed is = elim is [ ]
 
     -- the gate beside the hash device isn't shut
     pub unshut : (e : Failure) → IsUnshut (IsOpenBeside facts s table.hash_dev) (IsUnusableBeside facts s table.hash_dev) e

@@ -1,5 +1,5 @@
 -- The files that a table line names, and the hub over them.
-use Rattle.std.specs.Prelude.{◌≡◌, ◌≢◌, ℕ, ◌*◌, ◌%◌, ◌<◌, ◌⊎◌, true, List, length, Some, ⊤}
+use Rattle.std.specs.Prelude.{◌≡◌, ◌≢◌, ℕ, ◌*◌, ◌%◌, ◌<◌, ◌≤◌, ◌⊎◌, true, List, length, Some, ⊤}
 use Rattle.nbd_session.specs.declared.offer.Offer.{Offer}
 use Rattle.verity_store.specs.declared.store.BlockStore as store
 use Rattle.verity_store.specs.declared.fault.StoreFault.{StoreFault}
@@ -49,14 +49,16 @@ OpensNone facts s table command (failure.Refused fault.UnderWay) = IsOpenBeside 
 OpensNone facts s table command (failure.Refused fault.Journal) = IsUnusableBeside facts s table.hash_dev
 OpensNone facts s table command _ = ⊥
 
--- nor is a hub over them made; what is said of the line, the name or the size of the cache is so
-abbrev pub OpensNoHub : {S F D J : Type 0} → Ghosts S F D J → S → (line name : List ℕ) → (cache : ℕ) → Command → Failure → Type 0
-OpensNoHub facts s line name cache command (failure.Refused (fault.Table f)) = line_refusal line ≡ Some f
-OpensNoHub facts s line name cache command (failure.Refused (fault.Session f)) = (length name ≡ 0) ⊎ (255 < length name)
-OpensNoHub facts s line name cache command (failure.Refused (fault.Check check.CacheSize)) = ¬ IsCacheSize cache
-OpensNoHub facts s line name cache command (failure.Refused (fault.Check check.Lengths)) = ⊤
-OpensNoHub facts s line name cache command failure.NoMemory = ⊤
-OpensNoHub facts s line name cache command e = (table : TableLine) × Line line table × OpensNone facts s table command e
+-- nor is a hub over them made; what is said of the line, the name or the sizes of the caches is so
+abbrev pub OpensNoHub : {S F D J : Type 0} → Ghosts S F D J → S → (line name : List ℕ) → (cache data_cache : ℕ) → Command → Failure
+    → Type 0
+OpensNoHub facts s line name cache data_cache command (failure.Refused (fault.Table f)) = line_refusal line ≡ Some f
+OpensNoHub facts s line name cache data_cache command (failure.Refused (fault.Session f)) = (length name ≡ 0) ⊎ (255 < length name)
+OpensNoHub facts s line name cache data_cache command (failure.Refused (fault.Check check.CacheSize)) =
+    ¬ (IsCacheSize cache × (data_cache ≤ 65536))
+OpensNoHub facts s line name cache data_cache command (failure.Refused (fault.Check check.Lengths)) = ⊤
+OpensNoHub facts s line name cache data_cache command failure.NoMemory = ⊤
+OpensNoHub facts s line name cache data_cache command e = (table : TableLine) × Line line table × OpensNone facts s table command e
 
 -- the volume of a table line, offered under this name
 abbrev pub offered : TableLine → (name : List ℕ) → Offer

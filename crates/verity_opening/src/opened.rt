@@ -1,6 +1,6 @@
 //! The volume that a table line names, opened to be read.
 
-ghost use Rattle.std.specs.Prelude.{◌≡◌, ◌-◌, ◌^◌, ◌⊎◌, [], true, Some, IsOk, IfOk, OnOk, IfErr};
+ghost use Rattle.std.specs.Prelude.{◌≡◌, ◌-◌, ◌^◌, ◌≤◌, ◌⊎◌, [], true, Some, IsOk, IfOk, OnOk, IfErr};
 ghost use Rattle.verity_superblock.specs.Line.{Line, line_refusal};
 ghost use Rattle.verity_check.specs.Verifier.{IsCacheSize};
 ghost use Rattle.verity_files.specs.Errors.{IsS1For};
@@ -12,7 +12,7 @@ use std::alloc::Global;
 use verity_check::Verifier;
 use verity_files::{Command, Failure, Fault, Part, System, open_to_read};
 use verity_gate::check_gate;
-use verity_hub::Hub;
+use verity_hub::{Hub, Notices};
 use verity_store::Which;
 use verity_superblock::{Table, TableFault};
 
@@ -40,15 +40,18 @@ pub fn open_stores<S: System>(
     Ok((data_store, hash_store))
 }
 
-/// A hub of no session over the volume that a table line names, under an export's name. The line is read first, then the
-/// name. Its verifier counts what the stores give from here on.
-pub fn open_hub<S: System>(
+/// A hub of no session over the volume that a table line names, under an export's name, and who is notified of the READs that it refuses.
+/// The line is read first, then the name. Its verifier may keep so many checked hash blocks and so many checked data blocks, and counts
+/// what the stores give from here on.
+pub fn open_hub<S: System, N: Notices + Drop>(
     system: &S,
     line: &str,
     name: &str,
     cache: usize,
+    data_cache: usize,
     command: Command,
-) -> Result<Hub<S::Store, S::Store>, Failure>
+    notices: N,
+) -> Result<Hub<S::Store, S::Store, Global, N>, Failure>
     ensures line { IfOk result (λ hub. Line line.now hub.1.table) }
     ensures made { IfOk result (λ hub. IsJustMade S.Store.BlockStore S.Store.BlockStore hub.1) }
     ensures data { IfOk result (λ hub. LiesAt S.System system.now hub.1.table.dev hub.1.table.data_blocks hub.1.data_store) }
@@ -56,15 +59,18 @@ pub fn open_hub<S: System>(
     ensures shut { IfOk result (λ hub. IsShutBeside S.System system.now hub.1.table.hash_dev) }
     ensures offer { IfOk result (λ hub. hub.0.offer ≡ offered hub.1.table name.now) }
     ensures none { IfOk result (λ hub. (hub.0.next ≡ 0) × (hub.0.sessions ≡ [])) }
-    ensures cache { IsOk result → IsCacheSize cache }
-    ensures refused { IfErr result (OpensNoHub S.System system.now line.now name.now cache command) }
+    ensures cache { IsOk result → IsCacheSize cache × (data_cache ≤ 65536) }
+    ensures refused { IfErr result (OpensNoHub S.System system.now line.now name.now cache data_cache command) }
     ensures system { IfErr result (IsS1For (S.refuses system.now ≡ true)) }
 {
     let table = table_in(system.alloc(), line)?;
     let name = ExportName::new(name.as_bytes())?;
     let (data_store, hash_store) = open_stores(system, &table, command)?;
-    let verifier = Verifier::new(system.alloc(), table, data_store, hash_store, cache)?;
-    Ok(Hub::new(system.alloc(), verifier, name))
+    let alloc = system.alloc();
+    let verifier = Verifier::with_data_cache(
+        alloc, table, data_store, hash_store, cache, data_cache,
+    )?;
+    Ok(Hub::noticed(alloc, verifier, name, notices))
 }
 
 /// The table line that a text is.

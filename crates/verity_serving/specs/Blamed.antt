@@ -10,15 +10,18 @@ use Rattle.verity_words.specs.declared.words.talk.TalkWords.{TalkWords}
 -- `serve`
 abbrev pub ServeBlames : ServeWords → Failure → Type 0
 ServeBlames words (failure.Word word.Cache) = IsMisread word.Cache words.cache.now
+ServeBlames words (failure.Word word.DataCache) = IsMisread word.DataCache words.data_cache.now
 ServeBlames words (failure.Word word.Sessions) = IsMisread word.Sessions words.sessions.now
 ServeBlames words (failure.Word word.Memory) = IsMisread word.Memory words.memory.now
 ServeBlames words (failure.Word word.Idle) = IsMisread word.Idle words.idle.now
+ServeBlames words (failure.Word word.Stall) = IsMisread word.Stall words.stall.now
 ServeBlames words (failure.Word _) = ⊥
 ServeBlames words _ = ⊤
 
 -- `talk`
 abbrev pub TalkBlames : TalkWords → Failure → Type 0
 TalkBlames words (failure.Word word.Cache) = IsMisread word.Cache words.cache.now
+TalkBlames words (failure.Word word.DataCache) = IsMisread word.DataCache words.data_cache.now
 TalkBlames words (failure.Word _) = ⊥
 TalkBlames words _ = ⊤
 

@@ -103,7 +103,11 @@ pub fn verify_slice_kept<
 /// [`serve`] under the line of the words, or the one that FILE holds as it begins, where it is named. That is read before all else, and
 /// both files are left as they are: S6, S1 and L1 as in [`verify_kept`].
 pub fn serve_kept<
-    R: Files<File = File> + Net<Stream = TcpStream, Listener = TcpListener> + Clock + AllocGlobal,
+    R: Files<File = File>
+        + Net<Stream = TcpStream, Listener = TcpListener>
+        + Clock
+        + Eprint
+        + AllocGlobal,
     S: System,
     L: LineFolders,
     W: Write,

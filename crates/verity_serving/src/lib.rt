@@ -6,15 +6,21 @@
 //! `talk` reads and says, clauses say, over an input and an output whose bytes are known, and that `talk` leaves its client for a failed
 //! read or write where one failed, and nowhere else; all else that is printed and refused is shown by tests.
 //!
+//! `serve` prints the place of each block that it can't serve on standard error, once: `BadPlaces` is notified of each refusal, and `Named`
+//! decides which of them is printed; a clause says which that is.
+//!
 //! Where the line may stand in a file, `verify_kept` and its kin read it there first, and a clause says that it is that file's.
 //!
 //! The definitions stand in `specs/`: `Kept` (the trusted line), `Printed` (what `verify` and `serve` print), `Sliced` (what
 //! `verify --slice` prints), `Serving` (what `talk` serves), `Blamed` (which words
-//! a command blames).
+//! a command blames), `Limited` (what clients may take), `BadPlaces` and `Naming` (which bad places are named, and how).
 #![tactic(auto)]
 
+mod bad;
+mod bad_places;
 mod failing;
 mod kept;
+mod named;
 mod serving;
 mod slicing;
 mod talking;

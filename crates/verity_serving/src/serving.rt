@@ -1,6 +1,6 @@
 //! The command `serve`: serves a volume over NBD.
 
-ghost use Rattle.std.specs.Prelude.{◌≡◌, ℕ, List, true, Ok, IfErr, OnOk};
+ghost use Rattle.std.specs.Prelude.{◌≡◌, ℕ, List, true, Ok, IfOk, IfErr, OnOk};
 ghost use Rattle.nbd_hub.specs.History.{Step};
 ghost use Rattle.nbd_hub.specs.After.{IsAfter};
 ghost use Rattle.nbd_serve.specs.Lines.{IsServed};
@@ -10,14 +10,17 @@ ghost use Rattle.verity_hub.specs.Verdicts.{facts_of, IsRightFor};
 ghost use Rattle.verity_files.specs.Errors.{IsS1For};
 ghost use Rattle.verity_gate.specs.Refusals.{BlamesNone};
 ghost use Rattle.verity_serving.specs.Blamed.{ServeBlames};
+ghost use Rattle.verity_serving.specs.Limited.{AreLimitsOf, IsTimeOf};
 ghost use Rattle.verity_serving.specs.Printed.{IsServedAsAsked};
 ghost use Rattle.verity_serving.specs.Serving.{IsOpenedBy};
 ghost use Rattle.verity_files.specs.declared.failure.Word.{Word};
 
+use crate::bad_places::BadPlaces;
 use crate::failing::fail;
 use nbd_serve::{Door, Limits, Stop, Watched};
+use std::alloc::Global;
 use std::fs::File;
-use std::io::{ErrorKind, Write};
+use std::io::{Eprint, ErrorKind, Write};
 use std::net::{Net, TcpListener, TcpStream};
 use std::os::unix::net::UnixListener;
 use std::rt::Files;
@@ -25,7 +28,7 @@ use std::time::{Clock, Duration};
 use verity_files::{
     Command, DONE, Failure, Fault, REFUSED, System, Word, memory, number, sessions,
 };
-use verity_hub::{Hub, serve_clients};
+use verity_hub::{Hub, Notices, serve_clients};
 use verity_opening::open_hub;
 use verity_store::BlockStore;
 use verity_words::ServeWords;
@@ -36,12 +39,17 @@ const UNIX: &str = "unix:";
 /// The bytes of a mebibyte.
 const MEBIBYTE: u64 = 1 << 20;
 
-/// Serves the volume that a table line names to so many connections, and prints what [`serve_on`] says.
+/// Serves the volume that a table line names to so many connections, and prints what [`serve_on`] says. On standard error it prints each
+/// place for which READs are refused, once: at most 1,000.
 ///
 /// Faults are found in this order: the words, the line, the name, the two files (data first), the verifier, the listener.
 /// The file of a Unix socket, which is made here, is removed at the end.
 pub fn serve<
-    R: Files<File = File> + Net<Stream = TcpStream, Listener = TcpListener> + Clock + AllocGlobal,
+    R: Files<File = File>
+        + Net<Stream = TcpStream, Listener = TcpListener>
+        + Clock
+        + Eprint
+        + AllocGlobal,
     S: System,
     W: Write,
 >(rt: &R, system: &S, words: &ServeWords<'_>, output: &mut W) -> Result<u8, Failure>
@@ -52,14 +60,19 @@ pub fn serve<
     ensures system { IfErr result (IsS1For (S.refuses system.now ≡ true)) }
 {
     let cache = number(Word::Cache, words.cache)? as usize;
+    let data_cache = number(Word::DataCache, words.data_cache)? as usize;
     let count = sessions(words.sessions)?;
     let limits = limits(words)?;
-    serve_over(rt, system, words, cache, limits, count, output)
+    serve_over(rt, system, words, cache, data_cache, limits, count, output)
 }
 
 /// Opens the volume, and serves it at the address.
 fn serve_over<
-    R: Files<File = File> + Net<Stream = TcpStream, Listener = TcpListener> + Clock + AllocGlobal,
+    R: Files<File = File>
+        + Net<Stream = TcpStream, Listener = TcpListener>
+        + Clock
+        + Eprint
+        + AllocGlobal,
     S: System,
     W: Write,
 >(
@@ -67,6 +80,7 @@ fn serve_over<
     system: &S,
     words: &ServeWords<'_>,
     cache: usize,
+    data_cache: usize,
     limits: Limits,
     count: u64,
     output: &mut W,
@@ -76,7 +90,16 @@ fn serve_over<
     ensures blames { IfErr result BlamesNone }
     ensures system { IfErr result (IsS1For (S.refuses system.now ≡ true)) }
 {
-    let mut hub = open_hub(system, words.table, words.name, cache, Command::Serve)?;
+    let places = BadPlaces::new(rt)?;
+    let mut hub = open_hub(
+        system,
+        words.table,
+        words.name,
+        cache,
+        data_cache,
+        Command::Serve,
+        places,
+    )?;
     listen(rt, &mut hub, words.listen, limits, count, output)
 }
 
@@ -85,10 +108,11 @@ fn listen<
     R: Files<File = File> + Net<Stream = TcpStream, Listener = TcpListener> + Clock + AllocGlobal,
     D: BlockStore,
     H: BlockStore,
+    N: Notices,
     W: Write,
 >(
     rt: &R,
-    hub: &mut Hub<D, H>,
+    hub: &mut Hub<D, H, Global, N>,
     address: &str,
     limits: Limits,
     count: u64,
@@ -116,20 +140,31 @@ fn listen<
     }
 }
 
+/// What the words say that clients may take.
 fn limits(words: &ServeWords<'_>) -> Result<Limits, Failure>
+    ensures limits { IfOk result (AreLimitsOf words.now) }
     ensures blames { IfErr result (ServeBlames words.now) }
     ensures words { IfErr result (λ e. (w : Word) × (e ≡ Failure.Word w)) }
 {
     let mebibytes = memory(words.memory)?;
-    let seconds = number(Word::Idle, words.idle)?;
+    let idle = number(Word::Idle, words.idle)?;
+    let stall = number(Word::Stall, words.stall)?;
     Ok(Limits {
         pending: mebibytes * MEBIBYTE,
-        idle: if seconds == 0 {
-            None
-        } else {
-            Some(Duration::from_secs(seconds))
-        },
+        idle: time_of(idle),
+        stall: time_of(stall),
     })
+}
+
+/// So many seconds, or no time, of none.
+fn time_of(seconds: u64) -> Option<Duration>
+    ensures { IsTimeOf seconds result }
+{
+    if seconds == 0 {
+        None
+    } else {
+        Some(Duration::from_secs(seconds))
+    }
 }
 
 /// N6; or want of memory, where that is what it was.
@@ -151,8 +186,8 @@ fn socket(error: std::io::Error) -> Failure
 ///
 /// However it ends, each connection that was accepted was given back, and what it had been sent is right for every image that fits the
 /// table line, as [`serve_clients`] says.
-pub fn serve_on<D: BlockStore, H: BlockStore, L: Door, W: Write>(
-    hub: &mut Hub<D, H>,
+pub fn serve_on<D: BlockStore, H: BlockStore, N: Notices, L: Door, W: Write>(
+    hub: &mut Hub<D, H, Global, N>,
     listener: &mut L,
     sessions: u64,
     output: &mut W,

@@ -7,7 +7,7 @@ ghost use Rattle.verity_serving.specs.Blamed.{TalkBlames};
 ghost use Rattle.verity_serving.specs.Serving.{IsTalked, status_of_session};
 
 use verity_files::{Command, DONE, Failure, NO_MEMORY, REFUSED, System, Word, number};
-use verity_hub::{HubFault, Input, Output, ServeFault, serve_stream};
+use verity_hub::{HubFault, Input, Output, ServeFault, Silent, serve_stream};
 use verity_opening::open_hub;
 use verity_words::TalkWords;
 
@@ -37,7 +37,16 @@ pub fn talk<S: System, I: Input, W: Output>(
     ensures system { IfErr result (IsS1For (S.refuses system.now ≡ true)) }
 {
     let cache = number(Word::Cache, words.cache)? as usize;
-    let mut hub = open_hub(system, words.table, words.name, cache, Command::Talk)?;
+    let data_cache = number(Word::DataCache, words.data_cache)? as usize;
+    let mut hub = open_hub(
+        system,
+        words.table,
+        words.name,
+        cache,
+        data_cache,
+        Command::Talk,
+        Silent,
+    )?;
     let served = serve_stream(&mut hub, input, output, TURNS);
     ended(served)
 }

@@ -68,7 +68,11 @@ pub fn verify_slice_anywhere<
 /// `serve` over the real system: clients come by the network of `rt`, and devices at servers are reached by that of `net`.
 pub fn serve_anywhere<
     N: Files<File = File> + Net + Clock + AllocGlobal,
-    R: Files<File = File> + Net<Stream = TcpStream, Listener = TcpListener> + Clock + AllocGlobal,
+    R: Files<File = File>
+        + Net<Stream = TcpStream, Listener = TcpListener>
+        + Clock
+        + Eprint
+        + AllocGlobal,
     W: Write,
 >(net: &N, rt: &R, words: &ServeWords<'_>, notes: &Notes, output: &mut W) -> Result<u8, Failure> {
     let network = Network::new(net, patience(words.timeout)?);

@@ -15,6 +15,9 @@ use verity_profile::is_block_size;
 use verity_store::{StoreFault, Which};
 use verity_superblock::{SuperFault, TableFault};
 
+/// The most blocks of a cache.
+const MOST_CACHED: u64 = 65_536;
+
 /// What is seen. Its text begins with what sets it off from the words before it.
 #[derive(Debug, Drop)]
 pub enum Detail<'a> {
@@ -149,7 +152,7 @@ pub(crate) fn subject_of<'a>(parts: Parts<'a>, fault: Fault) -> &'a str {
         Fault::Build(fault) => built(parts, fault),
         Fault::Uncovered => "standard input",
         Fault::Check(CheckFault::Store(which)) => parts.path(which),
-        Fault::Check(CheckFault::CacheSize) => "--cache",
+        Fault::Check(CheckFault::CacheSize) => cache_of(parts),
         Fault::Check(_) => "the volume",
         Fault::Edit(fault) => edited(parts, fault),
         Fault::Session(_) => "--name",
@@ -177,6 +180,14 @@ fn edited<'a>(parts: Parts<'a>, fault: EditFault) -> &'a str {
         EditFault::Offset => "--hash-offset",
         EditFault::Line => "the table line",
         _ => "the volume",
+    }
+}
+
+/// Which of the two caches has no such size.
+fn cache_of<'a>(parts: Parts<'a>) -> &'a str {
+    match parts.cache.parse::<u64>() {
+        Ok(blocks) if 1 <= blocks && blocks <= MOST_CACHED => "--data-cache",
+        _ => "--cache",
     }
 }
 

@@ -20,6 +20,8 @@ pub struct Parts<'a> {
     /// The other file that is read: the script, or NEW.
     pub read: &'a str,
     pub address: &'a str,
+    /// How many hash blocks are to be kept, as the option says.
+    pub cache: &'a str,
     pub line: &'a str,
     /// FILE, which has the line or is to have it.
     pub own: LineSeen<'a>,
@@ -153,9 +155,13 @@ fn parts_of<'a>(request: Request<'a>) -> Parts<'a> {
         Request::Verify(words) => parts_of_line(Command::Verify, words.table),
         Request::Serve(words) => Parts {
             address: words.listen,
+            cache: words.cache,
             ..parts_of_line(Command::Serve, words.table)
         },
-        Request::Talk(words) => parts_of_line(Command::Talk, words.table),
+        Request::Talk(words) => Parts {
+            cache: words.cache,
+            ..parts_of_line(Command::Talk, words.table)
+        },
         Request::Recover(words) => Parts {
             data: words.data_path,
             hash: words.hash_path,
@@ -196,6 +202,7 @@ fn no_parts<'a>(command: Command) -> Parts<'a> {
         made_hash: "",
         read: "",
         address: "",
+        cache: "",
         line: "",
         own: LineSeen::none(),
         source: LineSeen::none(),

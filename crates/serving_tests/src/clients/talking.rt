@@ -4,7 +4,8 @@ use nbd_session::Status;
 use std::alloc::{AllocError, Allocator, Global};
 use std::io::Write;
 use verity_hub::{
-    CountedReader, CountedWriter, Event, Hub, HubFault, HubReply, Piece, ServeFault, serve_stream,
+    CountedReader, CountedWriter, Event, Hub, HubFault, HubReply, Notices, Piece, ServeFault,
+    serve_stream,
 };
 use verity_store::BlockStore;
 
@@ -89,8 +90,14 @@ pub fn feed(events: &mut Vec<Event>, session: u64, bytes: &[u8]) -> Result<(), A
 }
 
 /// Serves one client by a hub, for so many turns at most.
-pub fn serve_by<D: BlockStore + Drop, H: BlockStore + Drop, A: Allocator + Copy + Drop, W: Write>(
-    hub: &mut Hub<D, H, A>,
+pub fn serve_by<
+    D: BlockStore + Drop,
+    H: BlockStore + Drop,
+    A: Allocator + Copy + Drop,
+    N: Notices,
+    W: Write,
+>(
+    hub: &mut Hub<D, H, A, N>,
     reader: &mut &[u8],
     writer: &mut W,
     limit: u64,
@@ -101,11 +108,12 @@ pub fn serve_by<D: BlockStore + Drop, H: BlockStore + Drop, A: Allocator + Copy 
 }
 
 /// Serves one client by a hub, whose end it is.
-pub fn serve_once<D: BlockStore + Drop, H: BlockStore + Drop, A: Allocator + Copy + Drop>(
-    mut hub: Hub<D, H, A>,
-    mut input: &[u8],
-    said: &mut Vec<u8>,
-) -> Result<(), ServeFault> {
+pub fn serve_once<
+    D: BlockStore + Drop,
+    H: BlockStore + Drop,
+    A: Allocator + Copy + Drop,
+    N: Notices + Drop,
+>(mut hub: Hub<D, H, A, N>, mut input: &[u8], said: &mut Vec<u8>) -> Result<(), ServeFault> {
     serve_by(&mut hub, &mut input, said, 1000)
 }
 

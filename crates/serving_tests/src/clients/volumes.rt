@@ -7,7 +7,7 @@ use std::alloc::{AllocError, Allocator, Global};
 use std::test::Fail;
 use verity_check::{CheckFault, Verifier};
 use verity_digest::{Algorithm, Digest, Hasher, Salt};
-use verity_hub::Hub;
+use verity_hub::{Hub, Notices};
 use verity_store::{BlockStore, MemStore};
 use verity_superblock::{Table, TableFault};
 
@@ -75,16 +75,28 @@ fn line_17<A: Allocator + Copy>(alloc: A) -> Result<Table<A>, TableFault> {
     Table::new(alloc, "d", "h", 512, 512, 17, 0, root, salt)
 }
 
-/// A hub over stores in the roles of the volume of 17 blocks, with room for so many cached blocks.
+/// A hub over stores in the roles of the volume of 17 blocks, with room for so many cached hash blocks and so many data blocks.
 pub fn hub_17<D: BlockStore + Drop, H: BlockStore + Drop>(
     alloc: Global,
     data_store: D,
     hash_store: H,
-    cache: usize,
+    caches: [usize; 2],
 ) -> Result<Hub<D, H>, Fail> {
     let name = ExportName::new(b"vol")?;
     let table = line_17(alloc)?;
-    Ok(hub_of(alloc, name, table, data_store, hash_store, cache)?)
+    Ok(hub_of(alloc, name, table, data_store, hash_store, caches)?)
+}
+
+/// The same, which notifies of what it refuses, with room for 4 cached blocks.
+pub fn noticed_17<D: BlockStore + Drop, H: BlockStore + Drop, N: Notices + Drop>(
+    alloc: Global,
+    data_store: D,
+    hash_store: H,
+    notices: N,
+) -> Result<Hub<D, H, Global, N>, Fail> {
+    let name = ExportName::new(b"vol")?;
+    let verifier = Verifier::new(alloc, line_17(alloc)?, data_store, hash_store, 4)?;
+    Ok(Hub::noticed(alloc, verifier, name, notices))
 }
 
 /// A hub over an export of this name, of a verifier over these stores by this table line.
@@ -94,9 +106,12 @@ fn hub_of<D: BlockStore + Drop, H: BlockStore + Drop, A: Allocator + Copy + Drop
     table: Table<A>,
     data_store: D,
     hash_store: H,
-    cache: usize,
+    caches: [usize; 2],
 ) -> Result<Hub<D, H, A>, CheckFault> {
-    let verifier = Verifier::new(alloc, table, data_store, hash_store, cache)?;
+    let [cache, data_cache] = caches;
+    let verifier = Verifier::with_data_cache(
+        alloc, table, data_store, hash_store, cache, data_cache,
+    )?;
     Ok(Hub::new(alloc, verifier, name))
 }
 
@@ -108,5 +123,5 @@ pub fn hub_within<'a>(
 ) -> Option<Hub<MemStore, MemStore, &'a LocalHeap>> {
     let name = ExportName::new(b"vol").ok()?;
     let table = line_17(heap).ok()?;
-    hub_of(heap, name, table, data_store, hash_store, 1).ok()
+    hub_of(heap, name, table, data_store, hash_store, [1, 0]).ok()
 }

@@ -148,6 +148,16 @@ pub const CACHE: Parameter<'static> = Parameter {
     },
 };
 
+/// `--data-cache`, of the commands that serve.
+pub const DATA_CACHE: Parameter<'static> = Parameter {
+    name: "data-cache",
+    help: "How many checked data blocks are kept for READs that take a part of one",
+    kind: Kind::Default {
+        value: "BLOCKS",
+        text: "64",
+    },
+};
+
 /// `--timeout`, of the commands that read devices at servers.
 pub const TIMEOUT: Parameter<'static> = Parameter {
     name: "timeout",

@@ -1,6 +1,6 @@
 //! The words of `serve`.
 
-use super::parts::{CACHE, Form, Kind, NAME, Parameter, TABLE, TABLE_FILE, TIMEOUT};
+use super::parts::{CACHE, DATA_CACHE, Form, Kind, NAME, Parameter, TABLE, TABLE_FILE, TIMEOUT};
 use clap::ArgMatches;
 
 /// The command.
@@ -21,6 +21,7 @@ pub const FORM: Form<'static> = Form {
         },
         NAME,
         CACHE,
+        DATA_CACHE,
         Parameter {
             name: "sessions",
             help: "How many connections are served",
@@ -45,6 +46,14 @@ pub const FORM: Form<'static> = Form {
                 text: "0",
             },
         },
+        Parameter {
+            name: "stall",
+            help: "After how many seconds a client that reads no reply makes way for one that waits; 0: never",
+            kind: Kind::Default {
+                value: "SECONDS",
+                text: "30",
+            },
+        },
         TIMEOUT,
     ],
 };
@@ -57,9 +66,11 @@ pub struct ServeWords<'a> {
     pub listen: &'a str,
     pub name: &'a str,
     pub cache: &'a str,
+    pub data_cache: &'a str,
     pub sessions: &'a str,
     pub memory: &'a str,
     pub idle: &'a str,
+    pub stall: &'a str,
     pub timeout: &'a str,
 }
 
@@ -70,9 +81,11 @@ pub fn serve_words<'a>(matches: &ArgMatches<'a>) -> Option<ServeWords<'a>> {
         listen: matches.get_str("listen")?,
         name: matches.get_str("name")?,
         cache: matches.get_str("cache")?,
+        data_cache: matches.get_str("data-cache")?,
         sessions: matches.get_str("sessions")?,
         memory: matches.get_str("memory")?,
         idle: matches.get_str("idle")?,
+        stall: matches.get_str("stall")?,
         timeout: matches.get_str("timeout")?,
     })
 }

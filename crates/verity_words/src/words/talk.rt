@@ -1,6 +1,6 @@
 //! The words of `talk`.
 
-use super::parts::{CACHE, Form, NAME, TABLE, TABLE_FILE, TIMEOUT};
+use super::parts::{CACHE, DATA_CACHE, Form, NAME, TABLE, TABLE_FILE, TIMEOUT};
 use clap::ArgMatches;
 
 /// The command.
@@ -11,7 +11,7 @@ pub const FORM: Form<'static> = Form {
   nbdsh -c 'h.connect_command([\"dalgovuun\", \"talk\",
     \"--table-file\", \"image.table\", \"--name\", \"vol\"])' \\
     -c 'print(h.get_size())'",
-    parameters: &[TABLE, TABLE_FILE, NAME, CACHE, TIMEOUT],
+    parameters: &[TABLE, TABLE_FILE, NAME, CACHE, DATA_CACHE, TIMEOUT],
 };
 
 /// The words of `talk`. Where FILE is named, `table` is empty.
@@ -21,6 +21,7 @@ pub struct TalkWords<'a> {
     pub table_file: Option<&'a str>,
     pub name: &'a str,
     pub cache: &'a str,
+    pub data_cache: &'a str,
     pub timeout: &'a str,
 }
 
@@ -30,6 +31,7 @@ pub fn talk_words<'a>(matches: &ArgMatches<'a>) -> Option<TalkWords<'a>> {
         table_file: matches.get_str("table-file"),
         name: matches.get_str("name")?,
         cache: matches.get_str("cache")?,
+        data_cache: matches.get_str("data-cache")?,
         timeout: matches.get_str("timeout")?,
     })
 }

@@ -1,6 +1,6 @@
 use Rattle.std.proofs.Common.{rules}
 use Rattle.verity_files.specs.declared.failure.Word.TheVariants as word
-use Rattle.verity_format.proofs.Blaming.{argument_of_number, argument_of_uuid, never_s1}
+use Rattle.verity_format.proofs.Blaming.{argument_of_number, argument_of_uuid, misread_data_block_size, never_s1}
 use Rattle.verity_format.proofs.formatting.read_shape.Goals as goal
 
 pub returns-in_err-uuid-clause-system : goal.returns-in_err-uuid-clause-system
@@ -27,3 +27,7 @@ pub returns-in_err-number-clause-argument : goal.returns-in_err-number-clause-ar
 returns-in_err-number-clause-argument c =
     argument_of_number c.from_residual-in_err-number.result word.HashOffset c.args.words.now.hash_offset.now c.in_err-number.field-0.0
     c.from_residual-in_err-number.ensures.1 (search rules)
+
+pub returns-in_err-block_size-clause-blames : goal.returns-in_err-block_size-clause-blames
+returns-in_err-block_size-clause-blames c =
+    misread_data_block_size c.from_residual.result c.args.words.now c.in_err-block_size.field-0.0 c.from_residual.ensures.1 (search rules)

@@ -1,5 +1,17 @@
-use Rattle.std.proofs.Common.{sym, ◌∙◌}
+use Rattle.std.proofs.Common.{rules, sym, ◌∙◌}
+use Rattle.verity_files.specs.declared.failure.Word.TheVariants as word
+use Rattle.verity_serving.specs.Blamed.{ServeBlames}
+use Rattle.verity_serving.proofs.Blaming.{by_number, by_sessions}
 use Rattle.verity_serving.proofs.serving.serve.Goals as goal
+
+pub returns-in_err-data_cache-clause-blames : goal.returns-in_err-data_cache-clause-blames
+returns-in_err-data_cache-clause-blames g c = by_number c.from_residual-in_err-data_cache.result word.DataCache
+    c.args.words.now.data_cache.now c.in_err-data_cache.field-0.0 (ServeBlames c.args.words.now) (λ is. is)
+    c.from_residual-in_err-data_cache.ensures.1 (search rules)
+
+pub returns-in_err-count-clause-blames : goal.returns-in_err-count-clause-blames
+returns-in_err-count-clause-blames g c = by_sessions c.from_residual-in_err-count.result c.args.words.now.sessions.now
+    c.in_err-count.field-0.0 (ServeBlames c.args.words.now) (λ is. is) c.from_residual-in_err-count.ensures.1 (search rules)
 
 pub returns-clause-done : goal.returns-clause-done
 returns-clause-done g c is = record {

@@ -1,4 +1,7 @@
-use Rattle.verity_serving.proofs.Blaming.{starved, told}
+use Rattle.std.proofs.Common.{rules}
+use Rattle.verity_files.specs.declared.failure.Word.TheVariants as word
+use Rattle.verity_serving.specs.Blamed.{TalkBlames}
+use Rattle.verity_serving.proofs.Blaming.{by_number, starved, told}
 use Rattle.verity_serving.proofs.Refusing.{of_memory}
 use Rattle.verity_serving.proofs.Talks.{talked}
 use Rattle.verity_serving.proofs.talking.talk.Goals as goal
@@ -14,3 +17,8 @@ returns-clause-blames g c = starved c.ended.result c.args.words.now c.ended.ensu
 
 pub returns-clause-system : goal.returns-clause-system
 returns-clause-system g c = of_memory _ c.ended.result c.ended.ensures.refused
+
+pub returns-in_err-data_cache-clause-blames : goal.returns-in_err-data_cache-clause-blames
+returns-in_err-data_cache-clause-blames g c = by_number c.from_residual-in_err-data_cache.result word.DataCache
+    c.args.words.now.data_cache.now c.in_err-data_cache.field-0.0 (TalkBlames c.args.words.now) (λ is. is)
+    c.from_residual-in_err-data_cache.ensures.1 (search rules)

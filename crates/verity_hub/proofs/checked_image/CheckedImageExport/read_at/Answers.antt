@@ -16,7 +16,7 @@ returns-clause-keeps g c =
     let D = g.D.BlockStore in
     let H = g.H.BlockStore in
     let v : Verifying g.row.D.Denot g.row.H.Denot = c.args.self.now in
-    let w : Verifying g.row.D.Denot g.row.H.Denot = c.read_at-answer.new.self in
+    let w : Verifying g.row.D.Denot g.row.H.Denot = c.read_at-answer.new.self.verifier in
     facts_keep D H v w (subst (λ x. IsOnlyReading D H x w) c.self.view_is c.read_at-answer.ensures.keeps)
 
 pub returns-clause-ok : goal.returns-clause-ok
@@ -24,7 +24,7 @@ returns-clause-ok g c =
     let D = g.D.BlockStore in
     let H = g.H.BlockStore in
     let v : Verifying g.row.D.Denot g.row.H.Denot = c.args.self.now in
-    let w : Verifying g.row.D.Denot g.row.H.Denot = c.read_at-answer.new.self in
+    let w : Verifying g.row.D.Denot g.row.H.Denot = c.read_at-answer.new.self.verifier in
     let keeps : IsOnlyReading D H v w = subst (λ x. IsOnlyReading D H x w) c.self.view_is c.read_at-answer.ensures.keeps in
     let Given : Type 0 = (bytes : List ℕ) × (c.read_at-answer.new.out.items ≡ c.args.out.now.items ++ bytes) ×
     ServesBytes w.table (given_to D H w) c.args.offset c.args.len bytes in
@@ -39,7 +39,7 @@ returns-clause-io g c = λ is.
     let D = g.D.BlockStore in
     let H = g.H.BlockStore in
     let v : Verifying g.row.D.Denot g.row.H.Denot = c.args.self.now in
-    let w : Verifying g.row.D.Denot g.row.H.Denot = c.read_at-answer.new.self in
+    let w : Verifying g.row.D.Denot g.row.H.Denot = c.read_at-answer.new.self.verifier in
     let keeps : IsOnlyReading D H v w = subst (λ x. IsOnlyReading D H x w) c.self.view_is c.read_at-answer.ensures.keeps in
     let P : Verifying g.row.D.Denot g.row.H.Denot → CheckFault → Type 0 =
     λ x fault. Refuses w.table (given_to D H w) (DataFailed D H x w) (HashFailed D H x w) c.args.offset c.args.len fault in
@@ -54,7 +54,7 @@ returns-clause-costs g c =
     let D = g.D.BlockStore in
     let H = g.H.BlockStore in
     let v : Verifying g.row.D.Denot g.row.H.Denot = c.args.self.now in
-    let w : Verifying g.row.D.Denot g.row.H.Denot = c.read_at-answer.new.self in
+    let w : Verifying g.row.D.Denot g.row.H.Denot = c.read_at-answer.new.self.verifier in
     let n : ℕ = c.args.offset in
     let len : ℕ = c.args.len in
     let Few : Verifying g.row.D.Denot g.row.H.Denot → Type 0 =
@@ -69,7 +69,7 @@ returns-clause-unread g c = λ is.
     let D = g.D.BlockStore in
     let H = g.H.BlockStore in
     let v : Verifying g.row.D.Denot g.row.H.Denot = c.args.self.now in
-    let w : Verifying g.row.D.Denot g.row.H.Denot = c.read_at-answer.new.self in
+    let w : Verifying g.row.D.Denot g.row.H.Denot = c.read_at-answer.new.self.verifier in
     let Unread : Verifying g.row.D.Denot g.row.H.Denot → Type 0 = λ x. (D.reads w.data_store ≡ D.reads x.data_store) ×
     (H.reads w.hash_store ≡ H.reads x.hash_store) in
     let unread = lack_answer c.read_at-answer.result (Unread v)
