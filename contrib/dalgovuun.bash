@@ -10,7 +10,7 @@ _dalgovuun() {
     --journal) mapfile -t COMPREPLY < <(compgen -f -- "$current"); return ;;
     --table-file) mapfile -t COMPREPLY < <(compgen -f -- "$current"); return ;;
     --to-file) mapfile -t COMPREPLY < <(compgen -f -- "$current"); return ;;
-    --cache | --data-block-size | --data-blocks | --hash-block-size | --hash-offset | --idle | --listen | --memory | --name | --salt | --sessions | --slice | --table | --timeout | --to | --uuid) return ;;
+    --cache | --data-block-size | --data-blocks | --data-cache | --hash-block-size | --hash-offset | --idle | --listen | --memory | --name | --salt | --sessions | --slice | --stall | --table | --timeout | --to | --uuid) return ;;
     esac
     case ${COMP_WORDS[1]} in
     format) options='--salt --uuid --data-blocks --data-block-size --hash-block-size --algorithm --hash-offset --slice --join --table-file --quiet --help' ;;
@@ -20,8 +20,8 @@ _dalgovuun() {
     pull) options='--to --to-file --table --table-file --uuid --hash-offset --timeout --quiet --help' ;;
     recover) options='--journal --table-file --help' ;;
     verify) options='--table --table-file --slice --timeout --quiet --help' ;;
-    serve) options='--table --table-file --listen --name --cache --sessions --memory --idle --timeout --help' ;;
-    talk) options='--table --table-file --name --cache --timeout --help' ;;
+    serve) options='--table --table-file --listen --name --cache --data-cache --sessions --memory --idle --stall --timeout --help' ;;
+    talk) options='--table --table-file --name --cache --data-cache --timeout --help' ;;
     *) options= ;;
     esac
     case $current in

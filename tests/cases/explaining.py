@@ -83,7 +83,9 @@ def of_lines():
     for command in (["serve", "--listen", "127.0.0.1:0"], ["talk"]):
         yield refused(f"{command[0]}, a name", [*command, "--table", LINE, "--name", ""], "P1", "--name: an export's name has 1 to 255 bytes (P1)")
         yield refused(f"{command[0]}, a cache", [*command, "--table", LINE, "--name", "vol", "--cache", "0"], "V5",
-                      "--cache: the cache has from 1 to 65536 blocks (V5)")
+                      "--cache: a cache has at most 65536 blocks, and that of hash blocks at least 1 (V5)")
+        yield refused(f"{command[0]}, a data cache", [*command, "--table", LINE, "--name", "vol", "--data-cache", "65537"], "V5",
+                      "--data-cache: a cache has at most 65536 blocks, and that of hash blocks at least 1 (V5)")
     yield refused("an address", ["serve", "--table", LINE, "--name", "vol", "--listen", "nowhere"], "N6", "nowhere: a socket couldn't be had "
                   "or failed (N6); name an address of this machine as HOST:PORT, whose port is free, or unix:PATH where no file is yet")
 

@@ -111,6 +111,11 @@ def before():
                    "error: the value of --idle is not understood\n", 2, FILES)
     yield Case("serve: the least memory, for the longest silence",
                [*SERVE, "--listen", "nowhere", "--memory=33", "--idle=18446744073709551615"], "refused N6\n", 1, FILES)
+    for stall in ("", "x", "-1", "18446744073709551616"):
+        yield Case(f"serve: stall {stall!r}", [*SERVE, "--listen", "nowhere", f"--stall={stall}"],
+                   "error: the value of --stall is not understood\n", 2, FILES)
+    yield Case("serve: no stall, and the largest data cache",
+               [*SERVE, "--listen", "nowhere", "--stall=0", "--data-cache=65536"], "refused N6\n", 1, FILES)
     for path in ("", "nowhere/socket", "data", "x" * 200):
         yield Case(f"serve: listen 'unix:{path}'", [*SERVE, "--listen", f"unix:{path}"], "refused N6\n", 1, FILES)
     yield Crowded()

@@ -141,9 +141,14 @@ def refusals(command=("talk",)):
     yield refused("a short data device", "V1", files={"data": DATA[512:], "hash": HASHES}, cache="0", command=command)
     for cache in ("0", "65537", "18446744073709551615"):
         yield refused(f"a cache of {cache}", "V5", cache=cache, command=command)
-    for cache in ("", "x", "+1", "18446744073709551616"):
-        words = [*command, "--table", "x", "--name", "", f"--cache={cache}"]
-        yield Case(f"{command[0]}: cache {cache!r}", words, "error: the value of --cache is not understood\n", 2)
+    for option in ("cache", "data-cache"):
+        for cache in ("", "x", "+1", "18446744073709551616"):
+            words = [*command, "--table", "x", "--name", "", f"--{option}={cache}"]
+            yield Case(f"{command[0]}: {option} {cache!r}", words, f"error: the value of --{option} is not understood\n", 2)
+    for blocks in ("65537", "18446744073709551615"):
+        yield Case(f"{command[0]}: a data cache of {blocks}",
+                   [*command, "--table", VOLUME.line(DATA), "--name", "vol", f"--data-cache={blocks}"], "refused V5\n", 1,
+                   {"data": DATA, "hash": HASHES}, input=BEGIN)
 
 
 def cases():
