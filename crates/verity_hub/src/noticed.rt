@@ -12,7 +12,7 @@ use std::alloc::Allocator;
 use verity_check::{CheckFault, Verifier};
 use verity_store::BlockStore;
 
-/// A verifier, and who is notified of its refusals. Nothing is read of it but by [`Noticed::read_at`].
+/// A verifier, and who is notified of its refusals. Nothing is served of it but by [`Noticed::read_at`].
 #[derive(Drop)]
 pub(crate) struct Noticed<D: BlockStore, H: BlockStore, A: Allocator, N: Notices> {
     verifier: Verifier<D, H, A>,
