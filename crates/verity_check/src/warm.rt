@@ -7,7 +7,7 @@ ghost use Rattle.std.specs.Prelude.{List, length, slice_index_or};
 ghost use Rattle.std.specs.Fork.{slice_chunk};
 ghost use Rattle.verity_store.specs.Given.{GaveSince};
 ghost use Rattle.verity_store.specs.Stores.{IsOnlyRead};
-ghost use Rattle.verity_chain.specs.Table.{IsTable, height};
+ghost use Rattle.verity_chain.specs.Table.{IsTable, hashing_of, height};
 ghost use Rattle.verity_chain.specs.Chain.{Names};
 ghost use Rattle.verity_chain.specs.Stores.{hash_given, IsHashStoreOf};
 ghost use Rattle.verity_report.specs.Stores.{given_in, IsDataStoreOf};
@@ -24,6 +24,9 @@ use verity_store::BlockStore;
 
 /// How many data blocks are read and hashed side by side at most.
 pub(crate) const BESIDE: usize = 8;
+
+/// From how many blocks on eight are hashed side by side, though fewer were read: that is less work than one by one.
+const FEW: usize = 5;
 
 // Whether the last of the first `count` numbers is this one.
 fn ends_with(numbers: &[u64], count: usize, n: u64) -> bool
@@ -131,6 +134,42 @@ fn is_same(a: &Digest, b: &Digest) -> bool
     a.bytes() == b.bytes()
 }
 
+/// How many blocks are hashed where `read` were read into a run of `room` bytes: eight from a few on, where so many fit.
+fn hashed(read: usize, size: usize, room: usize) -> usize
+    requires size { 0 < size }
+    requires most { read ≤ 8 }
+    requires sized { read * size ≤ room }
+    ensures least { read ≤ result }
+    ensures most { result ≤ 8 }
+    ensures fits { result * size ≤ room }
+{
+    if read >= FEW && room / size >= BESIDE {
+        return BESIDE;
+    }
+    read
+}
+
+/// Writes the digests of the first `read` blocks of `run` to the beginning of `out`, which has room for eight. From a few on those behind
+/// them are hashed too, and come to nothing: eight stand side by side.
+fn digest_first<A: Allocator>(
+    tree: &mut Tree<A>,
+    run: &[u8],
+    size: usize,
+    read: usize,
+    out: &mut [Digest],
+)
+    requires size { 0 < size }
+    requires most { read ≤ 8 }
+    requires sized { read * size ≤ length run.now }
+    requires room { 8 ≤ length out.old }
+    ensures digests { (j : ℕ) → j < read
+        → slice_index_or out.new j [] ≡ (hashing_of tree.old).digest (slice_chunk run.now size j) }
+    ensures same { tree.new ≡ tree.old }
+{
+    let count = hashed(read, size, run.len());
+    tree.digest_run(&run[..count * size], size, &mut out[..count]);
+}
+
 /// Keeps those of these blocks whose digest is the one that is named for them.
 fn keep_each<A: Allocator + Copy + Drop>(
     data_cache: &mut Option<DataCache<A>>,
@@ -201,8 +240,15 @@ pub(crate) fn warm_blocks<D: BlockStore, H: BlockStore, A: Allocator + Copy + Dr
         size,
         &mut run[..named * size],
     );
-    let mut room_for_digests = [tree.root(); BESIDE];
-    let digests = &mut room_for_digests[..read];
-    tree.digest_run(&run[..read * size], size, digests);
-    keep_each(data_cache, alloc, numbers, names, digests, run, size);
+    let mut digests = [tree.root(); BESIDE];
+    digest_first(tree, run, size, read, &mut digests);
+    keep_each(
+        data_cache,
+        alloc,
+        numbers,
+        names,
+        &digests[..read],
+        run,
+        size,
+    );
 }

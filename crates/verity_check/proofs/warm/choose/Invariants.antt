@@ -1,4 +1,4 @@
-use Rattle.std.proofs.Common.{◌≡◌, ℕ, ◌<◌, ◌≤◌, length, slice_index_or}
+use Rattle.std.proofs.Common.{ℕ, ◌<◌, ◌≤◌, length, slice_index_or}
 use Rattle.verity_check.proofs.warm.choose.Given as goal
 
 abbrev pub invariant-each : goal.invariant-each

@@ -1,9 +1,8 @@
-use Rattle.std.proofs.Common.{◌≡◌, ℕ, ◌+◌, ◌*◌, ◌<◌, ◌≤◌, ◌++◌, List, [], inl, inr, length, take, drop, replicate, get_or, ap}
+use Rattle.std.proofs.Common.{◌≡◌, ℕ, ◌+◌, ◌*◌, ◌<◌, ◌≤◌, ◌++◌, List, [], inl, inr, length, take, drop, get_or, ap}
 use Rattle.std.proofs.Common.{◌∙◌, sym, subst, arith}
 use Rattle.std.proofs.lemmas.List.{length-take-le, length-append, length-drop, get_or-take}
-use Rattle.std.proofs.Math.Nat.{suc-mul, mul-le-mul_right}
+use Rattle.std.proofs.Math.Nat.{mul-le-mul_right}
 use Rattle.std.specs.Fork.{slice_chunk}
-use Rattle.verity_digest.proofs.Groups.{block_in_group}
 use Rattle.verity_store.specs.Given.{GaveSince}
 use Rattle.verity_chain.specs.Table.{Table, hashing_of}
 use Rattle.verity_chain.specs.Chain.{EndsChain}
@@ -38,9 +37,10 @@ returns-clause-kept g c = λ m b kept.
     let long : length part ≡ named * s = c.read_each-read.auto.out ∙ length-take-le (named * s) c.args.run.now fits in
     let few : length (take named numbers) ≡ named = length-take-le named numbers c.name_each-named.ensures.most in
     let most : read ≤ named = subst (λ k. read ≤ k) few ahead.most in
-    let root : List ℕ = c.root-room_for_digests.result in
+    let digests = c.digest_first.new.out in
     let low : c.read_each-read.result ≤ 8 = omega (arith, most, c.name_each-named.ensures.most, c.requires.few) in
-    let made : length c.digest_run.new.out ≡ read = c.digest_run.auto.out ∙ length-take-le c.read_each-read.result (replicate 8 root) low in
+    let made : length (take c.read_each-read.result digests) ≡ read = length-take-le c.read_each-read.result digests
+    (let eight : length digests ≡ 8 = c.digest_first.auto.out in omega (arith, low, eight)) in
     let wide : read * s ≤ length out = omega (arith, long, mul-le-mul_right s most, length-append part rest) in
     elim (c.keep_each.ensures.kept m b kept) [
       | inl old ↦ kept_grows t (given_in D H t marks c.args.data_store.now c.args.hash_store.now) (given_in D H t marks d h)
@@ -55,12 +55,9 @@ returns-clause-kept g c = λ m b kept.
           let next : (j + 1) * s ≤ read * s = mul-le-mul_right s (omega (arith, lt)) in
           let len : length chunk ≡ z = length-take-le s (drop (j * s) out)
           (omega (arith, wide, next, length-drop (j * s) out)) ∙ size in
-          let none : 0 + j ≡ j = omega arith in
           let digest : (hashing_of t).digest chunk ≡ get_or c.name_each-named.new.names j [] =
-          sym (c.digest_run.ensures.digests j (omega (arith, lt, made, c.digest_run.auto.out))
-          ∙ ap (λ tr. (hashing_of tr).digest (slice_chunk (take (read * s) out) s j)) c.name_each-named.ensures.same
-          ∙ ap (hashing_of t).digest (block_in_group out s 0 j read 0 lt (omega arith) ∙ ap (slice_chunk out s) none))
-          ∙ at.2 in
+          sym (get_or-take read digests j [] lt ∙ c.digest_first.ensures.digests j lt
+          ∙ ap (λ tr. (hashing_of tr).digest chunk) c.name_each-named.ensures.same) ∙ at.2 in
           let ends : EndsChain t (given_in D H t marks d h) 0 (get_or numbers j 0) chunk =
           ends_here D H t marks c.args.data_store.now d h (get_or numbers j 0) chunk (get_or c.name_each-named.new.names j []) ahead.read
           c.requires.data_store.size len
