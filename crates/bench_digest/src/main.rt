@@ -1,10 +1,10 @@
 //! Times the digests of a file's blocks, which it holds in memory: the bare loops beside which `format` and `verify` are measured.
 #![tactic(auto)]
 
-use digest_lanes::{digest_eight, digest_four};
 use sha2::{Digest, Sha256, Sha512};
 use std::time::Instant;
 use std::{env, fs, io};
+use verity_digest_lanes::{digest_eight, digest_four};
 
 // The first byte of a block's digest.
 fn first_byte(block: &[u8], salt: &[u8], wide: bool) -> u8 {

@@ -1,10 +1,10 @@
 -- What is left to say where a superblock was printed, and where it wasn't.
 use Rattle.std.proofs.Common.{◌≡◌, ℕ, List, Option, Result, Ok, Err, OnOk, IfErr}
-use Rattle.verity_files.specs.Errors.{IsS1For}
-use Rattle.verity_files.specs.declared.failure.Failure.{Failure}
-use Rattle.verity_files.specs.declared.failure.Failure.TheVariants as failure
-use Rattle.verity_volume.specs.Lines.{IsOfOutput}
-use Rattle.verity_words.specs.declared.words.dump.DumpWords.{DumpWords}
+use Rattle.cli_faults.specs.Errors.{IsS1For}
+use Rattle.cli_faults.specs.declared.failure.Failure.{Failure}
+use Rattle.cli_faults.specs.declared.failure.Failure.TheVariants as failure
+use Rattle.cli_volume.specs.Lines.{IsOfOutput}
+use Rattle.cli_arguments.specs.declared.words.dump.DumpWords.{DumpWords}
 use Rattle.cli_dump.specs.Dumped.{DumpBlames}
 
 -- what is so where it is done

@@ -1,19 +1,19 @@
 -- What `dump` prints, which argument it blames, and where S1 comes from.
 use Rattle.std.specs.Prelude.{◌≡◌, ◌<◌, ◌-◌, ◌^◌, ℕ, List, Option, Ok, ⊤}
 use Rattle.std.specs.Io.KnownBytes.{Appends}
-use Rattle.verity_files.specs.Misread.{IsMisread}
-use Rattle.verity_files.specs.Words.{number_in}
-use Rattle.verity_files.specs.declared.failure.Failure.{Failure}
-use Rattle.verity_files.specs.declared.failure.Failure.TheVariants as failure
-use Rattle.verity_files.specs.declared.failure.Word.TheVariants as word
-use Rattle.verity_files.specs.declared.part.Part.TheVariants.{AtMost}
-use Rattle.verity_files.specs.declared.system.System.{Ghosts}
+use Rattle.cli_faults.specs.Misread.{IsMisread}
+use Rattle.cli_faults.specs.Words.{number_in}
+use Rattle.cli_faults.specs.declared.failure.Failure.{Failure}
+use Rattle.cli_faults.specs.declared.failure.Failure.TheVariants as failure
+use Rattle.cli_faults.specs.declared.failure.Word.TheVariants as word
+use Rattle.os_files.specs.declared.part.Part.TheVariants.{AtMost}
+use Rattle.os_files.specs.declared.system.System.{Ghosts}
 use Rattle.verity_store.specs.declared.store.BlockStore as store
 use Rattle.verity_superblock.specs.Image.{CanBegin, start_behind}
 use Rattle.verity_superblock.specs.Superblock.{Volume, IsProfile}
-use Rattle.verity_volume.specs.Lines.{superblock_lines}
-use Rattle.verity_volume.specs.Superblocks.{IsReadAs}
-use Rattle.verity_words.specs.declared.words.dump.DumpWords.{DumpWords}
+use Rattle.cli_volume.specs.Lines.{superblock_lines}
+use Rattle.cli_volume.specs.Superblocks.{IsReadAs}
+use Rattle.cli_arguments.specs.declared.words.dump.DumpWords.{DumpWords}
 
 -- What is printed: a superblock of the profile, that the store over what was opened at HASH's path gave at the offset that was asked for,
 -- and its tree.

@@ -1,13 +1,14 @@
 //! The command `dump`.
 ghost use Rattle.std.specs.Prelude.{◌≡◌, ◌⊎◌, true, OnOk, IfErr};
-ghost use Rattle.verity_files.specs.Errors.{IsS1For};
+ghost use Rattle.cli_faults.specs.Errors.{IsS1For};
 ghost use Rattle.cli_dump.specs.Dumped.{DumpBlames, IsDumped, IsReadFailed};
 
+use cli_arguments::DumpWords;
+use cli_faults::{Command, Failure, Word, number};
+use cli_volume::{SUPERBLOCK_SIZE, print_superblock, superblock_in};
+use os_files::{Part, System, open_to_read};
 use std::io::Write;
-use verity_files::{Command, Failure, Part, System, Word, number, open_to_read};
 use verity_store::Which;
-use verity_volume::{SUPERBLOCK_SIZE, print_superblock, superblock_in};
-use verity_words::DumpWords;
 
 /// Prints the superblock of HASH, a line for each field, and where the levels of its tree stand.
 pub fn dump<S: System, W: Write>(

@@ -3,11 +3,11 @@ use Rattle.std.proofs.Common.{◌≡◌, inl, inr, sym, ap, subst, ◌∙◌, re
 use Rattle.std.specs.Prelude.{MatchOption, IfSome}
 use Rattle.std.specs.Borrow.{Bor}
 use Rattle.os_line_file.specs.Folder.{Texts}
-use Rattle.verity_files.specs.Faults.{failure_of}
-use Rattle.verity_files.specs.declared.failure.Failure.{Failure}
-use Rattle.verity_files.specs.declared.failure.Failure.TheVariants as failure
-use Rattle.verity_files.specs.declared.fault.Fault.TheVariants as fault
-use Rattle.verity_files.specs.declared.system.System.{Ghosts}
+use Rattle.cli_faults.specs.Faults.{failure_of}
+use Rattle.cli_faults.specs.declared.failure.Failure.{Failure}
+use Rattle.cli_faults.specs.declared.failure.Failure.TheVariants as failure
+use Rattle.cli_faults.specs.declared.fault.Fault.TheVariants as fault
+use Rattle.os_files.specs.declared.system.System.{Ghosts}
 use Rattle.verity_line_file.proofs.Standings.{one_line}
 use Rattle.verity_line_file.specs.Lines.{Holds}
 use Rattle.verity_line_file.specs.Outcome.{IsRefused}

@@ -3,9 +3,9 @@ use Rattle.std.proofs.Common.{◌≡◌, ◌⊎◌, inl, inr, subst, refl, Optio
 use Rattle.std.specs.Prelude.{◌≢◌, IsSome, IfOk, IfErr, OnOk, Result, Ok, Err}
 use Rattle.os_line_file.specs.Folder.{Texts}
 use Rattle.os_line_file.specs.declared.folder.LineFolder as folder
-use Rattle.verity_files.specs.Errors.{IsS1For}
-use Rattle.verity_files.specs.Faults.{failure_of}
-use Rattle.verity_files.specs.declared.fault.Fault.TheVariants as fault
+use Rattle.cli_faults.specs.Errors.{IsS1For}
+use Rattle.cli_faults.specs.Faults.{failure_of}
+use Rattle.cli_faults.specs.declared.fault.Fault.TheVariants as fault
 use Rattle.verity_line_file.specs.Outcome.{IsSettled}
 use Rattle.verity_line_file.specs.Shown.{Values}
 use Rattle.verity_line_file.specs.declared.fault.LineFileFault.{LineFileFault}

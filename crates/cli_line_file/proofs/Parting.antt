@@ -1,9 +1,9 @@
 -- What follows where two files are found to be one, or two.
-use Rattle.verity_files.specs.declared.failure.Failure.{Failure}
-use Rattle.verity_files.specs.declared.failure.Failure.TheVariants as failure
-use Rattle.verity_files.specs.declared.failure.Word.TheVariants as word
-use Rattle.verity_files.specs.declared.fault.Fault.TheVariants as fault
-use Rattle.verity_files.specs.declared.system.System.{Ghosts}
+use Rattle.cli_faults.specs.declared.failure.Failure.{Failure}
+use Rattle.cli_faults.specs.declared.failure.Failure.TheVariants as failure
+use Rattle.cli_faults.specs.declared.failure.Word.TheVariants as word
+use Rattle.cli_faults.specs.declared.fault.Fault.TheVariants as fault
+use Rattle.os_files.specs.declared.system.System.{Ghosts}
 use Rattle.verity_store.specs.declared.fault.StoreFault.TheVariants as store
 use Rattle.cli_line_file.specs.Apart.{IsNotTwo}
 

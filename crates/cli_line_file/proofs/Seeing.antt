@@ -1,7 +1,7 @@
 -- What a volume shows by either of two lines, from what was found by each.
 use Rattle.std.proofs.Common.{◌≡◌, inl, inr, sym, subst, List, ℕ, Option, Some}
 use Rattle.std.specs.Borrow.{Bor}
-use Rattle.verity_files.specs.declared.system.System.{Ghosts}
+use Rattle.os_files.specs.declared.system.System.{Ghosts}
 use Rattle.verity_line_file.specs.Shown.{Values}
 use Rattle.verity_pending.specs.declared.fault.EditFault.{EditFault}
 use Rattle.verity_store.specs.declared.store.BlockStore as store

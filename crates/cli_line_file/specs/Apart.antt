@@ -1,10 +1,10 @@
 -- Whether FILE and FILE.next are other files than what stands at a path.
 use Rattle.std.specs.Prelude.{◌≡◌, ◌≢◌, ◌⊎◌, ℕ, true, List, ◌++◌, codes, ⊤}
-use Rattle.verity_files.specs.declared.failure.Failure.{Failure}
-use Rattle.verity_files.specs.declared.failure.Failure.TheVariants as failure
-use Rattle.verity_files.specs.declared.failure.Word.TheVariants as word
-use Rattle.verity_files.specs.declared.fault.Fault.TheVariants as fault
-use Rattle.verity_files.specs.declared.system.System.{Ghosts}
+use Rattle.cli_faults.specs.declared.failure.Failure.{Failure}
+use Rattle.cli_faults.specs.declared.failure.Failure.TheVariants as failure
+use Rattle.cli_faults.specs.declared.failure.Word.TheVariants as word
+use Rattle.cli_faults.specs.declared.fault.Fault.TheVariants as fault
+use Rattle.os_files.specs.declared.system.System.{Ghosts}
 use Rattle.verity_store.specs.declared.fault.StoreFault.TheVariants as store
 
 -- FILE.next's path, of FILE's own

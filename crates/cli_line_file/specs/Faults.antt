@@ -2,10 +2,10 @@
 use Rattle.std.specs.Prelude.{◌-◌, ◌==◌, if◌then◌else◌}
 use Rattle.os_line_file.specs.declared.folder.FolderFault.{FolderFault}
 use Rattle.os_line_file.specs.declared.folder.FolderFault.TheVariants as folder
-use Rattle.verity_files.specs.Faults.{failure_of}
-use Rattle.verity_files.specs.declared.failure.Failure.{Failure}
-use Rattle.verity_files.specs.declared.failure.Failure.TheVariants as failure
-use Rattle.verity_files.specs.declared.fault.Fault.TheVariants as fault
+use Rattle.cli_faults.specs.Faults.{failure_of}
+use Rattle.cli_faults.specs.declared.failure.Failure.{Failure}
+use Rattle.cli_faults.specs.declared.failure.Failure.TheVariants as failure
+use Rattle.cli_faults.specs.declared.fault.Fault.TheVariants as fault
 use Rattle.verity_geometry.specs.Geometry.{Shape, levels_of}
 use Rattle.verity_line_file.specs.declared.fault.LineFileFault.{LineFileFault}
 use Rattle.verity_line_file.specs.declared.fault.LineFileFault.TheVariants as why

@@ -3,9 +3,9 @@ use Rattle.std.specs.Prelude.{◌≡◌, ◌⊎◌, ◌<◌, ℕ, true, List, So
 use Rattle.os_line_file.specs.Folder.{Texts}
 use Rattle.os_line_file.specs.declared.folder.LineFolder as folder
 use Rattle.os_line_file.specs.declared.folder.LineFolders as folders
-use Rattle.verity_files.specs.declared.failure.Failure.{Failure}
-use Rattle.verity_files.specs.declared.failure.Failure.TheVariants as failure
-use Rattle.verity_files.specs.declared.fault.Fault.TheVariants as fault
+use Rattle.cli_faults.specs.declared.failure.Failure.{Failure}
+use Rattle.cli_faults.specs.declared.failure.Failure.TheVariants as failure
+use Rattle.cli_faults.specs.declared.fault.Fault.TheVariants as fault
 use Rattle.verity_line_file.specs.Lines.{line_of, is_one_line}
 use Rattle.verity_store.specs.declared.fault.StoreFault.TheVariants as store
 use Rattle.verity_superblock.specs.declared.faults.TableFault.TheVariants as table

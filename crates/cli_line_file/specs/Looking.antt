@@ -1,13 +1,13 @@
 -- What a volume shows at the place that a table line names for its superblock.
 use Rattle.std.specs.Borrow.{Bor}
 use Rattle.std.specs.Prelude.{◌≡◌, ◌≢◌, ◌⊎◌, ◌<◌, ◌≤◌, ◌*◌, ◌+◌, ◌-◌, ◌^◌, ℕ, List, length, Option, Some, MatchOption, ⊤}
-use Rattle.verity_files.specs.Faults.{failure_of}
-use Rattle.verity_files.specs.declared.command.Lock.TheVariants as lock
-use Rattle.verity_files.specs.declared.failure.Failure.{Failure}
-use Rattle.verity_files.specs.declared.failure.Failure.TheVariants as failure
-use Rattle.verity_files.specs.declared.fault.Fault.TheVariants as fault
-use Rattle.verity_files.specs.declared.part.Part.TheVariants.{AtMost}
-use Rattle.verity_files.specs.declared.system.System.{Ghosts}
+use Rattle.cli_faults.specs.Faults.{failure_of}
+use Rattle.cli_faults.specs.declared.command.Lock.TheVariants as lock
+use Rattle.cli_faults.specs.declared.failure.Failure.{Failure}
+use Rattle.cli_faults.specs.declared.failure.Failure.TheVariants as failure
+use Rattle.cli_faults.specs.declared.fault.Fault.TheVariants as fault
+use Rattle.os_files.specs.declared.part.Part.TheVariants.{AtMost}
+use Rattle.os_files.specs.declared.system.System.{Ghosts}
 use Rattle.verity_digest.specs.Hash.{size_of}
 use Rattle.verity_geometry.specs.Geometry.{Shape}
 use Rattle.verity_line_file.specs.Shown.{IsShown, Shows, Values}

@@ -4,10 +4,10 @@ use Rattle.std.specs.Borrow.{Bor}
 use Rattle.os_line_file.specs.Folder.{Texts, with_next, MayRemove, LeavesOnly, IsDurable}
 use Rattle.os_line_file.specs.declared.folder.LineFolder as folder
 use Rattle.os_line_file.specs.declared.folder.LineFolders as folders
-use Rattle.verity_files.specs.declared.failure.Failure.{Failure}
-use Rattle.verity_files.specs.declared.failure.Failure.TheVariants as failure
-use Rattle.verity_files.specs.declared.fault.Fault.TheVariants as fault
-use Rattle.verity_files.specs.declared.system.System.{Ghosts}
+use Rattle.cli_faults.specs.declared.failure.Failure.{Failure}
+use Rattle.cli_faults.specs.declared.failure.Failure.TheVariants as failure
+use Rattle.cli_faults.specs.declared.fault.Fault.TheVariants as fault
+use Rattle.os_files.specs.declared.system.System.{Ghosts}
 use Rattle.verity_line_file.specs.Lines.{pulling, Holds, HoldsWhole}
 use Rattle.verity_line_file.specs.Outcome.{IsRefused, IsSettled}
 use Rattle.verity_line_file.specs.Shown.{Values}

@@ -2,7 +2,8 @@
 ghost use Rattle.std.specs.Prelude.{◌≡◌, ◌⊎◌, true, IfOk, IfErr, OnOk, string_bytes};
 ghost use Rattle.cli_line_file.specs.Apart.{AreOne, AreTwo, IsApart, IsNotApart, IsNotTwo};
 
-use verity_files::{Failure, System, Word};
+use cli_faults::{Failure, Word};
+use os_files::System;
 
 /// That FILE and FILE.next, whose path is FILE's own with `.next` behind it, are other files than what stands at a path: by what was
 /// opened at both where both are there, else by where their paths lead, and by the folders and the names of what would be made.

@@ -4,9 +4,9 @@ ghost use Rattle.verity_geometry.specs.Geometry.{levels_of};
 ghost use Rattle.verity_plan.specs.Planning.{volume_shape};
 ghost use Rattle.cli_line_file.specs.Faults.{folder_failure, line_failure, top_fault};
 
+use cli_faults::{Failure, Fault};
 use os_line_file::FolderFault;
 use verity_edit::{EditFault, geometry_over};
-use verity_files::{Failure, Fault};
 use verity_line_file::LineFileFault;
 use verity_store::StoreFault;
 use verity_superblock::Superblock;

@@ -9,10 +9,10 @@ ghost use Rattle.cli_line_file.specs.Settling.{StaysUnlessFailed, StaysUnlessFai
 
 use crate::faults::{failure_of_folder, failure_of_line};
 use crate::text::whole_table_in;
+use cli_faults::{Failure, Fault};
 use os_line_file::LineFolder;
 use std::alloc::Global;
 use verity_edit::EditFault;
-use verity_files::{Failure, Fault};
 use verity_line_file::LineFile;
 use verity_superblock::{Table, TableFault};
 

@@ -1,12 +1,13 @@
 //! What a volume shows at the place that a table line names for its superblock.
 ghost use Rattle.std.specs.Prelude.{◌≡◌, ◌↔◌, true, IsTrue, IfOk, IfErr};
-ghost use Rattle.verity_files.specs.Errors.{IsS1For};
+ghost use Rattle.cli_faults.specs.Errors.{IsS1For};
 ghost use Rattle.verity_profile.specs.Profile.{IsBlockSize};
 ghost use Rattle.cli_line_file.specs.Looking.{AreStores, IsBroken, IsLook, IsNoSuperblock, IsOf, IsOver, IsSuperblock};
 
 use crate::faults::{fault_of_top, level_of_top};
+use cli_faults::{Failure, Fault};
+use os_files::{Part, System};
 use verity_edit::EditFault;
-use verity_files::{Failure, Fault, Part, System};
 use verity_line_file::{Shown, ShownFault};
 use verity_store::Which;
 use verity_superblock::{SuperFault, Superblock, Table};

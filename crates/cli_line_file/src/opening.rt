@@ -4,9 +4,9 @@ ghost use Rattle.cli_line_file.specs.Files.{IsLineAt, IsLineIn, IsNoLineAt, IsNo
 
 use crate::faults::failure_of_folder;
 use crate::text::line_in;
+use cli_faults::{Failure, Fault};
 use os_line_file::{LineFolder, LineFolders};
 use std::alloc::Global;
-use verity_files::{Failure, Fault};
 use verity_line_file::LineFile;
 use verity_store::StoreFault;
 use verity_superblock::TableFault;

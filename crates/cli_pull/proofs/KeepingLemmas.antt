@@ -4,15 +4,15 @@ use Rattle.std.specs.Prelude.{String, string_bytes}
 use Rattle.os_line_file.specs.Folder.{Texts, with_next, IsDurable, KeepsLine, LeavesOnly}
 use Rattle.os_line_file.specs.declared.folder.LineFolder as folder
 use Rattle.os_line_file.specs.declared.folder.LineFolders as folders
-use Rattle.verity_files.specs.declared.failure.Failure.{Failure}
-use Rattle.verity_files.specs.declared.system.System.{Ghosts}
-use Rattle.verity_journal.specs.declared.disks.Disks as disks
+use Rattle.cli_faults.specs.declared.failure.Failure.{Failure}
+use Rattle.os_files.specs.declared.system.System.{Ghosts}
+use Rattle.verity_disks.specs.declared.disks.Disks as disks
 use Rattle.verity_line_file.specs.Lines.{pulling, text_of}
 use Rattle.verity_line_file.proofs.Moments.{still}
 use Rattle.verity_moved.specs.Moved.{Moving}
 use Rattle.verity_store.specs.declared.store.BlockStore as store
 use Rattle.verity_superblock.specs.Line.{TableLine}
-use Rattle.verity_words.specs.declared.words.pull.PullWords.{PullWords}
+use Rattle.cli_arguments.specs.declared.words.pull.PullWords.{PullWords}
 use Rattle.cli_line_file.specs.Files.{IsLineAt, IsNoLineAt, IsNoLineIn, IsOpened, WasSeen}
 use Rattle.cli_line_file.specs.Keeping.{only_line, KeepsOld, KeepsOldOr}
 use Rattle.cli_pull.specs.Keeping.{StaysAtAnyMoment, StaysOrHas, HasLine, IsUnderWay, IsHeld, IsHeldIn, IsPrinted, IsApartFrom}

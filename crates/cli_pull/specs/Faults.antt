@@ -2,9 +2,9 @@
 use Rattle.verity_store.specs.declared.fault.Which.TheVariants as which
 use Rattle.verity_build.specs.declared.fault.BuildFault.TheVariants as build
 use Rattle.verity_check.specs.declared.fault.CheckFault.TheVariants as check
-use Rattle.verity_files.specs.declared.failure.Failure.{Failure}
-use Rattle.verity_files.specs.declared.failure.Failure.TheVariants as failure
-use Rattle.verity_files.specs.declared.fault.Fault.TheVariants as fault
+use Rattle.cli_faults.specs.declared.failure.Failure.{Failure}
+use Rattle.cli_faults.specs.declared.failure.Failure.TheVariants as failure
+use Rattle.cli_faults.specs.declared.fault.Fault.TheVariants as fault
 use Rattle.verity_pull.specs.declared.fault.PullFault.{PullFault}
 use Rattle.verity_pull.specs.declared.fault.PullFault.TheVariants as pull
 use Rattle.verity_pull.specs.declared.fault.Role.TheVariants as role

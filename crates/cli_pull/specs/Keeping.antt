@@ -4,16 +4,16 @@ use Rattle.std.specs.Borrow.{Bor}
 use Rattle.os_line_file.specs.Folder.{with_next, IsDurable, LeavesOnly}
 use Rattle.os_line_file.specs.declared.folder.LineFolder as folder
 use Rattle.os_line_file.specs.declared.folder.LineFolders as folders
-use Rattle.verity_files.specs.Reached.{BesideAt}
-use Rattle.verity_files.specs.declared.failure.Failure.{Failure}
-use Rattle.verity_files.specs.declared.system.System.{Ghosts}
-use Rattle.verity_journal.specs.declared.disks.Disks as disks
+use Rattle.os_files.specs.Reached.{BesideAt}
+use Rattle.cli_faults.specs.declared.failure.Failure.{Failure}
+use Rattle.os_files.specs.declared.system.System.{Ghosts}
+use Rattle.verity_disks.specs.declared.disks.Disks as disks
 use Rattle.verity_line_file.specs.Lines.{pulling, text_of, Holds}
 use Rattle.verity_moved.specs.Moved.{Moving}
 use Rattle.verity_pull.specs.declared.either.Counts.{Counts}
 use Rattle.verity_store.specs.declared.store.BlockStore as store
 use Rattle.verity_superblock.specs.Line.{TableLine, canonical}
-use Rattle.verity_words.specs.declared.words.pull.PullWords.{PullWords}
+use Rattle.cli_arguments.specs.declared.words.pull.PullWords.{PullWords}
 use Rattle.cli_line_file.specs.Apart.{IsApart}
 use Rattle.cli_line_file.specs.Files.{IsLineAt, IsNoLineIn, IsOpened, WasSeen}
 use Rattle.cli_line_file.specs.Keeping.{only_line, KeepsOld, KeepsOldOr}

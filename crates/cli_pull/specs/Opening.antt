@@ -1,11 +1,11 @@
 -- What `pull` opens, leaves and closes.
 use Rattle.std.specs.Prelude.{◌≡◌, ◌≢◌, ℕ, List}
-use Rattle.verity_files.specs.Commands.{lock_of}
-use Rattle.verity_files.specs.declared.command.Command.TheVariants.{Verify, Pull}
-use Rattle.verity_files.specs.declared.identity.Identity.{Identity}
-use Rattle.verity_files.specs.declared.part.Part.{Part}
-use Rattle.verity_files.specs.declared.part.Part.TheVariants.{AtMost}
-use Rattle.verity_files.specs.declared.system.System.{Ghosts}
+use Rattle.cli_faults.specs.Commands.{lock_of}
+use Rattle.cli_faults.specs.declared.command.Command.TheVariants.{Verify, Pull}
+use Rattle.os_files.specs.declared.identity.Identity.{Identity}
+use Rattle.os_files.specs.declared.part.Part.{Part}
+use Rattle.os_files.specs.declared.part.Part.TheVariants.{AtMost}
+use Rattle.os_files.specs.declared.system.System.{Ghosts}
 use Rattle.cli_pull.specs.declared.local.Others.{Others}
 
 -- what stands at a path of the source was opened to be read, and locked as `verify` locks it; this store is over it, and this is the file

@@ -6,16 +6,16 @@ use Rattle.verity_store.specs.Stores.{IsOnlyRead}
 use Rattle.verity_store.specs.declared.store.BlockStore as store
 use Rattle.verity_superblock.specs.Line.{TableLine, IsTableLine, canonical}
 use Rattle.verity_chain.specs.Table.{tree_len}
-use Rattle.verity_files.specs.Faults.{line}
-use Rattle.verity_files.specs.declared.identity.Identity.{Identity}
-use Rattle.verity_files.specs.declared.part.Part.TheVariants.{AtMost}
-use Rattle.verity_files.specs.declared.system.System.{Ghosts}
-use Rattle.verity_journal.specs.declared.disks.Disks as disks
+use Rattle.cli_faults.specs.Faults.{line}
+use Rattle.os_files.specs.declared.identity.Identity.{Identity}
+use Rattle.os_files.specs.declared.part.Part.TheVariants.{AtMost}
+use Rattle.os_files.specs.declared.system.System.{Ghosts}
+use Rattle.verity_disks.specs.declared.disks.Disks as disks
 use Rattle.os_journal.specs.Journals.{IsMadeWhole}
-use Rattle.verity_gate.specs.Shut.{IsShutBeside}
+use Rattle.os_commit_flag.specs.Shut.{IsShutBeside}
 use Rattle.verity_pull.specs.Done.{IsDone}
 use Rattle.verity_pull.specs.declared.either.Counts.{Counts}
-use Rattle.verity_words.specs.declared.words.pull.PullWords.{PullWords}
+use Rattle.cli_arguments.specs.declared.words.pull.PullWords.{PullWords}
 use Rattle.verity_moved.specs.Moved.{Moving, moved_from}
 use Rattle.cli_pull.specs.Opening.{AreApart, IsLeft, IsSourceAt}
 use Rattle.cli_pull.specs.Superblocks.{IsSuperblock}

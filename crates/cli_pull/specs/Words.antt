@@ -3,9 +3,9 @@ use Rattle.std.specs.Prelude.{◌≡◌, ℕ, List, Option, Some, None, Ok, Matc
 use Rattle.std.specs.Borrow.{Bor}
 use Rattle.verity_superblock.specs.Image.{start_behind}
 use Rattle.verity_superblock.specs.Line.{TableLine, Line}
-use Rattle.verity_files.specs.Words.{number_in, uuid_in}
-use Rattle.verity_files.specs.declared.failure.Word.TheVariants as word
-use Rattle.verity_words.specs.declared.words.pull.PullWords.{PullWords}
+use Rattle.cli_faults.specs.Words.{number_in, uuid_in}
+use Rattle.cli_faults.specs.declared.failure.Word.TheVariants as word
+use Rattle.cli_arguments.specs.declared.words.pull.PullWords.{PullWords}
 use Rattle.cli_pull.specs.declared.line.Asked.{Asked}
 
 -- the old line is that of the words, or there is none

@@ -2,9 +2,9 @@
 ghost use Rattle.std.specs.Prelude.{◌≡◌};
 ghost use Rattle.cli_pull.specs.Faults.{failure_by};
 
+use cli_faults::Failure;
 use verity_build::BuildFault;
 use verity_check::CheckFault;
-use verity_files::Failure;
 use verity_pull::{PullFault, Role};
 use verity_store::Which;
 

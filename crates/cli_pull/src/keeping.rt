@@ -4,19 +4,20 @@ ghost use Rattle.cli_pull.specs.Keeping.{IsApartFrom, IsCutInto, IsCutShort, IsH
 ghost use Rattle.cli_pull.specs.Keeping.{IsPulledTo, IsPulledUnder};
 
 use crate::pulling::{fill, look_first, prepare, print_pulled, pull};
+use cli_arguments::PullWords;
+use cli_faults::{Failure, Fault, Word};
 use cli_line_file::{
     begin_pull, check_apart_from, close_line_file, keep_line, line_text, open_line_file,
 };
+use os_files::{System, path_beside};
 use os_line_file::{LineFolder, LineFolders};
 use std::alloc::Global;
 use std::io::{Eprint, IsTerminal, Write};
 use std::time::Clock;
-use verity_files::{Failure, Fault, System, Word, path_beside};
 use verity_line_file::LineFile;
 use verity_moved::Moved;
 use verity_store::BlockStore;
 use verity_superblock::TableFault;
-use verity_words::PullWords;
 
 /// As [`pull`], with lines in files: the line `--to` is that of `--to-file`, where one is named; and where FILE is named by `--table-file`,
 /// its line, where FILE is there, is that of the volume as it stands, whatever FILE.next says, and it is left with the line of the volume

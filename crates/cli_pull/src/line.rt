@@ -4,13 +4,13 @@ ghost use Rattle.verity_profile.specs.Profile.{IsBlockSize};
 ghost use Rattle.verity_superblock.specs.Line.{IsTableLine};
 ghost use Rattle.cli_pull.specs.Words.{line_at, IsAlike, IsAsked, IsOldIn, IsOldRoot, IsStart, IsUuidIn};
 
+use cli_arguments::PullWords;
+use cli_faults::{Failure, Word, number, uuid};
 use std::alloc::Global;
 use uuid::Uuid;
 use verity_chain::{Tree, geometry_of};
 use verity_digest::Digest;
-use verity_files::{Failure, Word, number, uuid};
 use verity_superblock::{Table, tree_start};
-use verity_words::PullWords;
 
 /// What the words ask for.
 #[derive(Drop)]

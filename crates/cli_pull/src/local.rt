@@ -1,17 +1,18 @@
 //! DATA and HASH, which are made where they aren't there.
 ghost use Rattle.std.specs.Prelude.{◌≡◌, ◌+◌, ◌↔◌, IsTrue, IfOk, OnOk};
 ghost use Rattle.verity_chain.specs.Table.{tree_len};
-ghost use Rattle.verity_files.specs.Commands.{lock_of};
-ghost use Rattle.verity_files.specs.declared.command.Command.TheVariants as command;
-ghost use Rattle.verity_files.specs.declared.identity.Identity.{Identity};
-ghost use Rattle.verity_files.specs.declared.part.Part.TheVariants as part;
+ghost use Rattle.cli_faults.specs.Commands.{lock_of};
+ghost use Rattle.cli_faults.specs.declared.command.Command.TheVariants as command;
+ghost use Rattle.os_files.specs.declared.identity.Identity.{Identity};
+ghost use Rattle.os_files.specs.declared.part.Part.TheVariants as part;
 ghost use Rattle.cli_pull.specs.Opening.{AreApart, IsOpened, IsOther, IsOwnAt};
 
 use crate::source::Source;
+use cli_arguments::PullWords;
+use cli_faults::{Command, Failure, Word};
+use os_files::{Identity, Part, System};
 use verity_chain::Tree;
-use verity_files::{Command, Failure, Identity, Part, System, Word};
 use verity_store::{BlockStore, Which};
-use verity_words::PullWords;
 
 /// The stores over DATA and HASH, and which of these were made.
 #[derive(Drop)]

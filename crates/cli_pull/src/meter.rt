@@ -1,10 +1,10 @@
 //! How far a pull has come.
 
+use os_progress::{Meter, Progress};
 use std::alloc::Global;
 use std::io::Eprint;
 use std::time::Clock;
 use verity_chain::Tree;
-use verity_watch::{Meter, Progress};
 
 /// A meter that is told of the source's hash blocks, and takes each for as many bytes of the image as one is above, on the average.
 #[derive(Drop)]

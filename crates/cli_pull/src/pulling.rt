@@ -12,19 +12,20 @@ use crate::local::{Local, look_at_local, open_local, unmake};
 use crate::meter::Pace;
 use crate::source::{Source, open_source};
 use crate::superblock::superblock_of;
+use cli_arguments::{PullWords, explain_recovered, explain_unused_line};
+use cli_faults::{Failure, Fault, check_paths};
+use os_commit_flag::check_gate;
+use os_files::System;
 use os_journal::recover_volume;
+use os_progress::Watched;
 use std::alloc::Global;
 use std::io::{Eprint, IsTerminal, Write};
 use std::time::Clock;
 use verity_chain::Tree;
-use verity_files::{Failure, Fault, System, check_paths};
-use verity_gate::check_gate;
 use verity_moved::Moved;
 use verity_pull::{Counts, pull_either};
 use verity_store::BlockStore;
 use verity_superblock::Table;
-use verity_watch::Watched;
-use verity_words::{PullWords, explain_recovered, explain_unused_line};
 
 /// Makes DATA and HASH the volume of the line `--to`, from the devices that it names, and prints how many data blocks were fetched and
 /// kept, and the line of the volume.

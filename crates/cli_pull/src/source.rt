@@ -2,9 +2,10 @@
 ghost use Rattle.std.specs.Prelude.{◌≡◌, ◌-◌, ◌^◌, ◌≤◌, length, IfOk};
 ghost use Rattle.cli_pull.specs.Opening.{IsSourceAt};
 
+use cli_faults::{Command, Failure};
+use os_commit_flag::check_gate;
+use os_files::{Identity, Part, System, open_to_read};
 use verity_check::CheckFault;
-use verity_files::{Command, Failure, Identity, Part, System, open_to_read};
-use verity_gate::check_gate;
 use verity_store::{BlockStore, Which};
 use verity_superblock::Table;
 

@@ -8,12 +8,12 @@ ghost use Rattle.cli_pull.specs.Superblocks.{params_of, HasSuperblock, IsOfLine,
 ghost use Rattle.cli_pull.specs.Words.{IsElsewhere};
 
 use crate::line::Asked;
+use cli_faults::{Failure, salt};
 use std::alloc::Global;
 use uuid::Uuid;
 use verity_chain::Tree;
 use verity_check::CheckFault;
 use verity_edit::EditFault;
-use verity_files::{Failure, salt};
 use verity_store::{BlockStore, Which};
 use verity_superblock::{SuperFault, Superblock, Table};
 

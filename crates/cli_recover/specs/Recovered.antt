@@ -7,15 +7,15 @@ use Rattle.cli_line_file.specs.Files.{FolderFails}
 use Rattle.cli_line_file.specs.Settling.{IsLeftAt, IsSettledAt}
 use Rattle.os_line_file.specs.declared.folder.LineFolder as folder
 use Rattle.os_line_file.specs.declared.folder.LineFolders as folders
-use Rattle.verity_files.specs.Faults.{line}
-use Rattle.verity_files.specs.Reached.{BesideAt}
-use Rattle.verity_files.specs.Words.{paths_refusal}
-use Rattle.verity_files.specs.declared.failure.Failure.{Failure}
-use Rattle.verity_files.specs.declared.failure.Failure.TheVariants as failure
-use Rattle.verity_files.specs.declared.system.System.{Ghosts}
-use Rattle.verity_journal.specs.declared.disks.Disks as disks
+use Rattle.cli_faults.specs.Faults.{line}
+use Rattle.os_files.specs.Reached.{BesideAt}
+use Rattle.cli_faults.specs.Words.{paths_refusal}
+use Rattle.cli_faults.specs.declared.failure.Failure.{Failure}
+use Rattle.cli_faults.specs.declared.failure.Failure.TheVariants as failure
+use Rattle.os_files.specs.declared.system.System.{Ghosts}
+use Rattle.verity_disks.specs.declared.disks.Disks as disks
 use Rattle.verity_store.specs.declared.store.BlockStore as store
-use Rattle.verity_words.specs.declared.words.recover.RecoverWords.{RecoverWords}
+use Rattle.cli_arguments.specs.declared.words.recover.RecoverWords.{RecoverWords}
 use Rattle.os_journal.specs.Blamed.{BlamesVolume}
 use Rattle.os_journal.specs.Journals.{IsMadeWhole}
 

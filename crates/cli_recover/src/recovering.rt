@@ -1,17 +1,18 @@
 //! The command `recover`.
 ghost use Rattle.std.specs.Prelude.{◌≡◌, ◌⊎◌, true, OnOk, IfErr, MatchOption, ⊤};
 ghost use Rattle.std.specs.Io.KnownBytes.{Appends};
-ghost use Rattle.verity_files.specs.Errors.{IsS1For};
-ghost use Rattle.verity_files.specs.Blames.{BlamesNone};
+ghost use Rattle.cli_faults.specs.Errors.{IsS1For};
+ghost use Rattle.cli_faults.specs.Blames.{BlamesNone};
 ghost use Rattle.cli_recover.specs.Recovered.{recovered_line, FileFails, IsClearOf, IsFileLeft, IsFileSettled, IsFileUnsettled};
 ghost use Rattle.cli_recover.specs.Recovered.{IsNotClearOf, IsRecovered, RecoverBlames};
 
+use cli_arguments::RecoverWords;
+use cli_faults::{Failure, check_paths};
 use cli_line_file::{check_apart_from, settle_line};
+use os_files::{System, path_beside};
 use os_journal::recover_volume;
 use os_line_file::LineFolders;
 use std::io::Write;
-use verity_files::{Failure, System, check_paths, path_beside};
-use verity_words::RecoverWords;
 
 /// Makes the changes that stand behind an open commit flag of the volume's journal, and removes the journal. Where a file of the volume's
 /// table line is named, it is looked for first among DATA, HASH and the journal, and once the journal is gone the volume's line is left in

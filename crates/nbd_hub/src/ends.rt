@@ -5,8 +5,8 @@ ghost use Rattle.std.specs.Io.{ReadsAtMost, WritesAtMost};
 ghost use Rattle.std.specs.Io.KnownBytes.{Keeps, ReadConsumes, WriteAppends};
 ghost use Rattle.nbd_hub.specs.Failures.{CountsCall, CountsWrite};
 
+use base_count::Count;
 use std::io::{self, Read, Write};
-use verity_count::Count;
 
 /// What a stream is read from.
 ///

@@ -1,7 +1,7 @@
 //! What happens to a hub, and what it replies.
 
 use crate::fault::HubFault;
-use held_bytes::HeldBytes as Piece;
+use base_bytes::HeldBytes as Piece;
 use nbd_session::Status;
 use std::alloc::{Allocator, Global};
 

@@ -39,9 +39,9 @@ mod run;
 mod sessions;
 mod stream;
 
+pub use base_bytes::HeldBytes as Piece;
 pub use ends::{CountedReader, CountedWriter, Input, Output};
 pub use events::{Event, HubReply};
 pub use fault::{HubFault, ServeFault};
-pub use held_bytes::HeldBytes as Piece;
 pub use sessions::{MAX_AHEAD, Sessions};
 pub use stream::serve;

@@ -8,7 +8,7 @@ ghost use Rattle.nbd_hub.specs.After.{AskedBetween, AsksOn, EachAfter, Given, Is
 
 use crate::events::{Event, HubReply};
 use crate::sessions::Sessions;
-use held_bytes::HeldBytes as Piece;
+use base_bytes::HeldBytes as Piece;
 use nbd_session::Export;
 use std::alloc::{AllocError, Allocator};
 

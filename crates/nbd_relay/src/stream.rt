@@ -5,9 +5,9 @@ ghost use Rattle.nbd_relay.specs.Asked.{Asked, IsAsked, IsHandedOn};
 ghost use Rattle.std.specs.Io.{ReadsAtMost, WritesAtMost};
 ghost use Rattle.std.specs.Io.KnownBytes.{Keeps, ReadConsumes, WriteAppends};
 
+use base_count::Count;
 use std::io::{self, ErrorKind, Read, Write};
 use std::marker::Model;
-use verity_count::Count;
 
 /// A stream in both directions, which may not be ready: it then answers `WouldBlock`, and has neither given nor taken a byte.
 ///

@@ -4,7 +4,8 @@ use Rattle.std.proofs.Common.{subst, append_assoc, append-nil, arith}
 use Rattle.std.proofs.lemmas.List.{drop-append-le, take_all}
 use Rattle.nbd_relay.specs.Clients.{Log}
 use Rattle.nbd_relay.proofs.Buffers.{sent_on}
-use Rattle.nbd_serve.specs.Sockets.{Drains, Hears}
+use Rattle.nbd_connection.specs.Connections.{Hears}
+use Rattle.nbd_serve.specs.Sockets.{Drains}
 use Rattle.nbd_serve.proofs.Keeping.{same_log}
 
 -- n bytes of what it held were sent

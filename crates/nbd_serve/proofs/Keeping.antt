@@ -19,7 +19,8 @@ use Rattle.nbd_relay.specs.Clients.{Log, Apart, AllServed, AllLogged, RunsOn}
 use Rattle.nbd_relay.proofs.Saying.{is_said}
 use Rattle.nbd_relay.proofs.Many.{apart_set}
 use Rattle.nbd_serve.specs.Serving.{GoesOn}
-use Rattle.nbd_serve.specs.Sockets.{Drains, Visits, SocketState, log_of, nothing, IsOfOne, AreServed, IsTold, AreTold, AreKept}
+use Rattle.nbd_connection.specs.Connections.{Visits, nothing}
+use Rattle.nbd_serve.specs.Sockets.{Drains, SocketState, log_of, IsOfOne, AreServed, IsTold, AreTold, AreKept}
 use Rattle.nbd_serve.specs.Sockets.{AreGivenBack}
 
 all_removed : {A : Type 0} (P : A → Type 0) (xs : List A) (i : ℕ) → i < length xs → All P xs → All P (remove xs i)

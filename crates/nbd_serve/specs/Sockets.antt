@@ -10,31 +10,13 @@ use Rattle.nbd_hub.specs.After.{IsAfter, Given}
 use Rattle.nbd_relay.specs.Asked.{Asked}
 use Rattle.nbd_relay.specs.Client.{ClientState, IsSaid}
 use Rattle.nbd_relay.specs.Clients.{Log, AllServed}
-
--- a connection that was just accepted
-abbrev pub nothing : Log
-nothing = record { read = []; wrote = [] }
-
--- a read answered so
-abbrev pub Hears : {E : Type 0} → (old new : Log) → Result ℕ E → List ℕ → Type 0
-Hears old new (Ok n) buf = (new.read ≡ old.read ++ take n buf) × (new.wrote ≡ old.wrote)
-Hears old new (Err e) buf = new ≡ old
-
--- a write answered so
-abbrev pub Says : {E : Type 0} → (old new : Log) → Result ℕ E → List ℕ → Type 0
-Says old new (Ok n) buf = (new.read ≡ old.read) × (new.wrote ≡ old.wrote ++ take n buf)
-Says old new (Err e) buf = new ≡ old
+use Rattle.nbd_connection.specs.Connections.{Visits}
 
 -- more was read, and nothing was written
 pub record Drains (old new : Log) : Type 0 where
   pub late : List ℕ
   pub read : new.read ≡ old.read ++ late
   pub wrote : new.wrote ≡ old.wrote
-
--- how many connections a listener has accepted, and what each carried that was given back
-pub record Visits : Type 0 where
-  pub accepted : ℕ
-  pub closed : List Log
 
 -- a client's socket: its connection, what it took and hasn't sent yet, and what it was asked
 pub record SocketState (C : Type 0) : Type 0 where

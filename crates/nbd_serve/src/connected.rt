@@ -4,17 +4,17 @@ ghost use Rattle.std.specs.Prelude.{◌≡◌, ◌+◌, ◌<◌, ◌⊎◌, [], 
 ghost use Rattle.std.specs.List.{remove};
 ghost use Rattle.nbd_hub.specs.Sessions.{HubState};
 ghost use Rattle.nbd_serve.specs.Serving.{GoesOn};
-ghost use Rattle.nbd_serve.specs.Sockets.{AreKept, AreServed, IsTold, Visits, nothing};
+ghost use Rattle.nbd_connection.specs.Connections.{Visits, nothing};
+ghost use Rattle.nbd_serve.specs.Sockets.{AreKept, AreServed, IsTold};
 ghost use Rattle.nbd_serve.specs.Stalling.{IsNoted};
 
 use crate::budget::Budget;
-use crate::connection::Connection;
-use crate::door::Door;
 use crate::lull::Lull;
 use crate::socket::Socket;
 use crate::turns::{Came, go_on};
 use mio::unix::SourceFd;
 use mio::{Interest, Registry, Token};
+use nbd_connection::{Connection, Door};
 use nbd_hub::{HubFault, ServeFault, Sessions};
 use nbd_relay::{Client, accept, leave};
 use nbd_session::Export;

@@ -3,14 +3,14 @@
 ghost use Rattle.std.specs.Prelude.{◌≡◌, ◌+◌, ◌<◌, length, OnOk};
 ghost use Rattle.nbd_serve.specs.Lines.{standing, Tells};
 ghost use Rattle.nbd_serve.specs.Serving.{GoesOn};
-ghost use Rattle.nbd_serve.specs.Sockets.{AreKept, Visits, nothing};
+ghost use Rattle.nbd_connection.specs.Connections.{Visits, nothing};
+ghost use Rattle.nbd_serve.specs.Sockets.{AreKept};
 
-use crate::connection::Connection;
-use crate::door::Door;
 use crate::line::tell_end;
 use crate::room::{MOST, Room};
 use crate::stop::Stop;
 use mio::Registry;
+use nbd_connection::{Connection, Door};
 use nbd_hub::Sessions;
 use nbd_session::Export;
 use std::io::{self, ErrorKind, Write};

@@ -9,7 +9,7 @@
 //! leave of the limit. So clients that ask and never read keep nobody from short READs. A client's fault ends that client alone.
 //!
 //! Nor do they keep anybody from long READs for ever: while a client waits for memory, another one is left (N2) if something is pending
-//! for it and its socket has taken not a byte for [`Limits::stall`], usually 30 seconds. The time begins when a reply becomes pending,
+//! for it and its socket has taken not a byte for `Limits::stall`, usually 30 seconds. The time begins when a reply becomes pending,
 //! and anew with each byte that is taken; before a client is left, its socket is asked once more. Without a client that waits, or
 //! without a clock, none is left so.
 //!
@@ -30,8 +30,7 @@
 //!
 //! However it ends, each connection that was accepted was given back to the listener, and what it had been sent is a beginning of
 //! what one session said to a beginning of what had been received from it, by verdicts that the export gave (`IsTold`,
-//! `specs/Sockets.antt`). What a connection carries is a log that only its own `receive` and `send` add to ([`Connection`]), which
-//! takes no bytes ([`Carried`]); what connections that were given back had carried stands with the listener ([`Door`], [`Visited`]).
+//! `specs/Sockets.antt`). What a connection carries and a listener accepts is seen by their logs, which take no bytes (`nbd_connection`).
 //!
 //! What the system's sockets do with the bytes, the clock and the system's poll are outside what contracts can say. Nothing is proved
 //! of which client is ready, who is idle, who is next and when a connection is accepted, but that the loop's steps are safe; nor that
@@ -43,12 +42,8 @@
 #![tactic(auto)]
 
 mod budget;
-mod carried;
 mod connected;
-mod connection;
-mod door;
 mod entry;
-mod limits;
 mod line;
 mod lull;
 mod parting;
@@ -62,10 +57,6 @@ mod stop;
 mod turns;
 
 pub use budget::{Budget, has_room, keeps_the_limit, left};
-pub use carried::{Carried, Visited};
-pub use connection::{Connection, Logged, SystemSocket};
-pub use door::{Door, Listener, Watched};
-pub use limits::Limits;
 pub use server::serve_clients;
 pub use stop::Stop;
 pub use turns::{Came, go_on};

@@ -3,8 +3,8 @@
 ghost use Rattle.std.specs.Prelude.{◌≡◌};
 ghost use Rattle.nbd_serve.specs.Sockets.{Drains};
 
-use crate::connection::Connection;
 use crate::socket::Socket;
+use nbd_connection::Connection;
 use nbd_relay::Client;
 use std::io::ErrorKind;
 use std::marker::Model;

@@ -2,13 +2,13 @@
 
 ghost use Rattle.std.specs.Prelude.{◌≡◌, ◌+◌, ◌<◌, ◌≤◌, ℕ, [], length, IfOk};
 ghost use Rattle.nbd_hub.specs.Sessions.{HubState};
-ghost use Rattle.nbd_serve.specs.Sockets.{AreTold, IsTold, Visits};
+ghost use Rattle.nbd_connection.specs.Connections.{Visits};
+ghost use Rattle.nbd_serve.specs.Sockets.{AreTold, IsTold};
 
-use crate::connection::Connection;
-use crate::door::Door;
 use crate::parting::Parting;
 use crate::socket::Socket;
 use mio::Token;
+use nbd_connection::{Connection, Door};
 use nbd_relay::Client;
 use nbd_session::Export;
 use std::alloc::{AllocError, Global};

@@ -5,14 +5,14 @@ ghost use Rattle.std.specs.List.{remove};
 ghost use Rattle.nbd_hub.specs.declared.fault.ServeFault.{ServeFault};
 ghost use Rattle.nbd_serve.specs.Lines.{standing, IsEnded, Tells};
 ghost use Rattle.nbd_serve.specs.Serving.{GoesOn};
-ghost use Rattle.nbd_serve.specs.Sockets.{AreKept, Visits};
+ghost use Rattle.nbd_connection.specs.Connections.{Visits};
+ghost use Rattle.nbd_serve.specs.Sockets.{AreKept};
 ghost use Rattle.nbd_serve.specs.Stalling.{HasStalled};
 
 use crate::budget::Budget;
-use crate::connection::Connection;
-use crate::door::Door;
 use crate::room::{MOST, Room};
 use crate::stop::Stop;
+use nbd_connection::{Connection, Door};
 use nbd_hub::{ServeFault, Sessions};
 use nbd_session::Export;
 use std::io::Write;

@@ -2,9 +2,10 @@
 
 ghost use Rattle.std.specs.Prelude.{◌≡◌, ◌≤◌, ◌==◌, [], length, Some, IfOk, IfErr, OnOk, IsTrue};
 ghost use Rattle.std.specs.Io.{ReadsAtMost, WritesAtMost};
-ghost use Rattle.nbd_serve.specs.Sockets.{Hears, Says, log_of, nothing};
+ghost use Rattle.nbd_connection.specs.Connections.{Hears, Says, nothing};
+ghost use Rattle.nbd_serve.specs.Sockets.{log_of};
 
-use crate::connection::Connection;
+use nbd_connection::Connection;
 use nbd_relay::{Asks, Stream};
 use std::alloc::{Allocator, Global};
 use std::cell::Cell;

@@ -9,8 +9,8 @@ ghost use Rattle.nbd_serve.specs.Stalling.{Begins, HasStalled, IsLulled, IsNoted
 
 use crate::budget::Budget;
 use crate::connected::Connected;
-use crate::connection::Connection;
 use crate::turns::waits_for_memory;
+use nbd_connection::Connection;
 use nbd_hub::Sessions;
 use nbd_session::Export;
 use std::time::Duration;

@@ -2,7 +2,7 @@
 use Rattle.std.proofs.Common.{◌≡◌, ℕ, ◌+◌, ◌≤◌, List, ◌++◌, length, length-take, take, drop, Option, IfSome, sym, ap, ◌∙◌, subst, arith}
 use Rattle.std.proofs.lemmas.List.{take-append-drop}
 use Rattle.std.specs.Int.{w64, from_le_bytes}
-use Rattle.verity_files.specs.declared.system.System.{Ghosts}
+use Rattle.os_files.specs.declared.system.System.{Ghosts}
 use Rattle.os_journal.specs.Names.{IsOfVolume, IsVolumeAt}
 
 -- so many bytes of these were taken, and these are left

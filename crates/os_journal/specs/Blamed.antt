@@ -1,17 +1,17 @@
 -- Why a volume isn't recovered.
 use Rattle.std.specs.Prelude.{◌≡◌, ◌⊎◌, true, List, ℕ, ⊤, Option, Some}
 use Rattle.std.specs.Borrow.{Bor}
-use Rattle.verity_files.specs.Errors.{IsOfSystem}
-use Rattle.verity_files.specs.declared.failure.Failure.{Failure}
-use Rattle.verity_files.specs.declared.failure.Failure.TheVariants as failure
-use Rattle.verity_files.specs.declared.failure.Word.TheVariants as word
-use Rattle.verity_files.specs.declared.fault.Fault.{Fault}
-use Rattle.verity_files.specs.declared.fault.Fault.TheVariants as fault
-use Rattle.verity_files.specs.declared.system.System.{Ghosts}
-use Rattle.verity_journal.specs.declared.disks.Device.{Device}
-use Rattle.verity_journal.specs.declared.disks.Device.TheVariants as device
-use Rattle.verity_journal.specs.declared.disks.DiskFault.{DiskFault}
-use Rattle.verity_journal.specs.declared.disks.DiskFault.TheVariants as disk
+use Rattle.cli_faults.specs.Errors.{IsOfSystem}
+use Rattle.cli_faults.specs.declared.failure.Failure.{Failure}
+use Rattle.cli_faults.specs.declared.failure.Failure.TheVariants as failure
+use Rattle.cli_faults.specs.declared.failure.Word.TheVariants as word
+use Rattle.cli_faults.specs.declared.fault.Fault.{Fault}
+use Rattle.cli_faults.specs.declared.fault.Fault.TheVariants as fault
+use Rattle.os_files.specs.declared.system.System.{Ghosts}
+use Rattle.verity_disks.specs.declared.disks.Device.{Device}
+use Rattle.verity_disks.specs.declared.disks.Device.TheVariants as device
+use Rattle.verity_disks.specs.declared.disks.DiskFault.{DiskFault}
+use Rattle.verity_disks.specs.declared.disks.DiskFault.TheVariants as disk
 use Rattle.verity_pending.specs.declared.fault.EditFault.TheVariants as edit
 use Rattle.verity_store.specs.declared.fault.StoreFault.TheVariants as store
 use Rattle.verity_store.specs.declared.fault.Which.TheVariants as which

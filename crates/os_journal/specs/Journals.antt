@@ -1,13 +1,13 @@
 -- What is made of a volume's files by what its journal says, over a system.
 use Rattle.std.specs.Prelude.{◌≡◌, ◌≢◌, ◌⊎◌, ℕ, Bool, true, false, List, [], length, is_some, Option, None, Some, IfSome}
 use Rattle.std.specs.Borrow.{Bor}
-use Rattle.verity_files.specs.declared.command.Lock.TheVariants as lock
-use Rattle.verity_files.specs.declared.identity.Identity.{Identity}
-use Rattle.verity_files.specs.declared.system.System.{Ghosts}
-use Rattle.verity_journal.specs.Disks.{IsDurable, LeavesOnly}
+use Rattle.cli_faults.specs.declared.command.Lock.TheVariants as lock
+use Rattle.os_files.specs.declared.identity.Identity.{Identity}
+use Rattle.os_files.specs.declared.system.System.{Ghosts}
+use Rattle.verity_disks.specs.Disks.{IsDurable, LeavesOnly}
 use Rattle.verity_journal.specs.Journal.{pair_of, plan_of, recovered_pair, IsJournal}
-use Rattle.verity_journal.specs.declared.disks.Device.TheVariants.{Data, Hash, Journal}
-use Rattle.verity_journal.specs.declared.disks.Disks as disks
+use Rattle.verity_disks.specs.declared.disks.Device.TheVariants.{Data, Hash, Journal}
+use Rattle.verity_disks.specs.declared.disks.Disks as disks
 use Rattle.os_journal.specs.Names.{AreNames, IsJournalPath, IsOfVolume}
 
 module _ {S F D J : Type 0} (facts : Ghosts S F D J) where

@@ -3,11 +3,11 @@ use Rattle.std.specs.Prelude.{◌≡◌, ◌⊎◌, ◌<◌, ℕ, ◌+◌, List,
 use Rattle.std.specs.Borrow.{Bor}
 use Rattle.std.specs.Int.{w64, to_le_bytes, from_le_bytes}
 use Rattle.std.specs.Path.{path_file_name}
-use Rattle.verity_files.specs.Identities.{IsDevice}
-use Rattle.verity_files.specs.declared.identity.Identity.{Identity}
-use Rattle.verity_files.specs.declared.identity.Identity.TheVariants as identity
-use Rattle.verity_files.specs.declared.system.System.{Ghosts}
-use Rattle.verity_files.specs.Reached.{BesideAt}
+use Rattle.os_files.specs.Identities.{IsDevice}
+use Rattle.os_files.specs.declared.identity.Identity.{Identity}
+use Rattle.os_files.specs.declared.identity.Identity.TheVariants as identity
+use Rattle.os_files.specs.declared.system.System.{Ghosts}
+use Rattle.os_files.specs.Reached.{BesideAt}
 use Rattle.verity_superblock.specs.Reading as superblock
 use Rattle.verity_superblock.specs.declared.faults.SuperFault.{SuperFault}
 

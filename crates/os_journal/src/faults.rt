@@ -2,9 +2,11 @@
 ghost use Rattle.std.specs.Prelude.{◌≡◌};
 ghost use Rattle.os_journal.specs.Blamed.{laid_to};
 
+use cli_faults::Fault;
+use os_files::System;
+use verity_disks::{Device, DiskFault};
 use verity_edit::EditFault;
-use verity_files::{Fault, System};
-use verity_journal::{Device, DiskFault, Keeper};
+use verity_journal::Keeper;
 use verity_store::{StoreFault, Which};
 
 /// The fault of a journal or a store: S3 for want of memory, E6 and the store that failed last, else S7.

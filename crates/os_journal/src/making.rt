@@ -5,7 +5,8 @@ ghost use Rattle.os_journal.specs.Journals.{IsNew, StartsAnew};
 
 use crate::reading::{first_bytes, gate_in};
 use crate::recovering::started;
-use verity_files::{Failure, Fault, Identity, System, journal_fault};
+use cli_faults::{Failure, Fault};
+use os_files::{Identity, System, journal_fault};
 use verity_journal::{Gate, Keeper};
 use verity_store::StoreFault;
 

@@ -1,13 +1,14 @@
 //! Of which volume a journal is.
 ghost use Rattle.std.specs.Prelude.{◌≡◌, true, is_some, IfSome, IfOk, IfErr, OnOk};
-ghost use Rattle.verity_files.specs.Errors.{IsS1For};
-ghost use Rattle.verity_files.specs.Blames.{BlamesNone};
+ghost use Rattle.cli_faults.specs.Errors.{IsS1For};
+ghost use Rattle.cli_faults.specs.Blames.{BlamesNone};
 ghost use Rattle.verity_journal.specs.Journal.{plan_of};
 ghost use Rattle.os_journal.specs.Names.{IsOfVolume, IsVolumeAt};
 
+use cli_faults::{Failure, Fault};
+use os_files::System;
 use uuid::Uuid;
 use verity_edit::EditFault;
-use verity_files::{Failure, Fault, System};
 use verity_journal::parse_journal;
 use verity_store::Which;
 use verity_superblock::{SuperFault, Superblock};

@@ -2,10 +2,11 @@
 ghost use Rattle.std.specs.Prelude.{◌≡◌, ◌↔◌, None, IfSome, IfOk, IfErr, string_bytes};
 ghost use Rattle.os_journal.specs.Names.{volume_names, AreNames, IsJournalPath, IsName, IsWithoutJournal};
 
+use cli_faults::Failure;
+use os_files::{Identity, System, path_beside};
 use std::alloc::{AllocError, Global};
 use std::path::Path;
 use uuid::Uuid;
-use verity_files::{Failure, Identity, System, path_beside};
 
 /// The argument that asks for no journal.
 const NONE: &str = "none";

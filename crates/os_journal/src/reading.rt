@@ -1,11 +1,12 @@
 //! The file of a journal, opened and read.
 ghost use Rattle.std.specs.Prelude.{◌≡◌, ◌≤◌, true, length, IfOk, IfErr};
-ghost use Rattle.verity_files.specs.Errors.{IsS1For};
-ghost use Rattle.verity_files.specs.Blames.{BlamesNone, IsUnread};
+ghost use Rattle.cli_faults.specs.Errors.{IsS1For};
+ghost use Rattle.cli_faults.specs.Blames.{BlamesNone, IsUnread};
 ghost use Rattle.os_journal.specs.Journals.{IsFoundToWrite};
 ghost use Rattle.os_journal.specs.Blamed.{IsNoJournalFault};
 
-use verity_files::{Failure, Fault, Identity, System, journal_fault};
+use cli_faults::{Failure, Fault};
+use os_files::{Identity, System, journal_fault};
 use verity_journal::{GATE_END, Gate, gate_of};
 
 /// Opens the journal at a path to be read and written; none where there is nothing. S7 where it is no regular file, or can't be opened.

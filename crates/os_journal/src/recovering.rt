@@ -1,17 +1,19 @@
 //! What is made of a volume's files by what its journal says.
 ghost use Rattle.std.specs.Prelude.{◌≡◌, None, length, IfSome, IfOk, IfErr, true};
-ghost use Rattle.verity_files.specs.declared.failure.Word.TheVariants as word;
-ghost use Rattle.verity_files.specs.Errors.{IsS1For};
-ghost use Rattle.verity_files.specs.Blames.{BlamesAtMost};
+ghost use Rattle.cli_faults.specs.declared.failure.Word.TheVariants as word;
+ghost use Rattle.cli_faults.specs.Errors.{IsS1For};
+ghost use Rattle.cli_faults.specs.Blames.{BlamesAtMost};
 ghost use Rattle.os_journal.specs.Blamed.{IsOfDisks};
 ghost use Rattle.os_journal.specs.Journals.{IsOneOf, Recovers, Starts};
 
 use crate::faults::fault_of_disks;
 use crate::names::has_plan;
 use crate::reading::{check_first_bytes, first_bytes, open_journal};
+use cli_faults::{Failure, Fault, Word};
+use os_files::{System, VolumeFile};
 use std::fs::File;
-use verity_files::{Failure, Fault, System, VolumeFile, Word};
-use verity_journal::{Disks, FileDisks, Keeper};
+use verity_disks::{Disks, FileDisks};
+use verity_journal::Keeper;
 
 /// Three files of the real system, kept between commits.
 pub type FileKeeper = Keeper<FileDisks<VolumeFile<File>>>;

@@ -1,15 +1,16 @@
 //! A volume, recovered.
 ghost use Rattle.std.specs.Prelude.{◌≡◌, ◌≢◌, true, IfOk, IfErr};
-ghost use Rattle.verity_files.specs.Commands.{lock_of};
-ghost use Rattle.verity_files.specs.declared.failure.Word.TheVariants as word;
-ghost use Rattle.verity_files.specs.Errors.{IsS1For};
-ghost use Rattle.verity_files.specs.Blames.{BlamesAtMost};
+ghost use Rattle.cli_faults.specs.Commands.{lock_of};
+ghost use Rattle.cli_faults.specs.declared.failure.Word.TheVariants as word;
+ghost use Rattle.cli_faults.specs.Errors.{IsS1For};
+ghost use Rattle.cli_faults.specs.Blames.{BlamesAtMost};
 ghost use Rattle.os_journal.specs.Blamed.{BlamesVolume, IsOneFile};
 ghost use Rattle.os_journal.specs.Journals.{AreOpened, IsMade, IsMadeWhole, IsOneOf};
 
 use crate::places::{journal_path, volume_names};
 use crate::recovering::recover_at;
-use verity_files::{Command, Failure, System, Word, check_apart};
+use cli_faults::{Command, Failure, Word};
+use os_files::{System, check_apart};
 use verity_store::Which;
 
 /// Opens the two files of a volume, tells them apart and takes their locks, makes the changes that stand behind an open commit flag of its

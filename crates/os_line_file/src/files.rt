@@ -4,10 +4,10 @@ ghost use Rattle.std.specs.Prelude.{◌≡◌, IfErr, ⊤};
 use crate::folder::{FolderFault, LineFolder, LineFolders};
 use crate::held::Held;
 use crate::real::{drop_next, make_next, move_next, path_led_to, sync_both, text_at};
+use base_count::Count;
 use std::alloc::Global;
 use std::io::{self, ErrorKind};
 use std::rt::Files;
-use verity_count::Count;
 
 /// FILE and FILE.next on this machine, as they were when they were opened and as each call has left them since.
 ///

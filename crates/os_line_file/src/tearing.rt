@@ -3,8 +3,8 @@ ghost use Rattle.std.specs.Prelude.{◌≡◌, length};
 
 use crate::folder::{FolderFault, LineFolder};
 use crate::held::Held;
+use base_count::Count;
 use std::alloc::{AllocError, Global};
-use verity_count::Count;
 
 /// What a crash leaves of the call that it cuts short.
 #[derive(Clone, Copy, Debug, PartialEq, Eq)]

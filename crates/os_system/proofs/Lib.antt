@@ -1,2 +1,1 @@
-pub mod Schemes
 pub mod Wholes

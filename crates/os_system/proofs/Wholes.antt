@@ -3,11 +3,11 @@ use Rattle.std.proofs.Common.{◌≡◌, ℕ, ◌-◌, ◌*◌, ◌/◌, ◌%◌
 use Rattle.std.proofs.Math.Nat.{mod-eq-sub-div-mul, mul-div_cancel}
 use Rattle.std.specs.declared.fs.File.{File}
 use Rattle.verity_store.specs.declared.raw_file.RawFile.{Ghosts}
-use Rattle.verity_files.specs.Parts.{HasAsked}
-use Rattle.verity_files.specs.declared.part.Part.{Part}
-use Rattle.verity_files.specs.declared.part.Part.TheVariants.{First}
-use Rattle.verity_files.specs.declared.volume_file.VolumeFile.{VolumeFile}
-use Rattle.verity_files.proofs.Counts.{counted}
+use Rattle.os_files.specs.Parts.{HasAsked}
+use Rattle.os_files.specs.declared.part.Part.{Part}
+use Rattle.os_files.specs.declared.part.Part.TheVariants.{First}
+use Rattle.os_files.specs.declared.volume_file.VolumeFile.{VolumeFile}
+use Rattle.os_host.proofs.Counts.{counted}
 use Rattle.os_system.specs.Located.{HasBlocks, LiesThere}
 use Rattle.os_system.specs.declared.located.Located.{Located}
 use Rattle.os_system.specs.declared.located.Located.TheVariants.{There}

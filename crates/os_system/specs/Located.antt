@@ -4,13 +4,13 @@ use Rattle.std.specs.declared.fs.File.{File}
 use Rattle.remote_url.specs.Grammar.{HasScheme, Names}
 use Rattle.remote_url.specs.declared.source.Source.{Source}
 use Rattle.verity_store.specs.declared.raw_file.RawFile.{Ghosts}
-use Rattle.verity_files.specs.Parts.{LiesAsPart}
-use Rattle.verity_files.specs.declared.identity.Identity.{Identity}
-use Rattle.verity_files.specs.declared.identity.Identity.TheVariants.{Device}
-use Rattle.verity_files.specs.declared.opening.Opened.{Opened}
-use Rattle.verity_files.specs.declared.part.Part.{Part}
-use Rattle.verity_files.specs.declared.part.Part.TheVariants.{All, First, AtMost, New}
-use Rattle.verity_files.specs.declared.volume_file.VolumeFile.{VolumeFile}
+use Rattle.os_host.specs.Parts.{LiesAsPart}
+use Rattle.os_files.specs.declared.identity.Identity.{Identity}
+use Rattle.os_files.specs.declared.identity.Identity.TheVariants.{Device}
+use Rattle.os_host.specs.declared.opening.Opened.{Opened}
+use Rattle.os_files.specs.declared.part.Part.{Part}
+use Rattle.os_files.specs.declared.part.Part.TheVariants.{All, First, AtMost, New}
+use Rattle.os_files.specs.declared.volume_file.VolumeFile.{VolumeFile}
 use Rattle.os_system.specs.declared.located.Located.{Located}
 use Rattle.os_system.specs.declared.located.Located.TheVariants.{Here, There}
 use Rattle.os_system.specs.declared.located.Remote.{Remote}

@@ -6,21 +6,17 @@
 //! writes (`check_here`). What a server gives nobody vouches for; the commands check it.
 //!
 //! A device at a server is read as a block device is: it takes no lock, has no journal beside it, and may be longer than is asked for.
-//! Reads that follow one another are read ahead (`read_ahead`). Why a server's device couldn't be opened, and how long it was, is kept
-//! for standard error (`Notes`).
+//! Reads that follow one another are read ahead (`remote_read_ahead`). Why a server's device couldn't be opened, and how long it was, is
+//! kept for standard error (`Notes`).
 //!
 //! The definitions stand in `specs/`: `Located` (what was opened, where).
 #![tactic(auto)]
 
-mod arguments;
 mod located;
-mod notes;
 mod servers;
 mod stores;
 mod system;
 
-pub use arguments::{check_here, is_url, patience};
 pub use located::{Located, Remote};
-pub use notes::Notes;
 pub use servers::{Network, Servers};
 pub use system::{OsFile, OsStore, OsSystem};

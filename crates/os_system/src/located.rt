@@ -2,9 +2,9 @@
 
 ghost use Rattle.std.specs.Prelude.{◌≡◌, None};
 
+use os_files::VolumeFile;
 use std::fs::File;
 use std::io::{self, ErrorKind};
-use verity_files::VolumeFile;
 use verity_store::RawFile;
 
 /// One thing that is here, or another at a server.

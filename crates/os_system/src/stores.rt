@@ -2,18 +2,20 @@
 
 ghost use Rattle.std.specs.Prelude.{◌≡◌, ◌≢◌, ◌*◌, ◌/◌, ◌%◌, ◌<◌, ◌≤◌, ◌⊎◌, ◌↔◌, ℕ, true, IfOk, IfErr, length, Err};
 ghost use Rattle.verity_profile.specs.Profile.{IsBlockSize};
-ghost use Rattle.verity_files.specs.Lengths.{IsLenOf};
-ghost use Rattle.verity_files.specs.Parts.{HasAsked, HasFewer, IsRaggedPart, LiesAsPart};
+ghost use Rattle.os_host.specs.Lengths.{IsLenOf};
+ghost use Rattle.os_files.specs.Parts.{HasAsked, HasFewer, IsRaggedPart};
+ghost use Rattle.os_host.specs.Parts.{LiesAsPart};
 ghost use Rattle.os_system.specs.Located.{HasBlocks, LiesHere, LiesThere};
 
 use crate::located::{Located, Remote};
-use read_ahead::Ahead;
+use os_files::{Part, VolumeFile, check_block_size};
+use os_host::{
+    Opened, Paths, file_anew, file_of_first, file_of_most, len_anew, len_by_now, len_of_most,
+    whole_file,
+};
+use remote_read_ahead::Ahead;
 use std::alloc::Global;
 use std::fs::File;
-use verity_files::{
-    Opened, Part, Paths, VolumeFile, check_block_size, file_anew, file_of_first, file_of_most,
-    len_anew, len_by_now, len_of_most, whole_file,
-};
 use verity_store::{BlockStore, FileStore, RawFile, StoreFault};
 
 /// The most bytes that are read ahead at once at a server.

@@ -2,21 +2,22 @@
 
 ghost use Rattle.std.specs.Prelude.{◌≡◌, true, IfOk, IfErr};
 ghost use Rattle.remote_url.specs.Grammar.{HasScheme, Names};
-ghost use Rattle.verity_files.specs.Errors.{IsOfSystem};
+ghost use Rattle.cli_faults.specs.Errors.{IsOfSystem};
 ghost use Rattle.os_system.specs.Located.{IsReached};
 
-use crate::arguments::is_url;
 use crate::located::{Located, Remote};
-use crate::notes::Notes;
 use crate::servers::Servers;
 use crate::stores::{Lying, store_here, store_there};
+use cli_faults::{Failure, Fault, Lock};
+use os_files::{Identity, Part, System, VolumeFile};
+use os_host::{Host, Opened, Paths};
+use os_urls::{Notes, is_url};
 use remote_origin::OriginFault;
 use remote_url::{Source, source_of};
 use std::alloc::Global;
 use std::fs::File;
 use std::io::{self, ErrorKind};
-use verity_files::{Failure, Fault, Host, Identity, Lock, Opened, Part, Paths, System, VolumeFile};
-use verity_journal::{Device, FileDisks};
+use verity_disks::{Device, FileDisks};
 use verity_store::{FileStore, RawFile, StoreFault, Which};
 
 /// What was opened: a file or a block device here, or a file at a server.
@@ -85,7 +86,7 @@ impl<'a, P: Paths + AllocGlobal, V: Servers> System for OsSystem<'a, P, V> {
     ghost use Rattle.std.specs.Prelude.{◌≡◌, ◌⊎◌, true, false, ⊤, length};
     ghost use Rattle.remote_url.specs.Grammar.{HasScheme};
     ghost use Rattle.verity_store.specs.RawFile.{Reads};
-    ghost use Rattle.verity_files.specs.Lengths.{IsLenOf};
+    ghost use Rattle.os_host.specs.Lengths.{IsLenOf};
     ghost use Rattle.os_system.specs.Located.{identity_of, len_of, ByPlace, OpensAt, LiesOver};
 
     type File = OsFile<V::File>;

@@ -2,8 +2,8 @@
 ghost use Rattle.std.specs.Prelude.{◌≡◌, ℕ, ◌+◌, Bool, Option, None, Some, ◌==◌};
 ghost use Rattle.test_stores.specs.Failing.{is_past};
 
+use base_count::Count;
 use std::marker::Model;
-use verity_count::Count;
 use verity_store::{BlockStore, StoreFault};
 
 /// A store over another, some of whose calls fail with S1 and are not passed on. All other calls are passed on.

@@ -4,9 +4,9 @@ ghost use Rattle.verity_profile.specs.Profile.{IsBlockSize};
 ghost use Rattle.test_stores.specs.Script.{IsSized};
 
 use crate::Answer;
+use base_count::Count;
 use std::alloc::{Allocator, Global};
 use std::marker::Model;
-use verity_count::Count;
 use verity_profile::is_block_size;
 use verity_store::{Block, BlockStore, StoreFault};
 

@@ -10,10 +10,10 @@ ghost use Rattle.verity_chain.specs.Checked.{IsAnswer, IsChecking, unread};
 use crate::notes::{Noted, ReadRefused, fetch};
 use crate::origin::{Origin, origin_of};
 use crate::tree::Tree;
+use base_count::{Count, Mark};
 use std::alloc::{Allocator, Global};
 use std::marker::Model;
-use verity_count::{Count, Mark};
-use verity_given::Given;
+use verity_read_log::Given;
 use verity_store::{BlockStore, StoreFault};
 use verity_superblock::Table;
 

@@ -8,9 +8,9 @@ ghost use Rattle.verity_chain.specs.Notes.{noted, note_at, IsNoteAt, AreChecked,
 ghost use Rattle.verity_chain.specs.Notes.{numbers, AreApart, IsUpward, NotesWithin};
 
 use crate::tree::Tree;
+use base_count::{Count, Mark};
 use std::alloc::Allocator;
 use std::marker::Model;
-use verity_count::{Count, Mark};
 use verity_digest::Digest;
 use verity_store::{Block, BlockStore};
 

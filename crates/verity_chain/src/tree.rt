@@ -5,9 +5,9 @@ ghost use Rattle.verity_digest.specs.Tree.{slot as slot_in};
 ghost use Rattle.verity_chain.specs.Table.{IsTable, shape_of, salted_of, hashing_of, branching};
 ghost use Rattle.verity_chain.specs.Table.{height, row_len, tree_len, hash_place, path_index};
 
+use base_count::Count;
 use std::alloc::{AllocError, Allocator, Global};
 use std::marker::Model;
-use verity_count::Count;
 use verity_digest::{Digest, Hasher};
 use verity_geometry::Geometry;
 use verity_superblock::Table;

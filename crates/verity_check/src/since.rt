@@ -1,8 +1,8 @@
 //! Where the two stores' logs stood.
 ghost use Rattle.std.specs.Prelude.{◌≡◌, ℕ, length};
 
+use base_count::Mark;
 use std::marker::Model;
-use verity_count::Mark;
 use verity_store::BlockStore;
 
 /// How many blocks each store had given at some moment. It has no bytes; contracts alone see it.

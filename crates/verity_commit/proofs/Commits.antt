@@ -2,7 +2,7 @@
 use Rattle.std.proofs.Common.{◌≡◌, ℕ, List, ⊎_elim, inl, inr, sym, ap, ◌∙◌, subst}
 use Rattle.std.specs.List.{concat}
 use Rattle.verity_store.specs.declared.store.BlockStore as store
-use Rattle.verity_journal.specs.Disks.{Contents, LeavesOnly}
+use Rattle.verity_disks.specs.Disks.{Contents, LeavesOnly}
 use Rattle.verity_journal.specs.Journal.{Pair, Suits, IsOldOrNew, made_pair}
 use Rattle.verity_stage.specs.Stage.{Stage, bytes_below, plan_of}
 use Rattle.verity_commit.specs.Committing.{IsOneOf}

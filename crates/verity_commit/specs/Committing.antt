@@ -1,13 +1,13 @@
 -- What a commit makes of the devices of a volume.
 use Rattle.std.specs.Prelude.{◌≡◌, ◌⊎◌, ℕ, List, ⊤, Result, Ok, Err}
 use Rattle.verity_store.specs.declared.store.BlockStore as store
-use Rattle.verity_journal.specs.Disks.{Contents}
+use Rattle.verity_disks.specs.Disks.{Contents}
 use Rattle.verity_journal.specs.Journal.{Pair, pair_of, recovered_pair, IsNamed}
 use Rattle.verity_stage.specs.Stage.{bytes_below}
 use Rattle.verity_edit.specs.declared.command.Committed.{Committed}
 use Rattle.verity_edit.specs.Committing.{IsRefusal}
 use Rattle.verity_edit.specs.Editing.{Editing}
-use Rattle.verity_line.specs.Line.{LineEditing, IsRefusalUnder}
+use Rattle.verity_trusted.specs.Line.{LineEditing, IsRefusalUnder}
 use Rattle.verity_commit.specs.declared.fault.CommitFault.{CommitFault}
 use Rattle.verity_commit.specs.declared.fault.CommitFault.TheVariants as fault
 

@@ -4,7 +4,7 @@ use Rattle.verity_store.specs.declared.store.BlockStore as store
 use Rattle.verity_edit.specs.declared.command.Committed.{Committed}
 use Rattle.verity_edit.specs.Committing.{IsRefusal}
 use Rattle.verity_edit.specs.Editing.{Editing}
-use Rattle.verity_line.specs.Line.{LineEditing, IsRefusalUnder}
+use Rattle.verity_trusted.specs.Line.{LineEditing, IsRefusalUnder}
 use Rattle.verity_superblock.specs.Superblock.{Volume}
 use Rattle.verity_commit.specs.declared.notice.Notice as notice
 use Rattle.verity_commit.specs.declared.notice.NotedFault.{NotedFault}

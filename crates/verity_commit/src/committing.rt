@@ -1,18 +1,19 @@
 //! A commit of an editor through a journal.
 ghost use Rattle.std.specs.Prelude.{◌≡◌, ◌≢◌, ◌⊎◌, ◌<◌, true, Err, IfErr, IfOk, OnOk};
 ghost use Rattle.std.specs.List.{concat};
-ghost use Rattle.verity_journal.specs.Disks.{LeavesOnly};
+ghost use Rattle.verity_disks.specs.Disks.{LeavesOnly};
 ghost use Rattle.verity_journal.specs.Journal.{pair_of, recovered_pair};
 ghost use Rattle.verity_edit.specs.Editing.{Commits, Stays};
-ghost use Rattle.verity_line.specs.Line.{CommitsUnder, editing_of};
+ghost use Rattle.verity_trusted.specs.Line.{CommitsUnder, editing_of};
 ghost use Rattle.verity_commit.specs.Committing.{IsEdit, ExplainsCommit, ExplainsEdit, Holds, IsOneOf};
 
 use crate::CommitFault;
 use std::alloc::Allocator;
+use verity_disks::{DiskFault, Disks};
 use verity_edit::{Committed, Editor};
-use verity_journal::{DiskFault, Disks, Keeper};
-use verity_line::LineEditor;
+use verity_journal::Keeper;
 use verity_stage::{StagedStore, commit_staged};
+use verity_trusted::LineEditor;
 
 /// Commits the pending edits of an editor over two staged stores, and brings them through the journal to the devices, which hold
 /// the stores below. The journal has these names of them.

@@ -1,8 +1,8 @@
 //! Why a commit failed.
 
 use thiserror::Error;
+use verity_disks::DiskFault;
 use verity_edit::EditFault;
-use verity_journal::DiskFault;
 
 /// Why a commit failed.
 #[derive(Clone, Copy, Debug, PartialEq, Eq, Error, Drop)]

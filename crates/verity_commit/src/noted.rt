@@ -1,19 +1,20 @@
 //! A commit of an editor through a journal, of which a notice is told before the devices change.
 ghost use Rattle.std.specs.Prelude.{◌≡◌, ◌≢◌, ◌⊎◌, ◌<◌, true, Err, IfErr, IfOk, OnOk};
 ghost use Rattle.std.specs.List.{concat};
-ghost use Rattle.verity_journal.specs.Disks.{LeavesOnly};
+ghost use Rattle.verity_disks.specs.Disks.{LeavesOnly};
 ghost use Rattle.verity_journal.specs.Journal.{pair_of, recovered_pair};
 ghost use Rattle.verity_edit.specs.Editing.{Commits, Stays};
-ghost use Rattle.verity_line.specs.Line.{CommitsUnder, editing_of};
+ghost use Rattle.verity_trusted.specs.Line.{CommitsUnder, editing_of};
 ghost use Rattle.verity_commit.specs.Committing.{Holds, IsOneOf};
 ghost use Rattle.verity_commit.specs.Noting.{ExplainsNoted, ExplainsNotedEdit, IsBefore, IsTold};
 
 use crate::notice::{NotedFault, Notice};
 use std::alloc::Global;
+use verity_disks::{DiskFault, Disks};
 use verity_edit::{Committed, Editor};
-use verity_journal::{DiskFault, Disks, Keeper};
-use verity_line::LineEditor;
+use verity_journal::Keeper;
 use verity_stage::{StagedStore, commit_staged};
+use verity_trusted::LineEditor;
 
 /// Commits as `commit_editor` does, and tells a notice of the commit once the editor has made it, before the first change of the devices.
 ///

@@ -5,7 +5,7 @@ ghost use Rattle.verity_store.specs.RawFile.{HasLength};
 ghost use Rattle.verity_journal.specs.Plan.{IsSide, changed, made};
 ghost use Rattle.verity_stage.specs.Stage.{bytes_below};
 ghost use Rattle.verity_edit.specs.Editing.{Commits, Stays};
-ghost use Rattle.verity_line.specs.Line.{CommitsUnder, editing_of};
+ghost use Rattle.verity_trusted.specs.Line.{CommitsUnder, editing_of};
 ghost use Rattle.verity_commit.specs.Noting.{ExplainsNoted, ExplainsNotedEdit, IsBefore, IsTold};
 
 use crate::notice::{NotedFault, Notice};
@@ -14,9 +14,9 @@ use std::io;
 use thiserror::Error;
 use verity_edit::{Committed, Editor};
 use verity_journal::Side;
-use verity_line::LineEditor;
 use verity_stage::StagedStore;
 use verity_store::{RawFile, Which};
+use verity_trusted::LineEditor;
 
 /// Why files weren't changed in place.
 #[derive(Clone, Copy, Debug, PartialEq, Eq, Error, Drop)]

@@ -3,10 +3,10 @@ ghost use Rattle.std.specs.Prelude.{◌≡◌, ◌+◌, ◌≤◌, length};
 ghost use Rattle.verity_digest.specs.Hash.{salted_digest};
 
 use crate::{Algorithm, Digest, Salt};
+use base_count::Count;
 use sha2::{Digest as HashFunction, Sha256, Sha512};
 use std::alloc::{Allocator, Global};
 use std::marker::Model;
-use verity_count::Count;
 
 mod many;
 

@@ -12,7 +12,7 @@
 //!
 //! Over any stores each reply of `answer` says what it means (`IsAnswered`), and `run` is the chain of such records.
 //!
-//! What an editor under a trusted table line (`verity_line`) shares with this one is public for it alone: how a superblock is read
+//! What an editor under a trusted table line (`verity_trusted`) shares with this one is public for it alone: how a superblock is read
 //! and fits its stores (`opening`), how room is made and a plan carried out (`committing`), commands and their replies.
 //!
 //! The errors are E1 to E12 of [`EditFault`]. A refused call changes nothing, but for a commit of which a store failed

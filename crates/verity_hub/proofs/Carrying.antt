@@ -9,7 +9,8 @@ use Rattle.nbd_hub.specs.Sessions.{HubState}
 use Rattle.nbd_hub.specs.After.{Given}
 use Rattle.nbd_hub.proofs.Steps.{Given-later}
 use Rattle.nbd_relay.specs.Clients.{Log}
-use Rattle.nbd_serve.specs.Sockets.{Visits, IsOfOne, IsTold, AreGivenBack}
+use Rattle.nbd_connection.specs.Connections.{Visits}
+use Rattle.nbd_serve.specs.Sockets.{IsOfOne, IsTold, AreGivenBack}
 use Rattle.verity_chain.specs.Right.{Fits}
 use Rattle.verity_check.specs.Verifier.{Verifying, IsOnlyReading, IsVerifier}
 use Rattle.verity_hub.specs.Verdicts.{facts_of, IsRightFor}

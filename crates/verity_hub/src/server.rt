@@ -11,7 +11,8 @@ ghost use Rattle.verity_hub.specs.Verdicts.{facts_of, IsRightFor};
 
 use crate::hub::Hub;
 use crate::notices::Notices;
-use nbd_serve::{Door, Stop};
+use nbd_connection::Door;
+use nbd_serve::Stop;
 use std::alloc::Global;
 use std::io::Write;
 use verity_store::BlockStore;

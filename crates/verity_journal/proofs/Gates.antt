@@ -5,8 +5,8 @@ use Rattle.std.proofs.lemmas.Bool.{cases_eq}
 use Rattle.std.proofs.lemmas.Bool.Decides.{nat_tests}
 use Rattle.std.proofs.lemmas.List.{length-append, take_all}
 use Rattle.verity_store.specs.RawFile.{overwritten}
-use Rattle.verity_journal.specs.declared.disks.Device.TheVariants.{Data, Hash, Journal}
-use Rattle.verity_journal.specs.Disks.{Contents, put, Torn, Reached, IsDurable}
+use Rattle.verity_disks.specs.declared.disks.Device.TheVariants.{Data, Hash, Journal}
+use Rattle.verity_disks.specs.Disks.{Contents, put, Torn, Reached, IsDurable}
 use Rattle.verity_journal.specs.Plan.{Plan, IsSide, IsSmall, Amid, made}
 use Rattle.verity_journal.specs.Journal.{spelled, read_plan, head, gated_plan, plan_of, Pair, made_pair, under, recovered, pair_of}
 use Rattle.verity_journal.specs.Journal.{recovered_pair, IsBegun, IsClosed}

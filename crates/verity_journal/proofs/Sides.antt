@@ -3,11 +3,11 @@ use Rattle.std.proofs.Common.{◌≡◌, ℕ, ◌<◌, ◌≤◌, List, [], leng
 use Rattle.std.proofs.Common.{zero, suc, ◌∷◌, arith}
 use Rattle.std.specs.Prelude.{All}
 use Rattle.verity_store.specs.RawFile.{with_length}
-use Rattle.verity_journal.specs.declared.disks.Device.{Device}
-use Rattle.verity_journal.specs.Disks.{Contents, put, Torn, Stretched, Reached, Follows}
+use Rattle.verity_disks.specs.declared.disks.Device.{Device}
+use Rattle.verity_disks.specs.Disks.{Contents, put, Torn, Stretched, Reached, Follows}
 use Rattle.verity_journal.specs.Plan.{Side, Amid, IsBelow, Fit, changed, made}
 use Rattle.verity_journal.proofs.Made.{amid_trans, amid_change, amid_stretched, amid_self}
-use Rattle.verity_journal.proofs.Moments.{reached_more, reached_self, put_here, put_twice}
+use Rattle.verity_disks.proofs.Moments.{reached_more, reached_self, put_here, put_twice}
 
 module _ (side : Side) (device : Device) (first : Contents → Type 0) where
   pub here_self : (c : Contents) → first c → Reached device (Amid side) first c

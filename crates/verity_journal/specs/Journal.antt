@@ -2,9 +2,9 @@
 use Rattle.std.specs.Prelude.{◌≡◌, ◌≢◌, ◌⊎◌, ℕ, zero, suc, ◌+◌, ◌<◌, ◌≤◌, List, [], ◌∷◌, ◌++◌, length, take, drop}
 use Rattle.std.specs.Prelude.{nat_le, ◌==◌, if◌then◌else◌, Option, None, Some}
 use Rattle.std.specs.Int.{w64, to_le_bytes, from_le_bytes}
-use Rattle.verity_journal.specs.Disks.{Contents, IsDurable}
+use Rattle.verity_disks.specs.Disks.{Contents, IsDurable}
 use Rattle.verity_journal.specs.Plan.{Side, Plan, made, IsSide}
-use Rattle.verity_journal.specs.declared.disks.Device.TheVariants.{Data, Hash, Journal}
+use Rattle.verity_disks.specs.declared.disks.Device.TheVariants.{Data, Hash, Journal}
 use Rattle.verity_journal.specs.declared.head.Gate.{Gate}
 use Rattle.verity_journal.specs.declared.head.Gate.TheVariants as gate
 

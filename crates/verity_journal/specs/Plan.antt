@@ -1,7 +1,7 @@
 -- What a commit is to change, and what it makes of a device's bytes.
 use Rattle.std.specs.Prelude.{◌≡◌, ◌⊎◌, ℕ, ◌+◌, ◌^◌, ◌<◌, ◌≤◌, List, [], ◌∷◌, length, get_or, Bool, true, false, ⊤}
 use Rattle.verity_store.specs.RawFile.{overwritten, with_length}
-use Rattle.verity_journal.specs.Disks.{Torn}
+use Rattle.verity_disks.specs.Disks.{Torn}
 
 -- the changes of one device: so many bytes are kept of it, it gets this length, and then these bytes at these places
 pub record Side : Type 0 where

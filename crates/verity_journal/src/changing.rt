@@ -1,11 +1,12 @@
 //! Calls on one device that end with a sync: a write, and the changes of a side.
 ghost use Rattle.std.specs.Prelude.{◌≡◌, ◌≤◌, ◌<◌, List, ℕ, length, OnOk, OnErr, IfErr};
 ghost use Rattle.verity_store.specs.RawFile.{overwritten};
-ghost use Rattle.verity_journal.specs.Disks.{put, Torn, Reached, Follows, Only, LeavesOnly};
+ghost use Rattle.verity_disks.specs.Disks.{put, Torn, Reached, Follows, Only, LeavesOnly};
 ghost use Rattle.verity_journal.specs.Plan.{IsSide, Amid, made, changed};
 
-use crate::{Device, DiskFault, Disks, Side};
+use crate::Side;
 use std::alloc::Allocator;
+use verity_disks::{Device, DiskFault, Disks};
 
 /// Writes and syncs: one write, one sync. A stop at any moment leaves the old bytes, the new ones, or these in part.
 pub fn write_synced<K: Disks>(

@@ -1,13 +1,14 @@
 //! A commit through the journal.
 ghost use Rattle.std.specs.Prelude.{◌≡◌, ◌≢◌, ◌≤◌, ◌<◌, ◌++◌, ◌+◌, ◌^◌, List, ℕ, [], ◌∷◌, length, Err, OnOk, OnErr, IfOk, IfErr};
-ghost use Rattle.verity_journal.specs.Disks.{put, Only, Stays, Elapses, LeavesOnly, IsDurable};
+ghost use Rattle.verity_disks.specs.Disks.{put, Only, Stays, Elapses, LeavesOnly, IsDurable};
 ghost use Rattle.verity_journal.specs.Plan.{IsSide, IsSmall, made, changed};
 ghost use Rattle.verity_journal.specs.Journal.{spelled, number, spelled_side, spelled_change, spelled_changes};
 ghost use Rattle.verity_journal.specs.Journal.{IsReady, IsSettled, IsOldOrNew, IsNew, Suits, pair_of, made_pair};
 
 use crate::changing::{make, write_synced};
-use crate::{Change, Device, DiskFault, Disks, Plan, Side};
+use crate::{Change, Plan, Side};
 use std::alloc::{AllocError, Allocator};
+use verity_disks::{Device, DiskFault, Disks};
 
 // A number, of eight bytes.
 #[tactic(auto, unfolding(crate::specs::Journal::number))]

@@ -1,13 +1,14 @@
 //! Commits of one volume, one after the other.
 ghost use Rattle.std.specs.Prelude.{◌≡◌, ◌⊎◌, ◌≤◌, ◌<◌, ◌↔◌, ◌++◌, [], ◌∷◌, true, false, take, Err, OnOk, IsOk};
-ghost use Rattle.verity_journal.specs.declared.disks.Device.TheVariants.{Journal};
-ghost use Rattle.verity_journal.specs.Disks.{IsDurable, LeavesOnly, Stays};
+ghost use Rattle.verity_disks.specs.declared.disks.Device.TheVariants.{Journal};
+ghost use Rattle.verity_disks.specs.Disks.{IsDurable, LeavesOnly, Stays};
 ghost use Rattle.verity_journal.specs.Journal.{head, IsJournal, IsOldOrNew, IsForeign, Suits, pair_of, made_pair, recovered_pair};
 
+use crate::Plan;
 use crate::journal::commit_through;
 use crate::recovering::start;
-use crate::{Device, DiskFault, Disks, Plan};
 use std::alloc::Allocator;
+use verity_disks::{Device, DiskFault, Disks};
 
 /// Three devices, and whether they are settled: all is on them and the gate is closed. So it is from a start to the first
 /// commit that fails.

@@ -7,47 +7,30 @@
 //!
 //! # The contract
 //!
-//! `specs/Disks.antt` says what a stop may leave of three devices under one clock: each write that wasn't synced may be
-//! there, or not, or torn at any byte, and each change of length may be there in part. Over every such [`Disks`]: a stop at any
+//! `verity_disks` says what a stop may leave of three devices under one clock. Over every such `Disks`: a stop at any
 //! moment of [`commit_through`] leaves devices that stand for the volume from before the call, or for the one with all
 //! changes, byte for byte (`IsOldOrNew`), and after `Ok` for the latter (`made`). A stop at any moment of [`recover`] changes
 //! nothing of that, so it may be stopped any number of times. `specs/Journal.antt` has the journal's bytes and what they stand
 //! for (`volume`), `specs/Plan.antt` what a plan makes of a device.
 //!
-//! [`FileDisks`] are three files. What is proved of them is said of devices beside the files: that a file of the system does what
-//! a call asks of it, and what a stop leaves of it, is trusted.
-//!
 //! # Errors
 //!
-//! [`DiskFault`]: a device failed; there was too little memory, and nothing was changed; the file is no journal, or not of
+//! `DiskFault`: a device failed; there was too little memory, and nothing was changed; the file is no journal, or not of
 //! this volume, and nothing was changed. After a failed device, [`start`] again.
 #![tactic(auto)]
 
 mod changing;
-mod disks;
-mod file_device;
-mod file_log;
-mod files;
 mod head;
 mod journal;
 mod keeper;
 pub mod laws;
-mod memory;
-mod past;
 mod plan;
 mod reading;
 mod recovering;
-mod tearing;
-mod three;
 
-pub use disks::{Device, DiskFault, Disks};
-pub use file_device::FileDevice;
-pub use files::FileDisks;
 pub use head::{GATE_END, Gate, gate_of};
 pub use journal::{commit_through, spell};
 pub use keeper::Keeper;
-pub use memory::TearingDisks;
 pub use plan::{Change, Plan, Side};
 pub use reading::parse_journal;
 pub use recovering::{recover, start};
-pub use tearing::{Step, TearingDevice};

@@ -1,15 +1,16 @@
 //! Recovery: what an open journal says is made again.
 ghost use Rattle.std.specs.Prelude.{◌≡◌, ◌≢◌, ◌⊎◌, ◌≤◌, ◌<◌, List, ℕ, [], ◌∷◌, length, Some, None, Err, OnOk, OnErr, IfOk, IfErr};
-ghost use Rattle.verity_journal.specs.declared.disks.Device.TheVariants.{Data, Hash, Journal};
-ghost use Rattle.verity_journal.specs.Disks.{Contents, put, Only, Stays, Elapses, LeavesOnly, IsDurable};
+ghost use Rattle.verity_disks.specs.declared.disks.Device.TheVariants.{Data, Hash, Journal};
+ghost use Rattle.verity_disks.specs.Disks.{Contents, put, Only, Stays, Elapses, LeavesOnly, IsDurable};
 ghost use Rattle.verity_journal.specs.Journal.{plan_of, IsJournal, IsSettled, IsForeign, pair_of, recovered_pair};
 
+use crate::Plan;
 use crate::changing::write_synced;
 use crate::head::{Gate, SHUT, gate_of};
 use crate::journal::carry_out;
 use crate::reading::parse_journal;
-use crate::{Device, DiskFault, Disks, Plan};
 use std::alloc::{AllocError, Allocator};
+use verity_disks::{Device, DiskFault, Disks};
 
 /// All bytes of a device.
 fn read_all<K: Disks, A: Allocator + Copy>(

@@ -2,8 +2,8 @@
 ghost use Rattle.std.specs.Prelude.{◌≡◌, ◌≤◌, ◌^◌};
 ghost use Rattle.verity_moved.specs.Moved.{moved_from};
 
+use base_count::Count;
 use std::marker::Model;
-use verity_count::Count;
 use verity_store::{BlockStore, StoreFault};
 
 /// A store over a hash device, to be read: its blocks from hash block `there` on, `count` of them at most, seen from hash block `here` on.

@@ -3,9 +3,9 @@ ghost use Rattle.std.specs.Prelude.{◌≡◌, ◌↔◌, IsTrue};
 ghost use Rattle.verity_portion.specs.Portion.{portion_of, AreShown, IsPortion};
 
 use crate::past::{Past, past_of};
+use base_count::Count;
 use std::marker::Model;
-use verity_count::Count;
-use verity_given::Given;
+use verity_read_log::Given;
 use verity_slice::Run;
 use verity_store::{BlockStore, StoreFault};
 

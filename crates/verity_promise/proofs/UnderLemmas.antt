@@ -17,7 +17,7 @@ use Rattle.verity_edit.specs.declared.command.Command.{Command}
 use Rattle.verity_edit.specs.declared.command.Reply.{Reply}
 use Rattle.verity_edit.specs.Edits.{unedited}
 use Rattle.verity_edit.specs.Editing.{FitsStores}
-use Rattle.verity_line.specs.Line.{LineEditing, IsOpenedUnder, IsLineOf, editing_of}
+use Rattle.verity_trusted.specs.Line.{LineEditing, IsOpenedUnder, IsLineOf, editing_of}
 use Rattle.verity_edit.specs.Planning.{volume_hashing}
 use Rattle.verity_check.specs.Verifier.{AreStoresOf}
 use Rattle.verity_promise.specs.declared.edited.Edited.{Edited}

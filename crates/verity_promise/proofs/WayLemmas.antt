@@ -25,9 +25,9 @@ use Rattle.verity_edit.specs.Draft.{Draft, block_at, edits_of, is_changed}
 use Rattle.verity_edit.specs.After.{step}
 use Rattle.verity_edit.specs.Edits.{Edits, unedited}
 use Rattle.verity_edit.specs.Editing.{Editing, FitsStores, Stays, fresh}
-use Rattle.verity_line.specs.Line.{LineEditing, CommitsUnder, ExplainsRefusalUnder, IsAnsweredUnder, IsLineOf, editing_of}
+use Rattle.verity_trusted.specs.Line.{LineEditing, CommitsUnder, ExplainsRefusalUnder, IsAnsweredUnder, IsLineOf, editing_of}
 use Rattle.verity_edit.specs.Running.{IsMade, IsRuled}
-use Rattle.verity_line.specs.Under.{line_given}
+use Rattle.verity_trusted.specs.Under.{line_given}
 use Rattle.verity_promise.specs.Under.{made, made_by, committed_by, line_for, ClashesOnTheWay, IsChainUnder}
 use Rattle.verity_promise.specs.OnTheWay.{IsAt, AreAnsweredUnder}
 

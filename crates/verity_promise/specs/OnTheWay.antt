@@ -9,7 +9,7 @@ use Rattle.verity_edit.specs.declared.command.Reply.{Reply}
 use Rattle.verity_edit.specs.Draft.{edits_of}
 use Rattle.verity_edit.specs.Edits.{Edits, unedited}
 use Rattle.verity_edit.specs.Editing.{Stays}
-use Rattle.verity_line.specs.Line.{LineEditing, editing_of}
+use Rattle.verity_trusted.specs.Line.{LineEditing, editing_of}
 use Rattle.verity_check.specs.Verifier.{AreStoresOf}
 use Rattle.verity_promise.specs.declared.edited.Edited.{Edited}
 use Rattle.verity_promise.specs.Under.{made, line_for, ClashesOnTheWay, IsChainUnder}

@@ -16,8 +16,8 @@ use Rattle.verity_edit.specs.After.{step}
 use Rattle.verity_edit.specs.Edits.{Edits, unedited}
 use Rattle.verity_edit.specs.Editing.{Stays}
 use Rattle.verity_edit.specs.Faults.{IsNotPassedOver}
-use Rattle.verity_line.specs.Line.{LineEditing, IsOpenedUnder, IsAnsweredUnder, ExplainsUnder, editing_of}
-use Rattle.verity_line.specs.Under.{line_given}
+use Rattle.verity_trusted.specs.Line.{LineEditing, IsOpenedUnder, IsAnsweredUnder, ExplainsUnder, editing_of}
+use Rattle.verity_trusted.specs.Under.{line_given}
 use Rattle.verity_check.specs.Verifier.{Verifying, AreStoresOf, IsOnlyReading}
 use Rattle.verity_check.specs.declared.fault.CheckFault.TheVariants.{NoMemory}
 use Rattle.verity_hub.specs.Verdicts.{SaysRight}

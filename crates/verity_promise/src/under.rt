@@ -12,9 +12,9 @@ use nbd_session::ExportName;
 use std::alloc::{AllocError, Allocator, Global};
 use verity_edit::{Command, OpenRefused, Reply};
 use verity_hub::{Input, Output, ServeFault};
-use verity_line::LineEditor;
 use verity_store::BlockStore;
 use verity_superblock::Table;
+use verity_trusted::LineEditor;
 
 /// Opens the volume of a trusted table line, does the commands in order with one reply each, and closes it. Nothing else that the
 /// stores hold is trusted.

@@ -1,8 +1,8 @@
 -- What a stop leaves of devices that are settled.
 use Rattle.std.proofs.Common.{◌≡◌, inl, ℕ, List, [], ◌∷◌, ◌++◌, take, drop, Option, None, Some, sym, ap, ◌∙◌}
 use Rattle.std.proofs.lemmas.List.{take-append-drop}
-use Rattle.verity_journal.specs.declared.disks.Device.TheVariants.{Data, Hash, Journal}
-use Rattle.verity_journal.specs.Disks.{Contents, IsDurable}
+use Rattle.verity_disks.specs.declared.disks.Device.TheVariants.{Data, Hash, Journal}
+use Rattle.verity_disks.specs.Disks.{Contents, IsDurable}
 use Rattle.verity_journal.specs.Plan.{Plan}
 use Rattle.verity_journal.specs.Journal.{head, IsOldOrNew, plan_of, under, pair_of}
 

@@ -1,13 +1,14 @@
 //! A commit of what is staged.
 ghost use Rattle.std.specs.Prelude.{◌≡◌, ◌≤◌, ◌<◌, true, false, ◌↔◌, Err, OnOk, IsOk};
 ghost use Rattle.std.specs.List.{concat};
-ghost use Rattle.verity_journal.specs.Disks.{LeavesOnly};
+ghost use Rattle.verity_disks.specs.Disks.{LeavesOnly};
 ghost use Rattle.verity_journal.specs.Journal.{IsOldOrNew, Suits, pair_of, made_pair};
 ghost use Rattle.verity_stage.specs.Stage.{bytes_below, plan_of};
 
 use crate::StagedStore;
 use std::alloc::Allocator;
-use verity_journal::{DiskFault, Disks, Keeper, Plan};
+use verity_disks::{DiskFault, Disks};
+use verity_journal::{Keeper, Plan};
 
 /// Makes of two devices, by one commit through their journal, what is staged over two stores. The journal has these names of them.
 ///

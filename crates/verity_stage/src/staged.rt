@@ -4,10 +4,10 @@ ghost use Rattle.verity_stage.specs.Stage.{staged, below_of};
 
 use crate::Stage;
 use crate::staged_store::StagedStore;
+use base_count::Count;
 use std::alloc::{AllocError, Allocator, Global};
-use verity_count::Count;
-use verity_given::Given;
 use verity_journal::Side;
+use verity_read_log::Given;
 use verity_store::{BlockStore, StoreFault};
 
 /// A store over another: what is written, and each change of length, is kept beside it.

@@ -7,13 +7,13 @@ ghost use Rattle.verity_store.specs.Given.{run_of};
 ghost use Rattle.verity_store.specs.RawFile.{HasLength, is_known, file_blocks, bound_by_file};
 
 use crate::{BlockStore, RawFile, StoreFault};
+use base_count::Count;
 use std::fs::{File, OpenOptions};
 use std::io;
 use std::io::ErrorKind;
 use std::rt::Files;
-use verity_count::Count;
-use verity_given::Given;
 use verity_profile::is_block_size;
+use verity_read_log::Given;
 
 /// A store whose blocks lie in a file, one after the other, from byte 0 on.
 ///

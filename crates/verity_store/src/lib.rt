@@ -26,9 +26,9 @@ mod raw_file;
 mod store;
 mod window;
 
+pub use base_bytes::HeldBytes as Block;
 pub use fault::{StoreFault, Which};
 pub use file::FileStore;
-pub use held_bytes::HeldBytes as Block;
 pub use memory::MemStore;
 pub use moves::move_run;
 pub use raw_file::RawFile;

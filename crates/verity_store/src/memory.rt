@@ -6,10 +6,10 @@ ghost use Rattle.verity_profile.specs.Profile.{IsBlockSize, zero_block};
 ghost use Rattle.verity_store.specs.Blocks.{cut};
 
 use crate::{BlockStore, StoreFault};
+use base_count::Count;
 use std::alloc::{Allocator, Global};
-use verity_count::Count;
-use verity_given::Given;
 use verity_profile::is_block_size;
+use verity_read_log::Given;
 
 /// A store whose blocks lie in memory, one after the other. It tells, and it never fails.
 #[derive(Drop)]

@@ -2,20 +2,21 @@
 //!
 //! The system's type is a deep one, so each is named in a function of its own that asks no more of what it is given than it needs.
 
+use cli_arguments::{PullWords, ServeWords, TalkWords, UpdateWords, VerifyWords};
+use cli_edit::update;
+use cli_faults::Failure;
 use cli_pull::pull_kept;
+use cli_serve::{
+    CountedReader, CountedWriter, serve_kept, talk_kept, verify_kept, verify_slice_kept,
+};
 use os_line_file::OsFolders;
-use os_system::{Network, Notes, OsSystem, patience};
+use os_system::{Network, OsSystem};
+use os_urls::{Notes, patience};
 use std::fs::File;
 use std::io::{Eprint, IsTerminal, Read, Write};
 use std::net::{Net, TcpListener, TcpStream};
 use std::rt::Files;
 use std::time::Clock;
-use verity_changes::update;
-use verity_files::Failure;
-use verity_serving::{
-    CountedReader, CountedWriter, serve_kept, talk_kept, verify_kept, verify_slice_kept,
-};
-use verity_words::{PullWords, ServeWords, TalkWords, UpdateWords, VerifyWords};
 
 /// `verify` over the real system.
 pub fn verify_anywhere<

@@ -7,23 +7,24 @@ use crate::anywhere::{
 use crate::told::Told;
 use clap::Error;
 use clap::error::ErrorKind;
+use cli_arguments::{
+    FormatWords, Request, explain, explain_block_size, explain_corrupt, explain_usage,
+    explain_words, read_words, table_file, to_file,
+};
 use cli_dump::dump;
+use cli_edit::{edit, scratch};
+use cli_faults::{DONE, Failure, NOT_UNDERSTOOD, REFUSED, Word};
+use cli_format::{format_join_kept, format_kept, format_slice};
 use cli_recover::recover;
+use cli_serve::fail;
+use os_host::Host;
 use os_line_file::OsFolders;
-use os_system::{Notes, check_here, is_url};
+use os_urls::{Notes, check_here, is_url};
 use std::fs::File;
 use std::io::{Eprint, IsTerminal, Read, Write};
 use std::net::{Net, TcpListener, TcpStream};
 use std::rt::Files;
 use std::time::Clock;
-use verity_changes::{edit, scratch};
-use verity_files::{DONE, Failure, Host, NOT_UNDERSTOOD, REFUSED, Word};
-use verity_format::{format_join_kept, format_kept, format_slice};
-use verity_serving::fail;
-use verity_words::{
-    FormatWords, Request, explain, explain_block_size, explain_corrupt, explain_usage,
-    explain_words, read_words, table_file, to_file,
-};
 
 /// Does what the words ask for, of which the first is the program's own name, and answers the status that the process
 /// ends with: 0 done; 1 refused, corrupt, or a fault of a file, a socket or the output; 2 words that were not

@@ -2,10 +2,10 @@
 
 ghost use Rattle.std.specs.Prelude.{◌≡◌};
 
+use cli_arguments::{explain_served, explain_words};
+use cli_faults::Failure;
 use std::io::{ErrorKind, Write};
 use std::{io, str};
-use verity_files::Failure;
-use verity_words::{explain_served, explain_words};
 
 /// How many bytes of a line are looked at. A line that names a fault has fewer.
 const MOST: usize = 64;

@@ -8,8 +8,8 @@ use Rattle.verity_chain.specs.Right.{Fits, Clash}
 use Rattle.verity_chain.specs.Stores.{hash_given}
 use Rattle.verity_edit.specs.declared.command.Committed.{Committed}
 use Rattle.verity_edit.specs.Draft.{edits_of, is_changed}
-use Rattle.verity_line.specs.Line.{CommitsUnder, LineEditing}
-use Rattle.verity_line.specs.Under.{line_given}
+use Rattle.verity_trusted.specs.Line.{CommitsUnder, LineEditing}
+use Rattle.verity_trusted.specs.Under.{line_given}
 use Rattle.verity_update.specs.Update.{Updates, line_of_new}
 
 pub line_is_of_new : {D H K N : Type 0} (on_data : store.Ghosts D) (hash : store.Ghosts H) (kept : store.Ghosts K) (news : store.Ghosts N)

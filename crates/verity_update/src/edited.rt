@@ -7,8 +7,8 @@ ghost use Rattle.verity_edit.specs.Edits.{grow_rule, shrink_rule, write_rule};
 
 use std::alloc::Allocator;
 use verity_edit::{EditFault, Editor};
-use verity_line::LineEditor;
 use verity_store::BlockStore;
+use verity_trusted::LineEditor;
 
 /// What an update edits: an editor, whichever way it was opened.
 pub trait Edited {

@@ -6,8 +6,8 @@ ghost use Rattle.verity_chain.specs.Right.{Fits, Clash};
 ghost use Rattle.verity_chain.specs.Stores.{hash_given};
 ghost use Rattle.verity_edit.specs.declared.command.Committed.{Committed};
 ghost use Rattle.verity_edit.specs.Draft.{edits_of, is_changed};
-ghost use Rattle.verity_line.specs.Line.{CommitsUnder, LineEditing};
-ghost use Rattle.verity_line.specs.Under.{line_given};
+ghost use Rattle.verity_trusted.specs.Line.{CommitsUnder, LineEditing};
+ghost use Rattle.verity_trusted.specs.Under.{line_given};
 ghost use Rattle.verity_update.specs.Update.{IsUpdateOf, Updates, line_of_new};
 
 use verity_store::BlockStore;

@@ -7,9 +7,9 @@ ghost use Rattle.verity_chain.specs.Stores.{hash_given, IsHashStoreOf};
 ghost use Rattle.verity_chain.specs.Notes.{noted, AreChecked, WereGiven, ExplainsUnread};
 ghost use Rattle.verity_update.specs.Walk.{NamesOther};
 
+use base_count::{Count, Mark};
 use std::alloc::Allocator;
 use verity_chain::{Noted, ReadRefused, Tree, fetch};
-use verity_count::{Count, Mark};
 use verity_digest::Digest;
 use verity_store::BlockStore;
 

@@ -13,9 +13,9 @@ ghost use Rattle.verity_update.specs.Walk.{Keeps, RefusesCount, Spares, Takes, T
 use crate::UpdateFault;
 use crate::edited::Edited;
 use crate::named::is_named;
+use base_count::Mark;
 use std::alloc::Allocator;
 use verity_chain::{Noted, ReadRefused, Tree};
-use verity_count::Mark;
 use verity_edit::EditFault;
 use verity_store::{BlockStore, Which};
 

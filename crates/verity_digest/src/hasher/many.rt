@@ -6,8 +6,8 @@ ghost use Rattle.verity_digest.specs.declared.algorithm.Algorithm.TheVariants.{S
 
 use super::Hasher;
 use crate::{Algorithm, Digest};
-use digest_lanes::{digest_eight, digest_four};
 use std::alloc::Allocator;
+use verity_digest_lanes::{digest_eight, digest_four};
 
 impl<A: Allocator> Hasher<A> {
     /// Writes the digests of blocks of `size` bytes, which stand one after the other: each is that of the salt followed by the

@@ -1,6 +1,6 @@
 use Rattle.std.proofs.Common.{◌≡◌, ℕ, rules, sym, subst, ◌∙◌}
 use Rattle.std.specs.Io.KnownBytes.{Appends}
-use Rattle.verity_volume.specs.Lines.{superblock_lines}
+use Rattle.cli_volume.specs.Lines.{superblock_lines}
 use Rattle.cli_dump.proofs.Printing.{blames_none, never_s1, where_done}
 use Rattle.cli_dump.proofs.dumping.dump.Goals as goal
 

@@ -1,8 +1,8 @@
 use Rattle.std.proofs.Common.{◌≡◌, ◌⊎◌, ◌<◌, ap, sym, subst, inl, inr, true, Ok, Option}
 use Rattle.std.proofs.lemmas.Result.{err_from_is_err_and}
 use Rattle.verity_superblock.specs.Line.{TableLine}
-use Rattle.verity_files.specs.Errors.{IsS1For}
-use Rattle.verity_files.specs.declared.failure.Failure.{Failure}
+use Rattle.cli_faults.specs.Errors.{IsS1For}
+use Rattle.cli_faults.specs.declared.failure.Failure.{Failure}
 use Rattle.cli_line_file.specs.Settling.{IsUnsettled, SettlesBy, StaysUnlessFailed}
 use Rattle.verity_line_file.specs.Standing.{Settles}
 use Rattle.cli_line_file.proofs.Asking.{AreRead, refused, seen, unseen}

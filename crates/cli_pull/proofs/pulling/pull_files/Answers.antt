@@ -1,6 +1,6 @@
 use Rattle.std.proofs.Common.{◌+◌, subst}
 use Rattle.verity_chain.specs.Table.{tree_len}
-use Rattle.verity_files.specs.declared.part.Part.TheVariants.{AtMost}
+use Rattle.os_files.specs.declared.part.Part.TheVariants.{AtMost}
 use Rattle.cli_pull.specs.Opening.{IsOpened}
 use Rattle.cli_pull.proofs.Results.{done_by}
 use Rattle.cli_pull.proofs.pulling.pull_files.Goals as goal

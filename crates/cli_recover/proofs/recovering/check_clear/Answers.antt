@@ -2,7 +2,7 @@ use Rattle.std.proofs.Common.{◌≡◌, sym, subst, refl, List, ℕ, Option}
 use Rattle.std.proofs.lemmas.Result.{on_ok_weaker}
 use Rattle.std.specs.Borrow.{Bor}
 use Rattle.std.specs.Prelude.{MatchOption, OnOk, ⊤}
-use Rattle.verity_files.specs.Reached.{BesideAt}
+use Rattle.os_files.specs.Reached.{BesideAt}
 use Rattle.cli_line_file.specs.Apart.{IsApart}
 use Rattle.cli_recover.specs.Recovered.{IsClearOf}
 use Rattle.cli_recover.proofs.recovering.check_clear.Goals as goal

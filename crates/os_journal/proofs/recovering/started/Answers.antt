@@ -1,6 +1,6 @@
 use Rattle.std.proofs.Common.{◌≡◌, length, rules, ap, sym, subst, ◌∙◌}
 use Rattle.verity_journal.specs.Journal.{IsJournal}
-use Rattle.verity_journal.specs.declared.disks.Device.TheVariants.{Data, Hash, Journal}
+use Rattle.verity_disks.specs.declared.disks.Device.TheVariants.{Data, Hash, Journal}
 use Rattle.os_journal.proofs.recovering.started.Goals as goal
 
 pub returns-in-Ok-clause-started : goal.returns-in-Ok-clause-started

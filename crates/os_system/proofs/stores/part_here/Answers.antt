@@ -1,10 +1,10 @@
 use Rattle.std.proofs.Common.{rules, ◌≡◌, ◌≢◌, ◌*◌, ◌/◌, ◌%◌, ◌<◌, ℕ, min, sym, subst, arith}
 use Rattle.verity_profile.specs.Profile.{IsBlockSize}
 use Rattle.verity_profile.proofs.Bounds.{block_size_low}
-use Rattle.verity_files.specs.Lengths.{IsLenOf}
-use Rattle.verity_files.specs.Parts.{HasAsked, IsRaggedPart}
-use Rattle.verity_files.specs.declared.part.Part.{Part}
-use Rattle.verity_files.proofs.Counts.{ragged}
+use Rattle.os_host.specs.Lengths.{IsLenOf}
+use Rattle.os_files.specs.Parts.{HasAsked, IsRaggedPart}
+use Rattle.os_files.specs.declared.part.Part.{Part}
+use Rattle.os_host.proofs.Counts.{ragged}
 use Rattle.os_system.proofs.Wholes.{asked}
 use Rattle.os_system.proofs.stores.part_here.Goals as goal
 

@@ -1,5 +1,5 @@
 use Rattle.std.proofs.Common.{◌≡◌, Err, inr, rules, ◌∙◌}
-use Rattle.verity_journal.specs.declared.disks.DiskFault.TheVariants as DiskFault
+use Rattle.verity_disks.specs.declared.disks.DiskFault.TheVariants as DiskFault
 use Rattle.verity_journal.specs.Journal.{pair_of, IsOldOrNew}
 use Rattle.verity_stage.specs.Stage.{plan_of}
 use Rattle.verity_commit.proofs.Commits.{held, makes, suits_here, one_of, weaker}

@@ -1,10 +1,10 @@
 use Rattle.std.proofs.Common.{◌≡◌, ◌<◌, ℕ, List, [], get_or, length, refl, ap, ◌∙◌, arith}
 use Rattle.std.proofs.lemmas.List.{get_or_read}
 use Rattle.verity_store.specs.RawFile.{overwritten}
-use Rattle.verity_journal.specs.Disks.{Reached}
+use Rattle.verity_disks.specs.Disks.{Reached}
 use Rattle.verity_journal.specs.Plan.{Amid}
 use Rattle.verity_journal.proofs.Made.{fits_at, changed_more, length-written}
-use Rattle.verity_journal.proofs.Moments.{started, goes_on, put_self}
+use Rattle.verity_disks.proofs.Moments.{started, goes_on, put_self}
 use Rattle.verity_journal.proofs.Sides.{here_self, change_crash, seen_here, seen_more}
 use Rattle.verity_journal.proofs.changing.change.Goals as goal
 

@@ -1,5 +1,5 @@
 use Rattle.std.proofs.Common.{◌≡◌, ◌≤◌, length, drop}
-use Rattle.verity_journal.specs.Disks.{Contents, put, Reached, LeavesOnly}
+use Rattle.verity_disks.specs.Disks.{Contents, put, Reached, LeavesOnly}
 use Rattle.verity_journal.specs.Plan.{Amid, changed}
 use Rattle.verity_journal.proofs.changing.change.Given as goal
 

@@ -1,8 +1,8 @@
 use Rattle.std.proofs.Common.{arith}
-use Rattle.verity_journal.specs.Disks.{Contents, Reached}
+use Rattle.verity_disks.specs.Disks.{Contents, Reached}
 use Rattle.verity_journal.specs.Plan.{Amid}
 use Rattle.verity_journal.proofs.Made.{amid_trans}
-use Rattle.verity_journal.proofs.Moments.{started, goes_on, joined, reached_more}
+use Rattle.verity_disks.proofs.Moments.{started, goes_on, joined, reached_more}
 use Rattle.verity_journal.proofs.Sides.{here_self, stretch_crash, amid_crash}
 use Rattle.verity_journal.proofs.changing.make.Goals as goal
 

@@ -1,10 +1,10 @@
 use Rattle.std.proofs.Common.{◌≡◌, ap, ◌∙◌, subst}
-use Rattle.verity_journal.specs.declared.disks.Device.TheVariants.{Data, Hash, Journal}
-use Rattle.verity_journal.specs.Disks.{Contents, put, Torn, Reached}
+use Rattle.verity_disks.specs.declared.disks.Device.TheVariants.{Data, Hash, Journal}
+use Rattle.verity_disks.specs.Disks.{Contents, put, Torn, Reached}
 use Rattle.verity_journal.specs.Plan.{Side, Amid, made}
 use Rattle.verity_journal.specs.Journal.{pair_of, IsNew}
 use Rattle.verity_journal.proofs.Made.{amid_self}
-use Rattle.verity_journal.proofs.Moments.{started, joined, durable_after, reached_self}
+use Rattle.verity_disks.proofs.Moments.{started, joined, durable_after, reached_self}
 use Rattle.verity_journal.proofs.Gates.{gate_written, data_is_new, hash_is_new, still_gated, close_is_new}
 use Rattle.verity_journal.proofs.journal.carry_out.Goals as goal
 

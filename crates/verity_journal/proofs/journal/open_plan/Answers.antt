@@ -1,8 +1,8 @@
 use Rattle.std.proofs.Common.{◌≡◌, length, ap, ◌∙◌, subst, arith}
-use Rattle.verity_journal.specs.declared.disks.Device.TheVariants.{Journal}
-use Rattle.verity_journal.specs.Disks.{Contents, Torn, Reached}
+use Rattle.verity_disks.specs.declared.disks.Device.TheVariants.{Journal}
+use Rattle.verity_disks.specs.Disks.{Contents, Torn, Reached}
 use Rattle.verity_journal.specs.Journal.{pair_of, IsGated, IsOldOrNew}
-use Rattle.verity_journal.proofs.Moments.{started, joined, durable_after, reached_self, torn_self}
+use Rattle.verity_disks.proofs.Moments.{started, joined, durable_after, reached_self, torn_self}
 use Rattle.verity_journal.proofs.Gates.{staged, gate_written, behind_is_old, gate_is_one}
 use Rattle.verity_journal.proofs.journal.open_plan.Goals as goal
 

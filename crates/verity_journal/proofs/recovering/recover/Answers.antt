@@ -1,6 +1,6 @@
 use Rattle.std.proofs.Common.{rules, inr, subst, OnOk}
-use Rattle.verity_journal.specs.declared.disks.Device.TheVariants.{Journal}
-use Rattle.verity_journal.specs.Disks.{Contents}
+use Rattle.verity_disks.specs.declared.disks.Device.TheVariants.{Journal}
+use Rattle.verity_disks.specs.Disks.{Contents}
 use Rattle.verity_journal.specs.Journal.{IsJournal}
 use Rattle.verity_journal.proofs.recovering.recover.Goals as goal
 

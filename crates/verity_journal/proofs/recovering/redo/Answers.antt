@@ -1,7 +1,7 @@
 use Rattle.std.proofs.Common.{◌≡◌, ◌∙◌}
-use Rattle.verity_journal.specs.Disks.{Contents}
+use Rattle.verity_disks.specs.Disks.{Contents}
 use Rattle.verity_journal.specs.Journal.{recovered_pair}
-use Rattle.verity_journal.proofs.Moments.{started, joined}
+use Rattle.verity_disks.proofs.Moments.{started, joined}
 use Rattle.verity_journal.proofs.Gates.{is_ready, does_suit, is_volume, same_volume}
 use Rattle.verity_journal.proofs.recovering.redo.Goals as goal
 

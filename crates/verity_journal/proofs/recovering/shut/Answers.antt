@@ -1,8 +1,8 @@
 use Rattle.std.proofs.Common.{◌≡◌, ap, ◌∙◌, subst}
-use Rattle.verity_journal.specs.declared.disks.Device.TheVariants.{Journal}
-use Rattle.verity_journal.specs.Disks.{Contents, Torn}
+use Rattle.verity_disks.specs.declared.disks.Device.TheVariants.{Journal}
+use Rattle.verity_disks.specs.Disks.{Contents, Torn}
 use Rattle.verity_journal.specs.Journal.{recovered_pair, IsBegun}
-use Rattle.verity_journal.proofs.Moments.{durable_after, joined, started}
+use Rattle.verity_disks.proofs.Moments.{durable_after, joined, started}
 use Rattle.verity_journal.proofs.Gates.{closes, same_volume, shutting}
 use Rattle.verity_journal.proofs.recovering.shut.Goals as goal
 

@@ -1,8 +1,8 @@
 use Rattle.std.proofs.Common.{rules, ap, ◌∙◌, subst}
-use Rattle.verity_journal.specs.declared.disks.Device.TheVariants.{Journal}
-use Rattle.verity_journal.specs.Disks.{Contents}
+use Rattle.verity_disks.specs.declared.disks.Device.TheVariants.{Journal}
+use Rattle.verity_disks.specs.Disks.{Contents}
 use Rattle.verity_journal.specs.Journal.{recovered_pair, IsForeign, IsJournal}
-use Rattle.verity_journal.proofs.Moments.{synced}
+use Rattle.verity_disks.proofs.Moments.{synced}
 use Rattle.verity_journal.proofs.recovering.start.Goals as goal
 
 pub recover-requires : goal.recover-requires

@@ -1,5 +1,5 @@
 use Rattle.std.proofs.Common.{◌≡◌, ◌<◌, ◌+◌, ◌-◌, length, vec_len, ap, ◌∙◌, length-append, refl, arith, rules}
-use Rattle.verity_line.specs.Line.{LineEditing, IsOpenedUnder}
+use Rattle.verity_trusted.specs.Line.{LineEditing, IsOpenedUnder}
 use Rattle.verity_promise.specs.OnTheWay.{AreAnsweredUnder, IsClosedUnder}
 use Rattle.verity_promise.proofs.Closed.{on_ok, on_err}
 use Rattle.verity_promise.proofs.UnderLemmas.{edited_under}

@@ -1,6 +1,7 @@
 use Rattle.std.proofs.Common.{◌≡◌, ◌+◌, List, length}
 use Rattle.nbd_serve.specs.Serving.{GoesOn}
-use Rattle.nbd_serve.specs.Sockets.{AreKept, Visits}
+use Rattle.nbd_connection.specs.Connections.{Visits}
+use Rattle.nbd_serve.specs.Sockets.{AreKept}
 use Rattle.nbd_serve.proofs.connected.Connected.give_back.Given as goal
 
 abbrev pub invariant-each : goal.invariant-each

@@ -1,6 +1,7 @@
 use Rattle.std.proofs.Common.{◌≡◌, ◌+◌, ℕ, length}
 use Rattle.nbd_hub.specs.Sessions.{HubState}
-use Rattle.nbd_serve.specs.Sockets.{AreTold, Visits}
+use Rattle.nbd_connection.specs.Connections.{Visits}
+use Rattle.nbd_serve.specs.Sockets.{AreTold}
 use Rattle.nbd_serve.proofs.partings.Partings.give_back.Given as goal
 
 abbrev pub invariant-each : goal.invariant-each

@@ -1,7 +1,8 @@
 use Rattle.std.proofs.Common.{◌≡◌}
 use Rattle.nbd_serve.specs.Lines.{standing, Tells}
 use Rattle.nbd_serve.specs.Serving.{GoesOn}
-use Rattle.nbd_serve.specs.Sockets.{AreKept, Visits}
+use Rattle.nbd_connection.specs.Connections.{Visits}
+use Rattle.nbd_serve.specs.Sockets.{AreKept}
 use Rattle.nbd_serve.proofs.room.Room.leave_idle.Given as goal
 
 abbrev pub invariant-loop : goal.invariant-loop

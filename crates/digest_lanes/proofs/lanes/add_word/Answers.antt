@@ -1,5 +1,0 @@
-use Rattle.digest_lanes.proofs.Rounds.{splat_at}
-use Rattle.digest_lanes.proofs.lanes.add_word.Goals as goal
-
-pub returns : goal.returns
-returns c j h = splat_at _ c.args.a 8 j c.args.k c.fits-a.0 h

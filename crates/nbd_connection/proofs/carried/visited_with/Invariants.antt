@@ -1,0 +1,4 @@
+use Rattle.nbd_connection.proofs.carried.visited_with.Given as goal
+
+abbrev pub ghost-visited_at : goal.ghost-visited_at
+ghost-visited_at g a = g.visits

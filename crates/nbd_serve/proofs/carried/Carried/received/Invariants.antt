@@ -1,5 +1,0 @@
-use Rattle.std.proofs.Common.{◌++◌, take}
-use Rattle.nbd_serve.proofs.carried.Carried.received.Given as goal
-
-abbrev pub ghost-carried_after : goal.ghost-carried_after
-ghost-carried_after a = record { read = a._carried.now.log.read ++ take a._count a._bytes.now; wrote = a._carried.now.log.wrote }

@@ -1,0 +1,4 @@
+pub mod Identities
+pub mod Parts
+pub mod Reached
+pub mod VolumeFiles

@@ -1,0 +1,3 @@
+pub mod Lengths
+pub mod Locks
+pub mod Parts

@@ -1,3 +1,0 @@
-mod Leaving
-mod Scratching
-mod Zeros

@@ -1,4 +1,0 @@
-use Rattle.verity_count.proofs.Count.new.Given as goal
-
-abbrev pub ghost-count_at : goal.ghost-count_at
-ghost-count_at a = 0

@@ -1,0 +1,5 @@
+use Rattle.verity_digest_lanes.proofs.Rounds.{splat_at}
+use Rattle.verity_digest_lanes.proofs.lanes.add_word.Goals as goal
+
+pub returns : goal.returns
+returns c j h = splat_at _ c.args.a 8 j c.args.k c.fits-a.0 h

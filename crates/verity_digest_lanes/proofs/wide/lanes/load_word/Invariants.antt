@@ -1,0 +1,6 @@
+use Rattle.std.proofs.Common.{◌≡◌, ℕ, ◌+◌, ◌*◌, ◌<◌, length, slice_index}
+use Rattle.sha2.specs.Sha512.{word_at}
+use Rattle.verity_digest_lanes.proofs.wide.lanes.load_word.Given as goal
+
+abbrev pub invariant-lanes : goal.invariant-lanes
+invariant-lanes l = (length l.lanes ≡ 4) × ((k : ℕ) → k < l.j → slice_index l.lanes k ≡ word_at l.bytes (k * l.stride + l.offset))

@@ -1,0 +1,5 @@
+use Rattle.verity_digest_lanes.proofs.Rounds.{splat_at}
+use Rattle.verity_digest_lanes.proofs.wide.lanes.shift_right.Goals as goal
+
+pub returns : goal.returns
+returns c j h = splat_at _ c.args.x 4 j c.args.k c.fits-x.0 h

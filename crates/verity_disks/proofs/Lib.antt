@@ -1,0 +1,5 @@
+pub mod FileLemmas
+pub mod Moments
+pub mod Parts
+pub mod Tears
+pub mod Zeros

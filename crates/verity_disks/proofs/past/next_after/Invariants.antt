@@ -1,0 +1,4 @@
+use Rattle.verity_disks.proofs.past.next_after.Given as goal
+
+abbrev pub ghost-past_of : goal.ghost-past_of
+ghost-past_of g a = g.moments

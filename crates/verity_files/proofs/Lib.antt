@@ -1,4 +1,0 @@
-pub mod Decimals
-pub mod Uuids
-pub mod Whole
-pub mod Counts

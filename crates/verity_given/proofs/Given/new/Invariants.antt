@@ -1,5 +1,0 @@
-use Rattle.std.proofs.Common.{[]}
-use Rattle.verity_given.proofs.Given.new.Given as goal
-
-abbrev pub ghost-given_at : goal.ghost-given_at
-ghost-given_at a = []

@@ -1,5 +1,0 @@
-use Rattle.verity_journal.specs.Tearing.{resized, stepped}
-use Rattle.verity_journal.proofs.file_log.FileLog.after_resize.Given as goal
-
-abbrev pub ghost-after_step : goal.ghost-after_step
-ghost-after_step a = stepped (resized a._at) a._log.now.kept

@@ -1,5 +1,0 @@
-use Rattle.verity_journal.specs.Tearing.{kept_whole}
-use Rattle.verity_journal.proofs.file_log.FileLog.after_sync.Given as goal
-
-abbrev pub ghost-after_step : goal.ghost-after_step
-ghost-after_step a = kept_whole a._log.now.kept

@@ -1,4 +1,0 @@
-use Rattle.verity_journal.proofs.file_log.FileLog.begun.Given as goal
-
-abbrev pub ghost-log_of : goal.ghost-log_of
-ghost-log_of g a = g.kept

@@ -1,4 +1,0 @@
-use Rattle.verity_journal.proofs.past.next_after.Given as goal
-
-abbrev pub ghost-past_of : goal.ghost-past_of
-ghost-past_of g a = g.moments

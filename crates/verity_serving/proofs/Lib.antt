@@ -1,6 +1,0 @@
-mod Blaming
-mod Refusing
-mod Reporting
-mod Talks
-mod SliceReporting
-mod Keeping

@@ -1,7 +1,0 @@
-use Rattle.verity_serving.proofs.SliceReporting.{found}
-use Rattle.verity_serving.proofs.slicing.report_of_slice.Goals as goal
-
-pub returns-clause-found : goal.returns-clause-found
-returns-clause-found g c = found _ _ _ _ _ _ _ c.checked_slice-report.result c.in_ok-table.table c.new-watched.result
-    c.in_ok-data_store.hash_store c.in_ok-table.ensures.line
-    (rw c.new-watched.ensures c.in_ok-data_store.ensures.data, c.in_ok-data_store.ensures.hash) c.checked_slice-report.ensures.reported

@@ -1,3 +1,0 @@
-mod Apart
-mod Doing
-mod Keeping

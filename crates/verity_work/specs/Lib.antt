@@ -1,3 +1,0 @@
-pub mod Journals
-pub mod LineFiles
-pub mod Work
