@@ -32,6 +32,15 @@ pub(crate) struct Given {
     pub(crate) hash: Opened,
 }
 
+/// The stores of a volume that isn't opened yet: under a table line, or, where none is trusted, by the superblock at an offset of HASH.
+#[derive(Drop)]
+struct Unopened<D, H> {
+    line: Option<Table>,
+    data_store: D,
+    hash_store: H,
+    offset: u64,
+}
+
 /// Works on the files themselves.
 pub(crate) fn do_in_place<R: Paths + Clock + Eprint + AllocGlobal, T: Work, W: Write, E: Write>(
     rt: &R,
@@ -75,18 +84,13 @@ fn run_in_place<R: Paths + Clock + Eprint + AllocGlobal, T: Work, W: Write, E: W
     let is_watched = words.is_watched && line.is_none();
     let progress = progress_of(rt, is_watched, &volume.data_store);
     let data_store = Watched::new(volume.data_store, progress.as_ref());
-    run_opened(
-        rt,
-        work,
+    let unopened = Unopened {
         line,
         data_store,
-        volume.hash_store,
-        words.offset,
-        progress.as_ref(),
-        rest,
-        output,
-        errors,
-    )
+        hash_store: volume.hash_store,
+        offset: words.offset,
+    };
+    run_opened(rt, work, unopened, progress.as_ref(), rest, output, errors)
 }
 
 /// Opens two stores under a table line, or reads them whole, and does the work. The meter's line is cleared in between.
@@ -100,10 +104,7 @@ fn run_opened<
 >(
     rt: &R,
     work: &mut T,
-    line: Option<Table>,
-    data_store: D,
-    hash_store: H,
-    offset: u64,
+    unopened: Unopened<D, H>,
     progress: Option<&Progress<'_, R>>,
     rest: Rest<'_>,
     output: &mut W,
@@ -115,6 +116,12 @@ fn run_opened<
     ensures blames { IfErr result BlamesNone }
     ensures system { IfErr result (IsS1For ((R.refuses rt.now ≡ true) ⊎ T.fails work.old)) }
 {
+    let Unopened {
+        line,
+        data_store,
+        hash_store,
+        offset,
+    } = unopened;
     match line {
         Some(table) => {
             let opened = open_under(rt.alloc(), data_store, hash_store, table);
@@ -194,13 +201,16 @@ fn run_through<R: Paths + Clock + Eprint + AllocGlobal, F: LineFolder, T: Work, 
     let is_watched = words.is_watched && line.is_none();
     let progress = progress_of(rt, is_watched, &volume.data_store);
     let data_store = Watched::new(volume.data_store, progress.as_ref());
+    let unopened = Unopened {
+        line,
+        data_store,
+        hash_store: volume.hash_store,
+        offset: words.offset,
+    };
     run_over(
         rt,
         work,
-        line,
-        data_store,
-        volume.hash_store,
-        words.offset,
+        unopened,
         progress.as_ref(),
         commits,
         rest,
@@ -221,10 +231,7 @@ fn run_over<
 >(
     rt: &R,
     work: &mut T,
-    line: Option<Table>,
-    data_store: D,
-    hash_store: H,
-    offset: u64,
+    unopened: Unopened<D, H>,
     progress: Option<&Progress<'_, R>>,
     commits: &mut StagedCommits<'_, R, F>,
     rest: Rest<'_>,
@@ -243,11 +250,15 @@ fn run_over<
     ensures system { IfErr result (IsS1For (((R.refuses rt.now ≡ true) ⊎ T.fails work.old)
         ⊎ LineFails F.LineFolder commits.old.line)) }
 {
-    let data = staged(rt.alloc(), data_store, Which::Data)?;
-    let hash = staged(rt.alloc(), hash_store, Which::Hash)?;
-    run_staged(
-        rt, work, line, data, hash, offset, progress, commits, rest, output, errors,
-    )
+    let data = staged(rt.alloc(), unopened.data_store, Which::Data)?;
+    let hash = staged(rt.alloc(), unopened.hash_store, Which::Hash)?;
+    let over = Unopened {
+        line: unopened.line,
+        data_store: data,
+        hash_store: hash,
+        offset: unopened.offset,
+    };
+    run_staged(rt, work, over, progress, commits, rest, output, errors)
 }
 
 /// A store over which nothing is staged yet. E6 of this store where it has more than 2^41 blocks.
@@ -272,10 +283,7 @@ fn run_staged<
 >(
     rt: &R,
     work: &mut T,
-    line: Option<Table>,
-    data_store: D,
-    hash_store: H,
-    offset: u64,
+    unopened: Unopened<D, H>,
     progress: Option<&Progress<'_, R>>,
     commits: &mut StagedCommits<'_, R, F>,
     rest: Rest<'_>,
@@ -294,6 +302,12 @@ fn run_staged<
     ensures system { IfErr result (IsS1For (((R.refuses rt.now ≡ true) ⊎ T.fails work.old)
         ⊎ LineFails F.LineFolder commits.old.line)) }
 {
+    let Unopened {
+        line,
+        data_store,
+        hash_store,
+        offset,
+    } = unopened;
     match line {
         Some(table) => {
             let opened = open_under(rt.alloc(), data_store, hash_store, table);
