@@ -7,6 +7,7 @@ pub mod RangeLemmas
 pub mod RangeRuns
 pub mod PartLemmas
 pub mod VerifierLemmas
+mod ReadyLemmas
 pub mod HoldsLaws
 pub mod ReportLaws
 mod WarmLemmas

@@ -1,5 +1,5 @@
 -- Data blocks here and there that were read, hashed and compared.
-use Rattle.std.proofs.Common.{true, ◌≡◌, ◌≤◌, ℕ, List, [], length, get_or, sym, ap, ◌∙◌}
+use Rattle.std.proofs.Common.{true, ◌≡◌, ℕ, List, [], length, get_or, sym, ap, ◌∙◌}
 use Rattle.verity_store.specs.Given.{GaveSince}
 use Rattle.verity_store.specs.Stores.{IsOnlyRead}
 use Rattle.verity_store.specs.declared.store.BlockStore as store

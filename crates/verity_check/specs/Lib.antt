@@ -4,5 +4,6 @@ pub mod Cache
 pub mod Refusal
 pub mod Run
 pub mod Verifier
+pub mod Walk
 pub mod Holds
 pub mod Reported

@@ -19,7 +19,8 @@
 //!
 //! The tree of a table line, chains of given blocks, the image's own blocks and clashes are defined in `verity_chain`, below, and what
 //! a report finds and lists in `verity_report`. The other definitions stand in `specs/`: `Range` (ranges of bytes), `Refusal` (why a
-//! read is refused), `Holds` (stores that hold an image), `Verifier` (what contracts see of one); `Cache` has the invariants of the caches.
+//! read is refused), `Holds` (stores that hold an image), `Verifier` (what contracts see of one), `Walk` (what its walks go through, and
+//! what is true of that between them); `Cache` has what is true of the caches.
 #![tactic(auto)]
 
 mod cache;

@@ -4,21 +4,17 @@ ghost use Rattle.std.specs.Fork.{slice_chunk};
 ghost use Rattle.verity_store.specs.Blocks.{cut};
 ghost use Rattle.verity_store.specs.Given.{GaveSince};
 ghost use Rattle.verity_store.specs.Stores.{IsOnlyRead};
-ghost use Rattle.verity_chain.specs.Table.{IsTable, height};
+ghost use Rattle.verity_chain.specs.Table.{height};
 ghost use Rattle.verity_chain.specs.Chain.{Names};
 ghost use Rattle.verity_check.specs.Range.{Served};
-ghost use Rattle.verity_chain.specs.Stores.{hash_given, IsHashStoreOf};
-ghost use Rattle.verity_report.specs.Stores.{given_in, IsDataStoreOf};
-ghost use Rattle.verity_check.specs.Cache.{IsChained};
 ghost use Rattle.verity_check.specs.Refusal.{Explains, RefusesOneOf};
 ghost use Rattle.verity_check.specs.Run.{IsCompared};
+ghost use Rattle.verity_check.specs.Verifier.{given_to, hash_given_to, IsOnlyReading, DataFailed, HashFailed};
+ghost use Rattle.verity_check.specs.Walk.{state, IsReady};
 
-use crate::cache::Cache;
-use crate::since::Since;
-use crate::walk::name;
+use crate::walk::Walk;
 use crate::{CheckFault, Place};
 use std::alloc::Allocator;
-use verity_chain::Tree;
 use verity_digest::Digest;
 use verity_report::agreeing;
 use verity_store::{BlockStore, Which};
@@ -73,54 +69,6 @@ fn read_together<S: BlockStore>(store: &mut S, first: u64, count: usize, out: &m
     }
 }
 
-/// The digests that the checked blocks above the data blocks from `n` on name for these: how many, and the fault that ended
-/// it, if one did.
-fn name_run<H: BlockStore, A: Allocator + Copy + Drop>(
-    tree: &mut Tree<A>,
-    hash_store: &mut H,
-    hash_block: &mut [u8],
-    cache: &mut Cache<A>,
-    alloc: A,
-    since: &Since,
-    n: u64,
-    names: &mut [Digest],
-) -> (usize, Option<CheckFault>)
-    requires allowed { IsTable tree.old }
-    requires store { IsHashStoreOf H.BlockStore tree.old hash_store.old }
-    requires whole { length hash_block.old ≡ tree.old.hash_block_size }
-    requires since { since.now.of_hash ≤ length (H.given hash_store.old) }
-    requires chained { IsChained tree.old (hash_given H.BlockStore tree.old since.now.of_hash hash_store.old) cache.old }
-    requires below { n + length names.old ≤ tree.old.data_blocks }
-    ensures most { result.0 ≤ length names.old }
-    ensures named { (j : ℕ) → j < result.0
-        → Names tree.old (hash_given H.BlockStore tree.old since.now.of_hash hash_store.new) 0 (n + j) (slice_index_or names.new j []) }
-    ensures all { result.1 ≡ None → result.0 ≡ length names.old }
-    ensures short { IfSome result.1 (λ fault. result.0 < length names.old) }
-    ensures err { IfSome result.1 (Explains tree.old (hash_given H.BlockStore tree.old since.now.of_hash hash_store.new) ⊥
-        (H.failures hash_store.old < H.failures hash_store.new) (n + result.0)) }
-    ensures memory { IfSome result.1 (λ fault. fault ≢ CheckFault.NoMemory) }
-    ensures chained { IsChained tree.old (hash_given H.BlockStore tree.old since.now.of_hash hash_store.new) cache.new }
-    ensures keeps { IsOnlyRead H.BlockStore hash_store.old hash_store.new }
-    ensures reads { H.reads hash_store.new ≤ H.reads hash_store.old + length names.old * height tree.old }
-    ensures same { tree.new ≡ tree.old }
-{
-    'each: for j in 0..names.len() {
-        match name(
-            tree,
-            hash_store,
-            hash_block,
-            cache,
-            alloc,
-            since,
-            n + j as u64,
-        ) {
-            Ok(digest) => names[j] = digest,
-            Err(fault) => return (j, Some(fault)),
-        }
-    }
-    (names.len(), None)
-}
-
 /// How far a run of data blocks came: for how many a digest is named, how many of these were read, which is all or none, how many of those
 /// are the ones that are named, up to the first that isn't, and the fault that ended the names, if one did.
 struct Compared {
@@ -130,110 +78,109 @@ struct Compared {
     unnamed: Option<CheckFault>,
 }
 
-/// Reads the data blocks from `n` on into `run`, which has the bytes of `count`, up to the first that has no name, by one call of the
-/// store, hashes them side by side, and compares each with the digest that its path names.
-fn compare_run<D: BlockStore, H: BlockStore, A: Allocator + Copy + Drop>(
-    tree: &mut Tree<A>,
-    data_store: &mut D,
-    hash_store: &mut H,
-    hash_block: &mut [u8],
-    run: &mut [u8],
-    cache: &mut Cache<A>,
-    alloc: A,
-    since: &Since,
-    n: u64,
-    count: usize,
-) -> Compared
-    requires allowed { IsTable tree.old }
-    requires data_store { IsDataStoreOf D.BlockStore tree.old data_store.old }
-    requires hash_store { IsHashStoreOf H.BlockStore tree.old hash_store.old }
-    requires few { count ≤ 128 }
-    requires run_whole { length run.old ≡ count * tree.old.data_block_size }
-    requires hash_whole { length hash_block.old ≡ tree.old.hash_block_size }
-    requires data_since { since.now.of_data ≤ length (D.given data_store.old) }
-    requires hash_since { since.now.of_hash ≤ length (H.given hash_store.old) }
-    requires chained { IsChained tree.old (hash_given H.BlockStore tree.old since.now.of_hash hash_store.old) cache.old }
-    requires below { n + count ≤ tree.old.data_blocks }
-    ensures compared { IsCompared tree.old (given_in D.BlockStore H.BlockStore tree.old since.now data_store.new hash_store.new)
-        (D.failures data_store.old < D.failures data_store.new) (H.failures hash_store.old < H.failures hash_store.new) n count run.new
-        result.named result.read result.good result.unnamed }
-    ensures chained { IsChained tree.old (hash_given H.BlockStore tree.old since.now.of_hash hash_store.new) cache.new }
-    ensures data_keeps { IsOnlyRead D.BlockStore data_store.old data_store.new }
-    ensures hash_keeps { IsOnlyRead H.BlockStore hash_store.old hash_store.new }
-    ensures data_reads { D.reads data_store.new ≤ D.reads data_store.old + count }
-    ensures hash_reads { H.reads hash_store.new ≤ H.reads hash_store.old + count * height tree.old }
-    ensures same { tree.new ≡ tree.old }
-{
-    let mut room_for_names = [tree.root(); TOGETHER];
-    let names = &mut room_for_names[..count];
-    let (named, unnamed) = name_run(tree, hash_store, hash_block, cache, alloc, since, n, names);
-    let size = tree.table().data_block_size();
-    let read = read_together(data_store, n, named, &mut run[..named * size]);
-    let mut room_for_digests = [tree.root(); TOGETHER];
-    let digests = &mut room_for_digests[..read];
-    tree.digest_run(&run[..read * size], size, digests);
-    let good = agreeing(digests, names);
-    Compared {
-        named,
-        read,
-        good,
-        unnamed,
+impl<D: BlockStore, H: BlockStore, A: Allocator + Copy + Drop> Walk<D, H, A> {
+    /// The digests that the checked blocks above the data blocks from `n` on name for these: how many, and the fault that ended
+    /// it, if one did.
+    fn name_run(&mut self, n: u64, names: &mut [Digest]) -> (usize, Option<CheckFault>)
+        requires ready { IsReady D.BlockStore H.BlockStore self.old }
+        requires below { n + length names.old ≤ self.old.tree.data_blocks }
+        ensures most { result.0 ≤ length names.old }
+        ensures named { (j : ℕ) → j < result.0 → Names self.new.tree (hash_given_to D.BlockStore H.BlockStore (state self.new)) 0 (n + j)
+            (slice_index_or names.new j []) }
+        ensures all { result.1 ≡ None → result.0 ≡ length names.old }
+        ensures short { IfSome result.1 (λ fault. result.0 < length names.old) }
+        ensures err { IfSome result.1 (Explains self.new.tree (hash_given_to D.BlockStore H.BlockStore (state self.new)) ⊥
+            (HashFailed D.BlockStore H.BlockStore (state self.old) (state self.new)) (n + result.0)) }
+        ensures memory { IfSome result.1 (λ fault. fault ≢ CheckFault.NoMemory) }
+        ensures ready { IsReady D.BlockStore H.BlockStore self.new }
+        ensures keeps { IsOnlyReading D.BlockStore H.BlockStore (state self.old) (state self.new) }
+        ensures data_store { self.new.data_store ≡ self.old.data_store }
+        ensures data_cache { self.new.data_cache ≡ self.old.data_cache }
+        ensures reads { H.reads self.new.hash_store ≤ H.reads self.old.hash_store + length names.old * height self.old.tree }
+    {
+        'each: for j in 0..names.len() {
+            match self.name(n + j as u64) {
+                Ok(digest) => names[j] = digest,
+                Err(fault) => return (j, Some(fault)),
+            }
+        }
+        (names.len(), None)
     }
-}
 
-/// Reads the data blocks from `n` on into `run`, which has the bytes of `count`, and checks each along its path from the
-/// lowest cached block, or the root. They are read by one call of the store and hashed side by side. Where that call fails, that is the
-/// fault; else the first block that isn't right, or whose path failed, is the one that is refused.
-pub(crate) fn read_run<D: BlockStore, H: BlockStore, A: Allocator + Copy + Drop>(
-    tree: &mut Tree<A>,
-    data_store: &mut D,
-    hash_store: &mut H,
-    hash_block: &mut [u8],
-    run: &mut [u8],
-    cache: &mut Cache<A>,
-    alloc: A,
-    since: &Since,
-    n: u64,
-    count: usize,
-) -> Result<(), CheckFault>
-    requires allowed { IsTable tree.old }
-    requires data_store { IsDataStoreOf D.BlockStore tree.old data_store.old }
-    requires hash_store { IsHashStoreOf H.BlockStore tree.old hash_store.old }
-    requires few { count ≤ 128 }
-    requires run_whole { length run.old ≡ count * tree.old.data_block_size }
-    requires hash_whole { length hash_block.old ≡ tree.old.hash_block_size }
-    requires data_since { since.now.of_data ≤ length (D.given data_store.old) }
-    requires hash_since { since.now.of_hash ≤ length (H.given hash_store.old) }
-    requires chained { IsChained tree.old (hash_given H.BlockStore tree.old since.now.of_hash hash_store.old) cache.old }
-    requires below { n + count ≤ tree.old.data_blocks }
-    ensures ok { OnOk result (Served tree.old (given_in D.BlockStore H.BlockStore tree.old since.now data_store.new hash_store.new) n
-        (cut tree.old.data_block_size count run.new)) }
-    ensures err { IfErr result (RefusesOneOf tree.old (given_in D.BlockStore H.BlockStore tree.old since.now data_store.new hash_store.new)
-        (D.failures data_store.old < D.failures data_store.new) (H.failures hash_store.old < H.failures hash_store.new) n count) }
-    ensures memory { IfErr result (λ fault. fault ≢ CheckFault.NoMemory) }
-    ensures chained { IsChained tree.old (hash_given H.BlockStore tree.old since.now.of_hash hash_store.new) cache.new }
-    ensures data_keeps { IsOnlyRead D.BlockStore data_store.old data_store.new }
-    ensures hash_keeps { IsOnlyRead H.BlockStore hash_store.old hash_store.new }
-    ensures data_reads { D.reads data_store.new ≤ D.reads data_store.old + count }
-    ensures hash_reads { H.reads hash_store.new ≤ H.reads hash_store.old + count * height tree.old }
-    ensures same { tree.new ≡ tree.old }
-{
-    let Compared {
-        named,
-        read,
-        good,
-        unnamed,
-    } = compare_run(
-        tree, data_store, hash_store, hash_block, run, cache, alloc, since, n, count,
-    );
-    if good < read {
-        return Err(CheckFault::Mismatch(Place::Data(n + good as u64)));
+    /// Reads the data blocks from `n` on into `run`, which has the bytes of `count`, up to the first that has no name, by one call of the
+    /// store, hashes them side by side, and compares each with the digest that its path names.
+    fn compare_run(&mut self, n: u64, count: usize, run: &mut [u8]) -> Compared
+        requires ready { IsReady D.BlockStore H.BlockStore self.old }
+        requires few { count ≤ 128 }
+        requires whole { length run.old ≡ count * self.old.tree.data_block_size }
+        requires below { n + count ≤ self.old.tree.data_blocks }
+        ensures compared { IsCompared self.new.tree (given_to D.BlockStore H.BlockStore (state self.new))
+            (DataFailed D.BlockStore H.BlockStore (state self.old) (state self.new))
+            (HashFailed D.BlockStore H.BlockStore (state self.old) (state self.new)) n count run.new
+            result.named result.read result.good result.unnamed }
+        ensures ready { IsReady D.BlockStore H.BlockStore self.new }
+        ensures keeps { IsOnlyReading D.BlockStore H.BlockStore (state self.old) (state self.new) }
+        ensures data_cache { self.new.data_cache ≡ self.old.data_cache }
+        ensures data_reads { D.reads self.new.data_store ≤ D.reads self.old.data_store + count }
+        ensures hash_reads { H.reads self.new.hash_store ≤ H.reads self.old.hash_store + count * height self.old.tree }
+    {
+        let mut room_for_names = [self.tree.root(); TOGETHER];
+        let names = &mut room_for_names[..count];
+        let (named, unnamed) = self.name_run(n, names);
+        let size = self.tree.table().data_block_size();
+        let read = read_together(&mut self.data_store, n, named, &mut run[..named * size]);
+        let mut room_for_digests = [self.tree.root(); TOGETHER];
+        let digests = &mut room_for_digests[..read];
+        self.tree.digest_run(&run[..read * size], size, digests);
+        let good = agreeing(digests, names);
+        Compared {
+            named,
+            read,
+            good,
+            unnamed,
+        }
     }
-    if read < named {
-        return Err(CheckFault::Store(Which::Data));
-    }
-    match unnamed {
-        None => Ok(()),
-        Some(fault) => Err(fault),
+
+    /// Reads the data blocks from `n` on into `run`, which has the bytes of `count`, and checks each along its path from the
+    /// lowest cached block, or the root. They are read by one call of the store and hashed side by side. Where that call fails, that is the
+    /// fault; else the first block that isn't right, or whose path failed, is the one that is refused.
+    pub(crate) fn read_run(
+        &mut self,
+        n: u64,
+        count: usize,
+        run: &mut [u8],
+    ) -> Result<(), CheckFault>
+        requires ready { IsReady D.BlockStore H.BlockStore self.old }
+        requires few { count ≤ 128 }
+        requires whole { length run.old ≡ count * self.old.tree.data_block_size }
+        requires below { n + count ≤ self.old.tree.data_blocks }
+        ensures ok { OnOk result (Served self.new.tree (given_to D.BlockStore H.BlockStore (state self.new)) n
+            (cut self.new.tree.data_block_size count run.new)) }
+        ensures err { IfErr result (RefusesOneOf self.new.tree (given_to D.BlockStore H.BlockStore (state self.new))
+            (DataFailed D.BlockStore H.BlockStore (state self.old) (state self.new))
+            (HashFailed D.BlockStore H.BlockStore (state self.old) (state self.new)) n count) }
+        ensures memory { IfErr result (λ fault. fault ≢ CheckFault.NoMemory) }
+        ensures ready { IsReady D.BlockStore H.BlockStore self.new }
+        ensures keeps { IsOnlyReading D.BlockStore H.BlockStore (state self.old) (state self.new) }
+        ensures data_cache { self.new.data_cache ≡ self.old.data_cache }
+        ensures data_reads { D.reads self.new.data_store ≤ D.reads self.old.data_store + count }
+        ensures hash_reads { H.reads self.new.hash_store ≤ H.reads self.old.hash_store + count * height self.old.tree }
+    {
+        let Compared {
+            named,
+            read,
+            good,
+            unnamed,
+        } = self.compare_run(n, count, run);
+        if good < read {
+            return Err(CheckFault::Mismatch(Place::Data(n + good as u64)));
+        }
+        if read < named {
+            return Err(CheckFault::Store(Which::Data));
+        }
+        match unnamed {
+            None => Ok(()),
+            Some(fault) => Err(fault),
+        }
     }
 }

@@ -7,23 +7,22 @@ ghost use Rattle.std.specs.Prelude.{List, length, slice_index_or};
 ghost use Rattle.std.specs.Fork.{slice_chunk};
 ghost use Rattle.verity_store.specs.Given.{GaveSince};
 ghost use Rattle.verity_store.specs.Stores.{IsOnlyRead};
-ghost use Rattle.verity_chain.specs.Table.{IsTable, hashing_of, height};
+ghost use Rattle.verity_chain.specs.Table.{hashing_of, height};
 ghost use Rattle.verity_chain.specs.Chain.{Names};
-ghost use Rattle.verity_chain.specs.Stores.{hash_given, IsHashStoreOf};
-ghost use Rattle.verity_report.specs.Stores.{given_in, IsDataStoreOf};
-ghost use Rattle.verity_check.specs.Cache.{IsChained, IsKept, AreKept};
+ghost use Rattle.verity_check.specs.Cache.{IsKept};
+ghost use Rattle.verity_check.specs.Verifier.{hash_given_to, IsOnlyReading};
+ghost use Rattle.verity_check.specs.Walk.{state, IsReady};
 
-use crate::cache::Cache;
-use crate::data_cache::{DataCache, is_kept, lies_in_one, remember_block};
-use crate::since::Since;
-use crate::walk::name;
+use crate::data_cache::{DataCache, capacity_of_data, is_kept, lies_in_one, remember_block};
+use crate::verifier::Verifier;
+use crate::walk::Walk;
 use std::alloc::Allocator;
 use verity_chain::Tree;
 use verity_digest::Digest;
 use verity_store::BlockStore;
 
 /// How many data blocks are read and hashed side by side at most.
-pub(crate) const BESIDE: usize = 8;
+const BESIDE: usize = 8;
 
 /// From how many blocks on eight are hashed side by side, though fewer were read: that is less work than one by one.
 const FEW: usize = 5;
@@ -40,7 +39,7 @@ fn ends_with(numbers: &[u64], count: usize, n: u64) -> bool
 
 /// Notes in `numbers` the data blocks of those ranges that lie in one block which isn't kept; up to `most`, and of ranges in a row that lie
 /// in the same block that one once. How many.
-pub(crate) fn choose<A: Allocator>(
+fn choose<A: Allocator>(
     data_cache: &Option<DataCache<A>>,
     ranges: &[(u64, u32)],
     size: u64,
@@ -66,43 +65,6 @@ pub(crate) fn choose<A: Allocator>(
         }
     }
     count
-}
-
-/// The digests that the checked blocks above these data blocks name for them, up to the first for which there is none. How many.
-fn name_each<H: BlockStore, A: Allocator + Copy + Drop>(
-    tree: &mut Tree<A>,
-    hash_store: &mut H,
-    hash_block: &mut [u8],
-    cache: &mut Cache<A>,
-    alloc: A,
-    since: &Since,
-    numbers: &[u64],
-    names: &mut [Digest],
-) -> usize
-    requires allowed { IsTable tree.old }
-    requires store { IsHashStoreOf H.BlockStore tree.old hash_store.old }
-    requires whole { length hash_block.old ≡ tree.old.hash_block_size }
-    requires since { since.now.of_hash ≤ length (H.given hash_store.old) }
-    requires chained { IsChained tree.old (hash_given H.BlockStore tree.old since.now.of_hash hash_store.old) cache.old }
-    requires below { (j : ℕ) → j < length numbers.now → slice_index_or numbers.now j 0 < tree.old.data_blocks }
-    requires room { length names.old ≡ length numbers.now }
-    ensures most { result ≤ length numbers.now }
-    ensures named { (j : ℕ) → j < result → Names tree.old (hash_given H.BlockStore tree.old since.now.of_hash hash_store.new) 0
-        (slice_index_or numbers.now j 0) (slice_index_or names.new j []) }
-    ensures chained { IsChained tree.old (hash_given H.BlockStore tree.old since.now.of_hash hash_store.new) cache.new }
-    ensures keeps { IsOnlyRead H.BlockStore hash_store.old hash_store.new }
-    ensures reads { H.reads hash_store.new ≤ H.reads hash_store.old + length numbers.now * height tree.old }
-    ensures same { tree.new ≡ tree.old }
-{
-    'each: for j in 0..numbers.len() {
-        match name(
-            tree, hash_store, hash_block, cache, alloc, since, numbers[j],
-        ) {
-            Ok(digest) => names[j] = digest,
-            Err(_) => return j,
-        }
-    }
-    numbers.len()
 }
 
 /// Reads these blocks into `out`, which has the bytes of as many, one after the other, up to the first that can't be read. How many.
@@ -195,60 +157,74 @@ fn keep_each<A: Allocator + Copy + Drop>(
     }
 }
 
-/// Reads these data blocks into `run`, which has room for as many, hashes them side by side, and keeps those that are right. It stops
-/// reading at the first whose path isn't right, or which can't be read.
-pub(crate) fn warm_blocks<D: BlockStore, H: BlockStore, A: Allocator + Copy + Drop>(
-    tree: &mut Tree<A>,
-    data_store: &mut D,
-    hash_store: &mut H,
-    hash_block: &mut [u8],
-    run: &mut [u8],
-    cache: &mut Cache<A>,
-    data_cache: &mut Option<DataCache<A>>,
-    alloc: A,
-    since: &Since,
-    numbers: &[u64],
-)
-    requires allowed { IsTable tree.old }
-    requires data_store { IsDataStoreOf D.BlockStore tree.old data_store.old }
-    requires hash_store { IsHashStoreOf H.BlockStore tree.old hash_store.old }
-    requires hash_whole { length hash_block.old ≡ tree.old.hash_block_size }
-    requires few { length numbers.now ≤ 8 }
-    requires room { length numbers.now * tree.old.data_block_size ≤ length run.old }
-    requires below { (j : ℕ) → j < length numbers.now → slice_index_or numbers.now j 0 < tree.old.data_blocks }
-    requires data_since { since.now.of_data ≤ length (D.given data_store.old) }
-    requires hash_since { since.now.of_hash ≤ length (H.given hash_store.old) }
-    requires chained { IsChained tree.old (hash_given H.BlockStore tree.old since.now.of_hash hash_store.old) cache.old }
-    requires kept { AreKept tree.old (given_in D.BlockStore H.BlockStore tree.old since.now data_store.old hash_store.old) data_cache.old }
-    ensures chained { IsChained tree.old (hash_given H.BlockStore tree.old since.now.of_hash hash_store.new) cache.new }
-    ensures kept { AreKept tree.old (given_in D.BlockStore H.BlockStore tree.old since.now data_store.new hash_store.new) data_cache.new }
-    ensures data_keeps { IsOnlyRead D.BlockStore data_store.old data_store.new }
-    ensures hash_keeps { IsOnlyRead H.BlockStore hash_store.old hash_store.new }
-    ensures data_reads { D.reads data_store.new ≤ D.reads data_store.old + length numbers.now }
-    ensures hash_reads { H.reads hash_store.new ≤ H.reads hash_store.old + length numbers.now * height tree.old }
-    ensures same { tree.new ≡ tree.old }
-{
-    let size = tree.table().data_block_size();
-    let mut room_for_names = [tree.root(); BESIDE];
-    let names = &mut room_for_names[..numbers.len()];
-    let named = name_each(
-        tree, hash_store, hash_block, cache, alloc, since, numbers, names,
-    );
-    let read = read_each(
-        data_store,
-        &numbers[..named],
-        size,
-        &mut run[..named * size],
-    );
-    let mut digests = [tree.root(); BESIDE];
-    digest_first(tree, run, size, read, &mut digests);
-    keep_each(
-        data_cache,
-        alloc,
-        numbers,
-        names,
-        &digests[..read],
-        run,
-        size,
-    );
+impl<D: BlockStore, H: BlockStore, A: Allocator + Copy + Drop> Walk<D, H, A> {
+    /// The digests that the checked blocks above these data blocks name for them, up to the first for which there is none. How many.
+    fn name_each(&mut self, numbers: &[u64], names: &mut [Digest]) -> usize
+        requires ready { IsReady D.BlockStore H.BlockStore self.old }
+        requires below { (j : ℕ) → j < length numbers.now → slice_index_or numbers.now j 0 < self.old.tree.data_blocks }
+        requires room { length names.old ≡ length numbers.now }
+        ensures most { result ≤ length numbers.now }
+        ensures named { (j : ℕ) → j < result → Names self.new.tree (hash_given_to D.BlockStore H.BlockStore (state self.new)) 0
+            (slice_index_or numbers.now j 0) (slice_index_or names.new j []) }
+        ensures ready { IsReady D.BlockStore H.BlockStore self.new }
+        ensures keeps { IsOnlyReading D.BlockStore H.BlockStore (state self.old) (state self.new) }
+        ensures data_store { self.new.data_store ≡ self.old.data_store }
+        ensures reads { H.reads self.new.hash_store ≤ H.reads self.old.hash_store + length numbers.now * height self.old.tree }
+    {
+        'each: for j in 0..numbers.len() {
+            match self.name(numbers[j]) {
+                Ok(digest) => names[j] = digest,
+                Err(_) => return j,
+            }
+        }
+        numbers.len()
+    }
+
+    /// Reads these data blocks into `run`, which has room for as many, hashes them side by side, and keeps those that are right. It stops
+    /// reading at the first whose path isn't right, or which can't be read.
+    fn warm_blocks(&mut self, numbers: &[u64], run: &mut [u8])
+        requires ready { IsReady D.BlockStore H.BlockStore self.old }
+        requires few { length numbers.now ≤ 8 }
+        requires room { length numbers.now * self.old.tree.data_block_size ≤ length run.old }
+        requires below { (j : ℕ) → j < length numbers.now → slice_index_or numbers.now j 0 < self.old.tree.data_blocks }
+        ensures ready { IsReady D.BlockStore H.BlockStore self.new }
+        ensures keeps { IsOnlyReading D.BlockStore H.BlockStore (state self.old) (state self.new) }
+        ensures data_reads { D.reads self.new.data_store ≤ D.reads self.old.data_store + length numbers.now }
+        ensures hash_reads { H.reads self.new.hash_store ≤ H.reads self.old.hash_store + length numbers.now * height self.old.tree }
+    {
+        let size = self.tree.table().data_block_size();
+        let mut room_for_names = [self.tree.root(); BESIDE];
+        let names = &mut room_for_names[..numbers.len()];
+        let named = self.name_each(numbers, names);
+        let chosen = &numbers[..named];
+        let read = read_each(&mut self.data_store, chosen, size, &mut run[..named * size]);
+        let mut digests = [self.tree.root(); BESIDE];
+        digest_first(&mut self.tree, run, size, read, &mut digests);
+        let (cache, alloc) = (&mut self.data_cache, self.alloc);
+        keep_each(cache, alloc, numbers, names, &digests[..read], run, size);
+    }
+}
+
+impl<D: BlockStore, H: BlockStore, A: Allocator + Copy + Drop> Verifier<D, H, A> {
+    /// Reads and hashes beforehand, side by side, what waiting requests will ask for: of the ranges (offset and length, in bytes)
+    /// those that lie in one data block which isn't kept, up to eight, and no more than the data cache has room for. Those blocks that
+    /// are right are kept there; a block that isn't, or can't be read, is left to the request that asks for it. The first that can't be
+    /// read, or whose path isn't right, ends the reading. Ranges that go past the end are passed over. Without a data cache it does
+    /// nothing.
+    ///
+    /// It reads each chosen block once, and for each at most the hash blocks of its path, those below the lowest cached one.
+    pub fn warm(&mut self, ranges: &[(u64, u32)])
+        ensures keeps { IsOnlyReading D.BlockStore H.BlockStore self.old self.new }
+        ensures data_reads { D.reads self.new.data_store ≤ D.reads self.old.data_store + length ranges.now }
+        ensures hash_reads { H.reads self.new.hash_store ≤ H.reads self.old.hash_store + length ranges.now * height self.old.table }
+    {
+        let table = self.walk.tree.table();
+        let size = table.data_block_size();
+        let blocks = table.data_blocks();
+        let kept = &self.walk.data_cache;
+        let most = (self.run.len() / size).min(capacity_of_data(kept));
+        let mut numbers = [0u64; BESIDE];
+        let count = choose(kept, ranges, size as u64, blocks, most, &mut numbers);
+        self.walk.warm_blocks(&numbers[..count], &mut self.run);
+    }
 }

@@ -1,4 +1,4 @@
-use Rattle.std.proofs.Common.{◌+◌, ◌*◌, ◌/◌, ◌%◌, ◌<◌, ◌≤◌, arith, sym, subst}
+use Rattle.std.proofs.Common.{◌/◌, arith, sym, subst}
 use Rattle.verity_check.specs.Cache.{IsKept}
 use Rattle.verity_check.proofs.data_cache.append_kept.Goals as goal
 

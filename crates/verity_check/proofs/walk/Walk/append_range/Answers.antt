@@ -1,29 +1,28 @@
-use Rattle.std.proofs.Common.{arith, ◌≡◌, ◌<◌, ◌+◌, ◌*◌, ◌-◌, ◌/◌, ◌%◌, ◌≤◌, ◌++◌, mul-le-mul_right, ℕ, List, [], length, take, drop, sym}
+use Rattle.std.proofs.Common.{arith, ◌≡◌, ◌+◌, ◌*◌, ◌-◌, ◌/◌, ◌%◌, ◌≤◌, ◌++◌, mul-le-mul_right, ℕ, List, [], length, take, drop, sym}
 use Rattle.std.proofs.Common.{refl, ap, ◌∙◌, subst, append-nil, append_assoc}
 use Rattle.std.proofs.lemmas.List.{length-append, length-drop, length-take, length-take-le}
 use Rattle.std.proofs.lemmas.Nat.{mod_below, div-add-mod'}
 use Rattle.verity_profile.proofs.Bounds.{block_size_some, block_count_high}
-use Rattle.verity_store.proofs.StoreLemmas.{only_read_same, only_read_then}
 use Rattle.std.proofs.Math.Nat.{add-mul}
 use Rattle.verity_store.specs.Blocks.{cut}
 use Rattle.verity_chain.specs.Table.{Table, height}
-use Rattle.verity_check.specs.Range.{Served, touched}
-use Rattle.verity_chain.specs.Stores.{hash_given}
+use Rattle.verity_check.specs.Range.{Served, ServesBytes, touched}
 use Rattle.verity_report.specs.Stores.{given_in}
-use Rattle.verity_check.specs.Cache.{IsChained, AreKept}
-use Rattle.verity_check.specs.Refusal.{RefusesOneOf}
+use Rattle.verity_check.specs.Refusal.{RefusesOneOf, RefusesAfter}
+use Rattle.verity_check.specs.Verifier.{DataFailed, HashFailed}
+use Rattle.verity_check.specs.Walk.{state}
+use Rattle.verity_check.proofs.ReadyLemmas.{reading_none, reading_then, as_before, as_now}
 use Rattle.verity_check.proofs.WalkLemmas.{given_in-grows}
 use Rattle.verity_check.proofs.RangeLemmas.{IsDone, done_none, done_all}
 use Rattle.verity_check.proofs.RangeRuns.{done_run, piece_front, run_below, run_few, refuses_run}
-use Rattle.verity_store.proofs.GivenLemmas.{goes_on_len}
-use Rattle.verity_check.proofs.range.append_range.Goals as goal
+use Rattle.verity_check.proofs.walk.Walk.append_range.Goals as goal
 
 pub loop-left-init : goal.loop-left-init
 loop-left-init g c =
     let D = g.D.BlockStore in
     let H = g.H.BlockStore in
-    let t = c.args.tree.now in
-    let given = given_in D H t c.args.since.now c.args.data_store.now c.args.hash_store.now in
+    let t = c.args.self.now.tree in
+    let given = given_in D H t c.args.self.now.since c.args.self.now.data_store c.args.self.now.hash_store in
     let split = div-add-mod' c.args.offset t.data_block_size in
     let whole : c.data_block_size-size.result ≡ t.data_block_size = c.data_block_size-size.ensures.value
     ∙ ap (λ (x : Table). x.data_block_size) c.table.ensures.value in
@@ -40,72 +39,44 @@ loop-left-init g c =
         arith,
         skip,
         mod_below c.args.offset t.data_block_size
-            (block_size_some t.data_block_size c.requires.allowed.data_size),
+            (block_size_some t.data_block_size c.requires.ready.verifier.table.data_size),
       );
       position = λ p. omega (arith, ap (λ s. c.args.offset / s * t.data_block_size + c.args.offset % s) whole, split);
-      chained = c.requires.chained;
-      kept = c.requires.kept;
-      data_keeps = only_read_same D c.args.data_store.now;
-      hash_keeps = only_read_same H c.args.hash_store.now;
+      ready = c.requires.ready;
+      keeps = reading_none D H (state c.args.self.now);
       spare = c.requires.spare;
-      room = (refl, c.requires.hash_whole);
+      room = refl;
       few = omega (arith, ap (λ s. c.args.offset / s) whole);
       data_reads = omega (arith, ap (λ s. c.args.offset / s) whole);
       hash_reads = omega (arith, ap (λ s. c.args.offset / s * height t) whole);
-      same = refl;
     }
-
-pub read_next-requires-clause-chained : goal.read_next-requires-clause-chained
-read_next-requires-clause-chained g c =
-    let H = g.H.BlockStore in
-    subst (λ tr. IsChained tr (hash_given H tr c.args.since.now.of_hash c.loop-left.hash_store) c.loop-left.cache)
-    (sym c.loop-left.invariant.same) c.loop-left.invariant.chained
-
-pub read_next-requires-clause-kept : goal.read_next-requires-clause-kept
-read_next-requires-clause-kept g c =
-    let D = g.D.BlockStore in
-    let H = g.H.BlockStore in
-    subst (λ tr. AreKept tr (given_in D H tr c.args.since.now c.loop-left.data_store c.loop-left.hash_store) c.loop-left.data_cache)
-    (sym c.loop-left.invariant.same) c.loop-left.invariant.kept
 
 pub read_next-requires-clause-single : goal.read_next-requires-clause-single
 read_next-requires-clause-single g c = λ is. (c.takes_part-is_part.ensures.0 is).1
-
-pub returns-in-Err-clause-kept : goal.returns-in-Err-clause-kept
-returns-in-Err-clause-kept g c =
-    let D = g.D.BlockStore in
-    let H = g.H.BlockStore in
-    subst (λ tr. AreKept tr (given_in D H tr c.args.since.now c.read_next.new.data_store c.read_next.new.hash_store)
-    c.read_next.new.data_cache) c.loop-left.invariant.same c.in-Err.ensures.kept
-
-pub returns-in-Err-clause-chained : goal.returns-in-Err-clause-chained
-returns-in-Err-clause-chained g c =
-    let H = g.H.BlockStore in
-    subst (λ tr. IsChained tr (hash_given H tr c.args.since.now.of_hash c.read_next.new.hash_store) c.read_next.new.cache)
-    c.loop-left.invariant.same c.in-Err.ensures.chained
 
 pub returns-in-Err-clause-err : goal.returns-in-Err-clause-err
 returns-in-Err-clause-err g c =
     let D = g.D.BlockStore in
     let H = g.H.BlockStore in
-    let t = c.args.tree.now in
+    let w = state c.args.self.now in
+    let t = c.args.self.now.tree in
+    let x = state c.read_next.new.self in
     let inv = c.loop-left.invariant in
     let e = c.in-Err.ensures in
-    let old = given_in D H t c.args.since.now c.loop-left.data_store c.loop-left.hash_store in
-    let new = given_in D H t c.args.since.now c.read_next.new.data_store c.read_next.new.hash_store in
-    let grows = given_in-grows D H t c.args.since.now c.loop-left.data_store c.read_next.new.data_store c.loop-left.hash_store
-    c.read_next.new.hash_store e.data_keeps e.hash_keeps in
-    let why : RefusesOneOf t new (D.failures c.loop-left.data_store < D.failures c.read_next.new.data_store)
-    (H.failures c.loop-left.hash_store < H.failures c.read_next.new.hash_store) c.loop-left.n c.run_len-count.result c.in-Err.fault =
-    subst (λ tr. RefusesOneOf tr (given_in D H tr c.args.since.now c.read_next.new.data_store c.read_next.new.hash_store)
-    (D.failures c.loop-left.data_store < D.failures c.read_next.new.data_store)
-    (H.failures c.loop-left.hash_store < H.failures c.read_next.new.hash_store) c.loop-left.n c.run_len-count.result c.in-Err.fault)
-    inv.same e.err in
-    refuses_run t old new grows _ _ _ _
-    (λ (p : D.failures c.loop-left.data_store < D.failures c.read_next.new.data_store). omega (arith, p, inv.data_keeps.later.failures))
-    (λ (p : H.failures c.loop-left.hash_store < H.failures c.read_next.new.hash_store). omega (arith, p, inv.hash_keeps.later.failures))
+    let keeps = reading_then D H w (state c.loop-left.self) x inv.keeps e.keeps in
+    let old = given_in D H t w.since c.loop-left.self.data_store c.loop-left.self.hash_store in
+    let new = given_in D H t w.since x.data_store x.hash_store in
+    let grows = given_in-grows D H t w.since c.loop-left.self.data_store x.data_store c.loop-left.self.hash_store x.hash_store
+    e.keeps.data_store e.keeps.hash_store in
+    let why : RefusesOneOf t new (DataFailed D H (state c.loop-left.self) x) (HashFailed D H (state c.loop-left.self) x) c.loop-left.n
+    c.run_len-count.result c.in-Err.fault = as_before D H (λ tr given. RefusesOneOf tr given (DataFailed D H (state c.loop-left.self) x)
+    (HashFailed D H (state c.loop-left.self) x) c.loop-left.n c.run_len-count.result c.in-Err.fault) w x keeps e.err in
+    as_now D H (λ tr given. RefusesAfter tr given (DataFailed D H w x) (HashFailed D H w x) c.args.offset c.args.len c.in-Err.fault) w x
+    keeps (refuses_run t old new grows _ _ _ _
+    (λ (p : DataFailed D H (state c.loop-left.self) x). omega (arith, p, inv.keeps.data_store.later.failures))
+    (λ (p : HashFailed D H (state c.loop-left.self) x). omega (arith, p, inv.keeps.hash_store.later.failures))
     c.args.offset c.args.len c.loop-left.n c.loop-left.skip c.loop-left.left inv.done.0 inv.done.2 c.run_len-count.result
-    (block_size_some t.data_block_size c.requires.allowed.data_size) c.loop-left-test.true
+    (block_size_some t.data_block_size c.requires.ready.verifier.table.data_size) c.loop-left-test.true
     (omega (
       arith,
       c.run_len-count.ensures.most,
@@ -113,14 +84,17 @@ returns-in-Err-clause-err g c =
       c.blocks_at_most-most.ensures.most,
       ap (λ s. (c.loop-left.skip + c.loop-left.left - 1) / s) inv.size,
     ))
-    (inv.position c.loop-left-test.true) c.in-Err.fault why
+    (inv.position c.loop-left-test.true) c.in-Err.fault why)
+
+pub returns-in-Err-clause-keeps : goal.returns-in-Err-clause-keeps
+returns-in-Err-clause-keeps g c = reading_then g.D.BlockStore g.H.BlockStore _ _ _ c.loop-left.invariant.keeps c.in-Err.ensures.keeps
 
 pub returns-in-Err-clause-data_reads : goal.returns-in-Err-clause-data_reads
 returns-in-Err-clause-data_reads g c =
-    let t = c.args.tree.now in
+    let t = c.args.self.now.tree in
     let inv = c.loop-left.invariant in
     let next = run_few t c.args.offset c.args.len c.loop-left.n c.run_len-count.result c.loop-left.skip c.loop-left.left
-    (block_size_some t.data_block_size c.requires.allowed.data_size) c.loop-left-test.true (omega (arith, inv.done.2.count))
+    (block_size_some t.data_block_size c.requires.ready.verifier.table.data_size) c.loop-left-test.true (omega (arith, inv.done.2.count))
     c.run_len-count.ensures.some (omega (
       arith,
       c.run_len-count.ensures.most,
@@ -134,11 +108,11 @@ returns-in-Err-clause-data_reads g c =
 pub returns-in-Err-clause-hash_reads : goal.returns-in-Err-clause-hash_reads
 returns-in-Err-clause-hash_reads g c =
     let H = g.H.BlockStore in
-    let t = c.args.tree.now in
+    let t = c.args.self.now.tree in
     let inv = c.loop-left.invariant in
     let first : ℕ = c.args.offset / t.data_block_size in
     let next = run_few t c.args.offset c.args.len c.loop-left.n c.run_len-count.result c.loop-left.skip c.loop-left.left
-    (block_size_some t.data_block_size c.requires.allowed.data_size) c.loop-left-test.true (omega (arith, inv.done.2.count))
+    (block_size_some t.data_block_size c.requires.ready.verifier.table.data_size) c.loop-left-test.true (omega (arith, inv.done.2.count))
     c.run_len-count.ensures.some (omega (
       arith,
       c.run_len-count.ensures.most,
@@ -152,7 +126,7 @@ returns-in-Err-clause-hash_reads g c =
     omega (
       arith,
       c.in-Err.ensures.hash_reads,
-      ap (λ tr. c.run_len-count.result * height tr) inv.same,
+      ap (λ tr. c.run_len-count.result * height tr) inv.keeps.table,
       inv.hash_reads,
       up,
       add-mul c.loop-left.n c.run_len-count.result (height t),
@@ -163,17 +137,20 @@ pub loop-left-preserved : goal.loop-left-preserved
 loop-left-preserved g c =
     let D = g.D.BlockStore in
     let H = g.H.BlockStore in
-    let t = c.args.tree.now in
+    let t = c.args.self.now.tree in
     let inv = c.loop-left.invariant in
     let e = c.in_default.ensures in
     let count : ℕ = c.run_len-count.result in
     let z : ℕ = t.data_block_size in
     let x : List ℕ = c.read_next.new.run in
-    let some = block_size_some t.data_block_size c.requires.allowed.data_size in
-    let old = given_in D H t c.args.since.now c.loop-left.data_store c.loop-left.hash_store in
-    let new = given_in D H t c.args.since.now c.read_next.new.data_store c.read_next.new.hash_store in
-    let grows = given_in-grows D H t c.args.since.now c.loop-left.data_store c.read_next.new.data_store c.loop-left.hash_store
-    c.read_next.new.hash_store e.data_keeps e.hash_keeps in
+    let some = block_size_some t.data_block_size c.requires.ready.verifier.table.data_size in
+    let v = state c.args.self.now in
+    let y = state c.read_next.new.self in
+    let keeps = reading_then D H v (state c.loop-left.self) y inv.keeps e.keeps in
+    let old = given_in D H t v.since c.loop-left.self.data_store c.loop-left.self.hash_store in
+    let new = given_in D H t v.since y.data_store y.hash_store in
+    let grows = given_in-grows D H t v.since c.loop-left.self.data_store y.data_store c.loop-left.self.hash_store y.hash_store
+    e.keeps.data_store e.keeps.hash_store in
     let size : c.data_block_size-size.result ≡ t.data_block_size = inv.size in
     let whole : length x ≡ count * z = c.read_next.auto.run
     ∙ length-take-le (count * c.data_block_size-size.result) c.loop-left.run c.run_len-count.ensures.fits ∙ ap (λ m. count * m) size in
@@ -200,8 +177,7 @@ loop-left-preserved g c =
     ∙ ap (λ o. o ++ take c.min-piece.result (drop c.loop-left.skip x)) inv.done.1
     ∙ append_assoc c.args.out.now.items inv.done.0 (take c.min-piece.result (drop c.loop-left.skip x)) in
     let served : Served t new c.loop-left.n (cut z count x) =
-    subst (λ tr. Served tr (given_in D H tr c.args.since.now c.read_next.new.data_store c.read_next.new.hash_store) c.loop-left.n
-    (cut tr.data_block_size count x)) inv.same e.ok in
+    as_before D H (λ tr given. Served tr given c.loop-left.n (cut tr.data_block_size count x)) v y keeps e.ok in
     record {
       done = (
         inv.done.0 ++ take c.min-piece.result (drop c.loop-left.skip x),
@@ -212,12 +188,8 @@ loop-left-preserved g c =
       size = inv.size;
       skips = some;
       position = λ p. omega (arith, p, piece, whole, inv.position c.loop-left-test.true, one, inv.skips, add-mul c.loop-left.n count z);
-      chained = subst (λ tr. IsChained tr (hash_given H tr c.args.since.now.of_hash c.read_next.new.hash_store) c.read_next.new.cache)
-          inv.same e.chained;
-      kept = subst (λ tr. AreKept tr (given_in D H tr c.args.since.now c.read_next.new.data_store c.read_next.new.hash_store)
-          c.read_next.new.data_cache) inv.same e.kept;
-      data_keeps = only_read_then D _ _ _ inv.data_keeps e.data_keeps;
-      hash_keeps = only_read_then H _ _ _ inv.hash_keeps e.hash_keeps;
+      ready = e.ready;
+      keeps = keeps;
       spare = omega (
         arith,
         inv.spare,
@@ -232,7 +204,7 @@ loop-left-preserved g c =
         cut_len,
         piece,
       );
-      room = (omega (arith, all, inv.room.0), c.read_next.auto.hash_block ∙ inv.room.1);
+      room = omega (arith, all, inv.room);
       few = run_few t c.args.offset c.args.len c.loop-left.n count c.loop-left.skip c.loop-left.left some c.loop-left-test.true
           (omega (arith, inv.done.2.count)) c.run_len-count.ensures.some
           (omega (
@@ -247,24 +219,30 @@ loop-left-preserved g c =
       hash_reads = omega (
         arith,
         e.hash_reads,
-        ap (λ tr. count * height tr) inv.same,
+        ap (λ tr. count * height tr) inv.keeps.table,
         inv.hash_reads,
         add-mul c.loop-left.n count (height t),
       );
-      same = e.same ∙ inv.same;
     }
 
 pub returns-clause-ok : goal.returns-clause-ok
 returns-clause-ok g c =
-    let done = c.loop-left.invariant.done in
-    (done.0, done.1, done_all c.args.tree.now _ c.args.offset c.args.len _ _ _ done.0 done.2 (omega (arith, c.loop-left-test.false)))
+    let D = g.D.BlockStore in
+    let H = g.H.BlockStore in
+    let done = c.loop-left.invariant.done in (
+      done.0,
+      done.1,
+      as_now D H (λ t given. ServesBytes t given c.args.offset c.args.len done.0) (state c.args.self.now) (state c.loop-left.self)
+          c.loop-left.invariant.keeps
+          (done_all c.args.self.now.tree _ c.args.offset c.args.len _ _ _ done.0 done.2 (omega (arith, c.loop-left-test.false))),
+    )
 
 pub returns-clause-data_reads : goal.returns-clause-data_reads
 returns-clause-data_reads g c = omega (arith, c.loop-left.invariant.data_reads, c.loop-left.invariant.few)
 
 pub returns-clause-hash_reads : goal.returns-clause-hash_reads
 returns-clause-hash_reads g c =
-    let t = c.args.tree.now in
+    let t = c.args.self.now.tree in
     let inv = c.loop-left.invariant in
     let first : ℕ = c.args.offset / t.data_block_size in
     let up : c.loop-left.n * height t ≤ (first + touched t c.args.offset c.args.len) * height t = mul-le-mul_right (height t) inv.few in
@@ -272,11 +250,11 @@ returns-clause-hash_reads g c =
 
 pub read_next-requires-clause-below : goal.read_next-requires-clause-below
 read_next-requires-clause-below g c =
-    let t = c.args.tree.now in
+    let t = c.args.self.now.tree in
     let inv = c.loop-left.invariant in
-    subst (λ (tr : Table). c.loop-left.n + c.run_len-count.result ≤ tr.data_blocks) (sym inv.same)
+    subst (λ (tr : Table). c.loop-left.n + c.run_len-count.result ≤ tr.data_blocks) (sym inv.keeps.table)
     (run_below c.loop-left.n c.run_len-count.result t.data_block_size c.loop-left.skip c.loop-left.left (c.args.offset + c.args.len)
-    t.data_blocks (block_size_some t.data_block_size c.requires.allowed.data_size)
+    t.data_blocks (block_size_some t.data_block_size c.requires.ready.verifier.table.data_size)
     c.loop-left-test.true c.run_len-count.ensures.some
     (omega (
       arith,
@@ -289,10 +267,10 @@ read_next-requires-clause-below g c =
 
 pub overflow_add-n : goal.overflow_add-n
 overflow_add-n g c =
-    let t = c.args.tree.now in
+    let t = c.args.self.now.tree in
     let inv = c.loop-left.invariant in
     let below = run_below c.loop-left.n c.run_len-count.result t.data_block_size c.loop-left.skip c.loop-left.left
-    (c.args.offset + c.args.len) t.data_blocks (block_size_some t.data_block_size c.requires.allowed.data_size)
+    (c.args.offset + c.args.len) t.data_blocks (block_size_some t.data_block_size c.requires.ready.verifier.table.data_size)
     c.loop-left-test.true c.run_len-count.ensures.some
     (omega (
       arith,
@@ -302,10 +280,10 @@ overflow_add-n g c =
       ap (λ s. (c.loop-left.skip + c.loop-left.left - 1) / s) inv.size,
     ))
     (inv.position c.loop-left-test.true) c.requires.inside in
-    omega (arith, below, block_count_high t.data_blocks c.requires.allowed.blocks)
+    omega (arith, below, block_count_high t.data_blocks c.requires.ready.verifier.table.blocks)
 
 pub shape_of-run : goal.shape_of-run
-shape_of-run g c = c.loop-left.invariant.room.0
+shape_of-run g c = c.loop-left.invariant.room
 
 pub shape_of-run-in-Err : goal.shape_of-run-in-Err
 shape_of-run-in-Err g c =
@@ -316,18 +294,6 @@ shape_of-run-in-Err g c =
       length-drop (c.run_len-count.result * c.data_block_size-size.result) c.loop-left.run,
       length-take-le (c.run_len-count.result * c.data_block_size-size.result) c.loop-left.run c.run_len-count.ensures.fits,
       c.read_next.auto.run,
-      c.loop-left.invariant.room.0,
+      c.loop-left.invariant.room,
       c.run_len-count.ensures.fits,
     )
-
-pub read_next-requires-clause-data_since : goal.read_next-requires-clause-data_since
-read_next-requires-clause-data_since g c = omega (arith, c.requires.data_since, goes_on_len _ _ c.loop-left.invariant.data_keeps.later.gave)
-
-pub read_next-requires-clause-hash_since : goal.read_next-requires-clause-hash_since
-read_next-requires-clause-hash_since g c = omega (arith, c.requires.hash_since, goes_on_len _ _ c.loop-left.invariant.hash_keeps.later.gave)
-
-pub returns-in-Err-clause-data_keeps : goal.returns-in-Err-clause-data_keeps
-returns-in-Err-clause-data_keeps g c = only_read_then g.D.BlockStore _ _ _ c.loop-left.invariant.data_keeps c.in-Err.ensures.data_keeps
-
-pub returns-in-Err-clause-hash_keeps : goal.returns-in-Err-clause-hash_keeps
-returns-in-Err-clause-hash_keeps g c = only_read_then g.H.BlockStore _ _ _ c.loop-left.invariant.hash_keeps c.in-Err.ensures.hash_keeps
