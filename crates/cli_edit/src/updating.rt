@@ -16,7 +16,7 @@ use crate::work::{Words, Work};
 use cli_arguments::UpdateWords;
 use cli_faults::{Command, DONE, Failure, Fault, Word, check_paths};
 use cli_volume::{
-    Commits, Devices, Edits, LineParts, end_progress, is_watched, offset_of, progress_of, table_of,
+    Commits, Devices, Edits, end_progress, is_watched, offset_of, progress_of, table_of,
 };
 use os_files::{Part, System};
 use os_host::{Host, Opened, Paths, VolumeStore, store_of_most};
@@ -27,6 +27,7 @@ use std::time::Clock;
 use verity_chain::{Tree, geometry_of};
 use verity_edit::EditFault;
 use verity_store::{BlockStore, StoreFault, Which};
+use verity_superblock::TableValues;
 use verity_update::{Edited, UpdateFault};
 
 /// Makes the volume in DATA and HASH that of the image NEW, with one commit of what differs, and prints how many blocks that was and
@@ -275,16 +276,16 @@ fn take<R: Paths + AllocGlobal, V: Edits + Edited, N: BlockStore>(
 {
     let superblock = editor.superblock();
     let mut hash_store = store_of_most(rt, hash, superblock.hash_block_size(), u64::MAX)?;
-    let volume = LineParts {
-        data_path: devices.data_path,
-        hash_path: devices.hash_path,
+    let values = TableValues {
+        dev: devices.data_path,
+        hash_dev: devices.hash_path,
         data_block_size: superblock.data_block_size(),
         hash_block_size: superblock.hash_block_size(),
         data_blocks: superblock.data_blocks(),
         hash_start_block: devices.hash_start_block,
-        salt: superblock.salt().bytes(),
     };
-    let table = table_of(rt.alloc(), &volume, editor.root())?;
+    let salt = superblock.salt().bytes();
+    let table = table_of(rt.alloc(), &values, editor.root(), salt)?;
     let geometry = geometry_of(&table);
     let mut tree = Tree::new(rt.alloc(), table, geometry)?;
     Ok(verity_update::update(rt.alloc(), &mut tree, &mut hash_store, new_store, editor))

@@ -26,7 +26,7 @@ use cli_faults::{
     Command, Failure, Fault, Word, algorithm, block_size, check_paths, number, salt, salt_bytes,
     uuid,
 };
-use cli_volume::{LineParts, end_progress, is_watched, progress_of, table_line};
+use cli_volume::{end_progress, is_watched, progress_of, table_line};
 use os_commit_flag::check_gate;
 use os_files::{Identity, Part, System, check_apart, check_block_size, open_to_read};
 use os_progress::Watched;
@@ -37,7 +37,7 @@ use uuid::Uuid;
 use verity_build::{BuildFault, BuildParameters, build_at};
 use verity_digest::{Algorithm, Digest};
 use verity_store::{BlockStore, StoreFault, Which};
-use verity_superblock::tree_start;
+use verity_superblock::{TableValues, tree_start};
 
 /// The numbers and names among the words.
 #[derive(Clone, Copy)]
@@ -102,16 +102,15 @@ pub(crate) fn made_line(
         × (string_bytes text ≡ canonical (line_made words.now shape.now made.now salt.now))) }
     ensures refused { IfErr result IsOfLine }
 {
-    let volume = LineParts {
-        data_path: words.data_path,
-        hash_path: words.hash_path,
+    let values = TableValues {
+        dev: words.data_path,
+        hash_dev: words.hash_path,
         data_block_size: shape.data_block_size,
         hash_block_size: shape.hash_block_size,
         data_blocks: made.data_blocks,
         hash_start_block: made.hash_start_block,
-        salt,
     };
-    table_line(alloc, &volume, made.root)
+    table_line(alloc, &values, made.root, salt)
 }
 
 #[tactic(auto, using(crate::proofs::Blaming::of_hash_block_size, crate::proofs::Blaming::of_hash_offset, crate::proofs::Blaming::of_uuid))]

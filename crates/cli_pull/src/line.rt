@@ -10,7 +10,7 @@ use std::alloc::Global;
 use uuid::Uuid;
 use verity_chain::{Tree, geometry_of};
 use verity_digest::Digest;
-use verity_superblock::{Table, tree_start};
+use verity_superblock::{Table, TableValues, tree_start};
 
 /// What the words ask for.
 #[derive(Drop)]
@@ -92,17 +92,15 @@ pub fn tree_at(
     ensures profile { IfOk result IsTableLine }
 {
     to.facts();
-    let table = Table::new(
-        alloc,
-        data_path,
-        hash_path,
-        to.data_block_size(),
-        to.hash_block_size(),
-        to.data_blocks(),
-        start,
-        to.root(),
-        to.salt().copy(alloc)?,
-    )?;
+    let values = TableValues {
+        dev: data_path,
+        hash_dev: hash_path,
+        data_block_size: to.data_block_size(),
+        hash_block_size: to.hash_block_size(),
+        data_blocks: to.data_blocks(),
+        hash_start_block: start,
+    };
+    let table = Table::new(alloc, &values, to.root(), to.salt().copy(alloc)?)?;
     let geometry = geometry_of(&table);
     Ok(Tree::new(alloc, table, geometry)?)
 }

@@ -12,21 +12,6 @@ use Rattle.cli_faults.specs.declared.failure.Failure.{Failure}
 use Rattle.cli_faults.specs.declared.failure.Failure.TheVariants.{NoMemory, Refused, Output}
 use Rattle.cli_faults.specs.declared.fault.Fault.TheVariants.{Salt, Table}
 use Rattle.cli_volume.specs.declared.lines.Devices.{Devices}
-use Rattle.cli_volume.specs.declared.lines.LineParts.{LineParts}
-
--- the table line that these parts and this root hash make
-abbrev pub line_of : LineParts → List ℕ → TableLine
-line_of parts root = record {
-  dev = parts.data_path.now;
-  hash_dev = parts.hash_path.now;
-  data_block_size = parts.data_block_size;
-  hash_block_size = parts.hash_block_size;
-  data_blocks = parts.data_blocks;
-  hash_start_block = parts.hash_start_block;
-  algorithm = algorithm_of root;
-  root = root;
-  salt = parts.salt.now;
-}
 
 -- the table line of a volume on these devices, with this superblock and this root hash
 abbrev pub volume_line : Devices → Volume → List ℕ → TableLine

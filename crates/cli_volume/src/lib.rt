@@ -21,7 +21,7 @@ pub use commits::{Commits, Direct, Journalled};
 pub use edits::Edits;
 pub use in_place::InPlace;
 pub use kept::{KeptLine, StagedCommits, Way};
-pub use lines::{Devices, LineParts, committed_line, print_superblock, table_line, table_of};
+pub use lines::{Devices, committed_line, print_superblock, table_line, table_of};
 pub use opened_volume::{OpenedVolume, Sizes, offset_of, open_both, open_volume};
 pub use staging::{OverFile, StagedEdits, StagedFile};
 pub use superblock::{SUPERBLOCK_SIZE, read_superblock, superblock_in};

@@ -2,58 +2,47 @@
 ghost use Rattle.std.specs.Prelude.{◌≡◌, ◌^◌, ◌<◌, ◌≤◌, IfOk, IfErr, OnOk, string_bytes};
 ghost use Rattle.verity_geometry.specs.Geometry.{levels_of};
 ghost use Rattle.std.specs.Io.KnownBytes.{Appends};
-ghost use Rattle.verity_superblock.specs.Line.{IsTableLine, canonical};
+ghost use Rattle.verity_superblock.specs.Line.{IsTableLine, canonical, line_of};
 ghost use Rattle.std.specs.Fmt.{decimal};
-ghost use Rattle.cli_volume.specs.Lines.{IsOfLine, line_of, volume_line, named_line, kind_lines, size_lines, level_line, tree_lines};
+ghost use Rattle.cli_volume.specs.Lines.{IsOfLine, volume_line, named_line, kind_lines, size_lines, level_line, tree_lines};
 ghost use Rattle.cli_volume.specs.Lines.{superblock_lines, IsOfOutput};
 
-use cli_faults::{Failure, salt};
+use cli_faults::Failure;
 use std::alloc::Global;
 use std::io::Write;
 use verity_digest::Digest;
 use verity_edit::geometry_over;
 use verity_geometry::Geometry;
-use verity_superblock::{Superblock, Table, spell_salt};
+use verity_superblock::{Superblock, Table, TableValues, spell_salt};
 
-/// What a table line names but for the root hash.
-#[derive(Clone, Copy)]
-pub struct LineParts<'a> {
-    pub data_path: &'a str,
-    pub hash_path: &'a str,
-    pub data_block_size: usize,
-    pub hash_block_size: usize,
-    pub data_blocks: u64,
-    pub hash_start_block: u64,
-    pub salt: &'a [u8],
-}
-
-/// The table line of a volume with this root hash, as it is printed. There is none for want of memory, or where the salt or the line is
-/// refused.
-pub fn table_line(alloc: Global, volume: &LineParts<'_>, root: Digest) -> Result<String, Failure>
-    ensures text { IfOk result (λ text. string_bytes text ≡ canonical (line_of volume.now root)) }
-    ensures profile { IfOk result (λ text. IsTableLine (line_of volume.now root)) }
+/// The table line of these values, this root hash and this salt, as it is printed. There is none for want of memory, or where the salt
+/// or the line is refused.
+pub fn table_line(
+    alloc: Global,
+    values: &TableValues<'_>,
+    root: Digest,
+    salt: &[u8],
+) -> Result<String, Failure>
+    ensures text { IfOk result (λ text. string_bytes text ≡ canonical (line_of values.now root salt.now)) }
+    ensures profile { IfOk result (λ text. IsTableLine (line_of values.now root salt.now)) }
     ensures refused { IfErr result IsOfLine }
 {
-    Ok(table_of(alloc, volume, root)?.text()?)
+    Ok(table_of(alloc, values, root, salt)?.text()?)
 }
 
-/// The table line of a volume with this root hash. Refused as for `table_line`.
-pub fn table_of(alloc: Global, volume: &LineParts<'_>, root: Digest) -> Result<Table, Failure>
-    ensures value { IfOk result (λ table. table ≡ line_of volume.now root) }
+/// The same table line, not spelled yet. Refused as for `table_line`.
+pub fn table_of(
+    alloc: Global,
+    values: &TableValues<'_>,
+    root: Digest,
+    salt: &[u8],
+) -> Result<Table, Failure>
+    ensures value { IfOk result (λ table. table ≡ line_of values.now root salt.now) }
     ensures profile { IfOk result IsTableLine }
     ensures refused { IfErr result IsOfLine }
 {
-    Ok(Table::new(
-        alloc,
-        volume.data_path,
-        volume.hash_path,
-        volume.data_block_size,
-        volume.hash_block_size,
-        volume.data_blocks,
-        volume.hash_start_block,
-        root,
-        salt(alloc, volume.salt)?,
-    )?)
+    let salt = cli_faults::salt(alloc, salt)?;
+    Ok(Table::new(alloc, values, root, salt)?)
 }
 
 /// Where a volume's devices are, at which hash block its tree begins, and how far both can grow.
@@ -91,16 +80,15 @@ pub(crate) fn table_of_volume(
     ensures value { IfOk result (λ table. table ≡ volume_line devices.entry superblock.now root) }
     ensures refused { IfErr result IsOfLine }
 {
-    let volume = LineParts {
-        data_path: devices.data_path,
-        hash_path: devices.hash_path,
+    let values = TableValues {
+        dev: devices.data_path,
+        hash_dev: devices.hash_path,
         data_block_size: superblock.data_block_size(),
         hash_block_size: superblock.hash_block_size(),
         data_blocks: superblock.data_blocks(),
         hash_start_block: devices.hash_start_block,
-        salt: superblock.salt().bytes(),
     };
-    table_of(alloc, &volume, root)
+    table_of(alloc, &values, root, superblock.salt().bytes())
 }
 
 /// Prints a superblock, and where the levels of its tree stand, which begins at a hash block. Refused for want of memory, or where the

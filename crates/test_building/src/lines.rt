@@ -4,7 +4,7 @@ use std::alloc::Global;
 use std::test::Fail;
 use uuid::Uuid;
 use verity_digest::{Algorithm, Digest, Salt};
-use verity_superblock::{SuperFault, Superblock, Table, TableFault, tree_start};
+use verity_superblock::{SuperFault, Superblock, Table, TableFault, TableValues, tree_start};
 
 const UUID: &str = "01234567-89ab-cdef-0123-456789abcdef";
 
@@ -205,7 +205,15 @@ fn line(
     hex::decode_to_slice(ROOT, &mut root)?;
     let salt = Salt::new(alloc, &[])?;
     let root = Digest::from_bytes(root);
-    match Table::new(alloc, data, hash, data_size, 512, 1, 1, root, salt) {
+    let values = TableValues {
+        dev: data,
+        hash_dev: hash,
+        data_block_size: data_size,
+        hash_block_size: 512,
+        data_blocks: 1,
+        hash_start_block: 1,
+    };
+    match Table::new(alloc, &values, root, salt) {
         Ok(table) => Ok(Ok(table.text()?)),
         Err(fault) => Ok(Err(fault)),
     }

@@ -6,7 +6,7 @@ use std::process::Abort;
 use std::test::Fail;
 use verity_digest::Salt;
 use verity_line_file::{LineFile, LineFileFault, Settled};
-use verity_superblock::{Table, TableFault};
+use verity_superblock::{Table, TableFault, TableValues};
 
 const ONE: Small = Small { blocks: 1, byte: 1 };
 
@@ -56,7 +56,15 @@ fn a_line_with_a_feed_in_it_is_not_begun(rt: HostRuntime) -> Result<(), Fail> {
     let alloc = rt.alloc();
     let root = table(alloc, ONE)?.root();
     let salt = Salt::new(alloc, &[])?;
-    let table = Table::new(alloc, "im\nage", "hash", 512, 512, 1, 1, root, salt)?;
+    let values = TableValues {
+        dev: "im\nage",
+        hash_dev: "hash",
+        data_block_size: 512,
+        hash_block_size: 512,
+        data_blocks: 1,
+        hash_start_block: 1,
+    };
+    let table = Table::new(alloc, &values, root, salt)?;
     let mut file = folder(alloc, None, None)?;
     let begun = file.begin(alloc, &table);
     assert!(rt; begun == Err(LineFileFault::Line(TableFault::Fields)));

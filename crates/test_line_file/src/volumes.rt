@@ -5,7 +5,7 @@ use uuid::Uuid;
 use verity_digest::{Algorithm, Digest, Hasher, Salt};
 use verity_line_file::Shown;
 use verity_store::MemStore;
-use verity_superblock::{Superblock, Table};
+use verity_superblock::{Superblock, Table, TableValues};
 
 const SIZE: usize = 512;
 
@@ -50,17 +50,15 @@ pub fn table(alloc: Global, small: Small) -> Result<Table, Fail> {
         digest(alloc, &block)?
     };
     let salt = Salt::new(alloc, &[0, 255])?;
-    Ok(Table::new(
-        alloc,
-        "image",
-        "image.hash",
-        SIZE,
-        SIZE,
-        small.blocks,
-        1,
-        root,
-        salt,
-    )?)
+    let values = TableValues {
+        dev: "image",
+        hash_dev: "image.hash",
+        data_block_size: SIZE,
+        hash_block_size: SIZE,
+        data_blocks: small.blocks,
+        hash_start_block: 1,
+    };
+    Ok(Table::new(alloc, &values, root, salt)?)
 }
 
 /// The text of its line in a file.

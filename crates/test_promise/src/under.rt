@@ -6,7 +6,7 @@ use std::alloc::Global;
 use std::test::Fail;
 use verity_edit::Command;
 use verity_hub::{CountedReader, CountedWriter};
-use verity_promise::{edit_and_serve_under_line, edit_under_line};
+use verity_promise::{Client, edit_and_serve_under_line, edit_under_line};
 use verity_store::{Block, MemStore};
 
 /// The root hash of 16 blocks of 0x5a, by an independent program.
@@ -84,8 +84,11 @@ fn served(
     let line = line(alloc, ROOT_BEFORE, 16)?;
     let name = ExportName::new(b"vol")?;
     let mut replies = Vec::new(alloc);
-    let mut reader = CountedReader::new(TWO_READS);
-    let mut said = CountedWriter::new(Vec::new(alloc));
+    let mut client = Client {
+        reader: CountedReader::new(TWO_READS),
+        writer: CountedWriter::new(Vec::new(alloc)),
+        limit: 100,
+    };
     let served = edit_and_serve_under_line(
         alloc,
         data,
@@ -94,13 +97,11 @@ fn served(
         &commands,
         &mut replies,
         name,
-        &mut reader,
-        &mut said,
-        100,
+        &mut client,
     );
     Ok((
         end_of(&served),
-        difference(&said.writer, want),
+        difference(&client.writer.writer, want),
         told_by(&replies),
     ))
 }

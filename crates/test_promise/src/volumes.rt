@@ -9,7 +9,7 @@ use verity_edit::{Command, EditFault, OpenRefused, Reply};
 use verity_hub::ServeFault;
 use verity_promise::{Edited, Unserved};
 use verity_store::{Block, MemStore};
-use verity_superblock::Table;
+use verity_superblock::{Table, TableValues};
 
 /// Where the superblock stands.
 pub const OFFSET: u64 = 512;
@@ -86,7 +86,15 @@ pub fn difference(said: &[u8], parts: &[&[u8]]) -> Option<usize> {
 pub fn line(alloc: Global, root: [u8; 32], blocks: u64) -> Result<Table, Fail> {
     let root = Digest::from_bytes(root);
     let salt = Salt::new(alloc, b"")?;
-    Ok(Table::new(alloc, "d", "h", 512, 512, blocks, 2, root, salt)?)
+    let values = TableValues {
+        dev: "d",
+        hash_dev: "h",
+        data_block_size: 512,
+        hash_block_size: 512,
+        data_blocks: blocks,
+        hash_start_block: 2,
+    };
+    Ok(Table::new(alloc, &values, root, salt)?)
 }
 
 /// What came of edits.

@@ -5,7 +5,7 @@ use nbd_session::ExportName;
 use std::alloc::Global;
 use std::test::Fail;
 use verity_hub::{CountedReader, CountedWriter};
-use verity_promise::{edit_and_serve, edit_from_scratch};
+use verity_promise::{Client, edit_and_serve, edit_from_scratch};
 use verity_store::MemStore;
 
 // Whether the commands over the sixteen blocks leave these bytes, and what is seen of the replies.
@@ -37,8 +37,11 @@ fn served(
     let commands = commands(alloc)?;
     let name = ExportName::new(b"vol")?;
     let mut replies = Vec::new(alloc);
-    let mut reader = CountedReader::new(CLIENT);
-    let mut said = CountedWriter::new(Vec::new(alloc));
+    let mut client = Client {
+        reader: CountedReader::new(CLIENT),
+        writer: CountedWriter::new(Vec::new(alloc)),
+        limit: 100,
+    };
     let served = edit_and_serve(
         alloc,
         data,
@@ -47,11 +50,9 @@ fn served(
         &commands,
         &mut replies,
         name,
-        &mut reader,
-        &mut said,
-        100,
+        &mut client,
     );
-    Ok((end_of(&served), difference(&said.writer, want)))
+    Ok((end_of(&served), difference(&client.writer.writer, want)))
 }
 
 #[test]

@@ -12,7 +12,7 @@ use verity_chain::Place;
 use verity_check::CheckFault;
 use verity_digest::Salt;
 use verity_store::Which;
-use verity_superblock::Table;
+use verity_superblock::{Table, TableValues};
 
 /// How many data blocks the volume has.
 const BLOCKS: usize = 17;
@@ -21,17 +21,15 @@ const BLOCKS: usize = 17;
 fn source(alloc: Global) -> Result<(FourFiles, String), Fail> {
     let (hash_store, root) = device(alloc, BLOCKS)?;
     let salt = Salt::new(alloc, b"\x00\xff")?;
-    let to = Table::new(
-        alloc,
-        "from",
-        "from.hash",
-        512,
-        512,
-        BLOCKS as u64,
-        1,
-        root,
-        salt,
-    )?;
+    let values = TableValues {
+        dev: "from",
+        hash_dev: "from.hash",
+        data_block_size: 512,
+        hash_block_size: 512,
+        data_blocks: BLOCKS as u64,
+        hash_start_block: 1,
+    };
+    let to = Table::new(alloc, &values, root, salt)?;
     let bytes = hash_store.bytes().to_vec(alloc)?;
     Ok((
         FourFiles::new(alloc, image(alloc, BLOCKS)?, bytes),

@@ -7,7 +7,7 @@ use uuid::Uuid;
 use verity_build::{BuildParameters, build};
 use verity_digest::{Algorithm, Digest, Salt};
 use verity_store::MemStore;
-use verity_superblock::{Table, TableFault};
+use verity_superblock::{Table, TableFault, TableValues};
 
 /// A volume in two stores, and its root hash.
 #[derive(Drop)]
@@ -69,7 +69,15 @@ pub fn table<A: Allocator + Copy>(
     let Ok(salt) = Salt::new(alloc, b"\x00\xff") else {
         return Err(TableFault::NoMemory);
     };
-    Table::new(alloc, "d", "h", 512, 512, blocks, 1, root, salt)
+    let values = TableValues {
+        dev: "d",
+        hash_dev: "h",
+        data_block_size: 512,
+        hash_block_size: 512,
+        data_blocks: blocks,
+        hash_start_block: 1,
+    };
+    Table::new(alloc, &values, root, salt)
 }
 
 /// Another store of the same bytes.

@@ -28,7 +28,6 @@ use verity_superblock::Table;
 /// unseen.
 #[derive(Drop)]
 pub struct Checked<H: BlockStore, A: Allocator + Copy + Drop = Global> {
-    alloc: A,
     tree: Tree<A>,
     hash_store: H,
     notes: Vec<Noted<A>, A>,
@@ -81,7 +80,6 @@ impl<H: BlockStore, A: Allocator + Copy + Drop> Model for Checked<H, A> {
 
 // Gives the block of this number, checked.
 fn look_up<H: BlockStore, A: Allocator + Copy + Drop>(
-    alloc: A,
     tree: &mut Tree<A>,
     hashed: &mut Count,
     store: &mut H,
@@ -120,7 +118,7 @@ fn look_up<H: BlockStore, A: Allocator + Copy + Drop>(
         return Ok(());
     }
     let (level, index) = tree.locate(number);
-    let c = fetch(alloc, tree, hashed, store, notes, since, level, index, out)?;
+    let c = fetch(tree, hashed, store, notes, since, level, index, out)?;
     out.copy_from_slice(notes[c].block());
     Ok(())
 }
@@ -144,7 +142,6 @@ impl<H: BlockStore, A: Allocator + Copy + Drop> Checked<H, A> {
         let since = end_of(&hash_store);
         let origin = origin_of(&hash_store);
         Checked {
-            alloc,
             tree,
             hash_store,
             notes: Vec::new(alloc),
@@ -229,7 +226,6 @@ impl<H: BlockStore, A: Allocator + Copy + Drop> BlockStore for Checked<H, A> {
             return Err(StoreFault::Device);
         }
         match look_up(
-            self.alloc,
             &mut self.tree,
             &mut self.hashed,
             &mut self.hash_store,

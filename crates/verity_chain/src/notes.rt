@@ -81,34 +81,40 @@ fn find<A: Allocator>(notes: &[Noted<A>], number: u64) -> Option<usize>
     None
 }
 
+// A hash block, and the digest that its checked parent, or the table line, names for it.
+#[derive(Clone, Copy)]
+struct Named {
+    level: usize,
+    index: u64,
+    digest: Digest,
+}
+
 // Reads a hash block whose digest is named, checks it and notes it.
 fn take<H: BlockStore, A: Allocator + Copy + Drop>(
-    alloc: A,
     tree: &mut Tree<A>,
     hashed: &mut Count,
     store: &mut H,
     notes: &mut Vec<Noted<A>, A>,
     since: &Mark,
-    level: usize,
-    index: u64,
-    named: &Digest,
+    named: Named,
     block: &mut [u8],
 ) -> Result<usize, ReadRefused>
-    requires level { level < height tree.old }
-    requires index { index < row_len tree.old (suc level) }
+    requires level { named.level < height tree.old }
+    requires index { named.index < row_len tree.old (suc named.level) }
     requires sized { length block.old ≡ tree.old.hash_block_size }
     requires store { IsHashStoreOf H.BlockStore tree.old store.old }
     requires since { since.now.steps ≤ length (H.given store.old) }
     requires checked { AreChecked tree.old notes.old.items }
     requires given { WereGiven H.BlockStore since.now.steps store.old notes.old.items }
-    requires names { Names tree.old (noted tree.old notes.old.items) (suc level) index named.now }
-    requires unnoted { ¬ (Contains (numbers notes.old.items) (hash_place tree.old level index)) }
-    ensures found { IfOk result (λ c. IsNoteAt notes.new.items c (hash_place tree.old level index)) }
+    requires names { Names tree.old (noted tree.old notes.old.items) (suc named.level) named.index named.digest }
+    requires unnoted { ¬ (Contains (numbers notes.old.items) (hash_place tree.old named.level named.index)) }
+    ensures found { IfOk result (λ c. IsNoteAt notes.new.items c (hash_place tree.old named.level named.index)) }
     ensures checked { AreChecked tree.old notes.new.items }
     ensures given { WereGiven H.BlockStore since.now.steps store.new notes.new.items }
     ensures kept { KeepsNotes notes.old.items notes.new.items }
     ensures apart { AreApart notes.old.items → AreApart notes.new.items }
-    ensures within { (set : ℕ → ℕ → Bool) → set level index ≡ true → NotesWithin tree.old set notes.old.items notes.new.items }
+    ensures within { (set : ℕ → ℕ → Bool) → set named.level named.index ≡ true
+        → NotesWithin tree.old set notes.old.items notes.new.items }
     ensures one { H.reads store.new ≤ H.reads store.old + 1 }
     ensures err { IfErr result (ExplainsUnread tree.old (hash_given H.BlockStore tree.old since.now.steps store.new)
         (H.failures store.old < H.failures store.new)) }
@@ -121,15 +127,20 @@ fn take<H: BlockStore, A: Allocator + Copy + Drop>(
     ensures hashed_each { OnOk result (hashed.new.steps + H.reads store.old ≡ hashed.old.steps + H.reads store.new) }
     ensures same { tree.new ≡ tree.old }
 {
+    let Named {
+        level,
+        index,
+        digest,
+    } = named;
     let number = tree.hash_place(level, index);
     if store.read(number, block).is_err() {
         return Err(ReadRefused::Store);
     }
-    let right = tree.check(block, named, hashed);
+    let right = tree.check(block, &digest, hashed);
     if !right {
         return Err(ReadRefused::Mismatch { level, index });
     }
-    let Ok(bytes) = block.to_vec(alloc) else {
+    let Ok(bytes) = block.to_vec(*notes.allocator()) else {
         return Err(ReadRefused::NoMemory);
     };
     let c = notes.len();
@@ -143,10 +154,9 @@ fn take<H: BlockStore, A: Allocator + Copy + Drop>(
 /// which it reads those that aren't there.
 ///
 /// Each block that is read is noted, unless it was refused, which ends the call; no block is noted twice. Each block that a read
-/// gave is hashed once, which is counted. `block` has the bytes of a hash block, and may then hold anything. It takes memory for
-/// each note.
+/// gave is hashed once, which is counted. `block` has the bytes of a hash block, and may then hold anything. It takes memory
+/// for each note, where the notes stand.
 pub fn fetch<H: BlockStore, A: Allocator + Copy + Drop>(
-    alloc: A,
     tree: &mut Tree<A>,
     hashed: &mut Count,
     store: &mut H,
@@ -188,26 +198,22 @@ pub fn fetch<H: BlockStore, A: Allocator + Copy + Drop>(
     }
     let levels = tree.levels();
     if level + 1 == levels {
-        let root = tree.root();
-        return take(
-            alloc, tree, hashed, store, notes, since, level, index, &root, block,
-        );
+        let digest = tree.root();
+        let named = Named {
+            level,
+            index,
+            digest,
+        };
+        return take(tree, hashed, store, notes, since, named, block);
     }
     let above = tree.parent_of(level + 1, index);
-    let c = fetch(
-        alloc,
-        tree,
-        hashed,
-        store,
-        notes,
-        since,
-        level + 1,
-        above,
-        block,
-    )?;
+    let c = fetch(tree, hashed, store, notes, since, level + 1, above, block)?;
     let slot = tree.slot_of(index);
-    let named = tree.digest_in(notes[c].block(), slot);
-    take(
-        alloc, tree, hashed, store, notes, since, level, index, &named, block,
-    )
+    let digest = tree.digest_in(notes[c].block(), slot);
+    let named = Named {
+        level,
+        index,
+        digest,
+    };
+    take(tree, hashed, store, notes, since, named, block)
 }

@@ -111,7 +111,6 @@ fn make_again<H: BlockStore, A: Allocator + Copy>(
 
 /// Makes hash block `index` of a level again, adds it to the plan and its digest to `next`.
 fn make_block<H: BlockStore, A: Allocator + Copy>(
-    alloc: A,
     hash_store: &mut H,
     hasher: &mut Hasher<A>,
     level: &Level,
@@ -143,6 +142,7 @@ fn make_block<H: BlockStore, A: Allocator + Copy>(
     let Ok(digest) = make_again(hash_store, hasher, level, children, index, block) else {
         return Err(EditFault::Store(Which::Hash));
     };
+    let alloc = *plan.allocator();
     let Ok(made) = Made::behind(alloc, plan.last(), level.start + index, block) else {
         return Err(EditFault::NoMemory);
     };
@@ -161,7 +161,6 @@ fn make_block<H: BlockStore, A: Allocator + Copy>(
 
 /// Makes the hash blocks of these numbers of a level again, adds them to the plan and answers their digests, in this room.
 pub fn make_level<H: BlockStore, A: Allocator + Copy>(
-    alloc: A,
     hash_store: &mut H,
     hasher: &mut Hasher<A>,
     level: &Level,
@@ -196,7 +195,7 @@ pub fn make_level<H: BlockStore, A: Allocator + Copy>(
     let mut next = room;
     for index in numbers {
         make_block(
-            alloc, hash_store, hasher, level, children, *index, block, plan, &mut next,
+            hash_store, hasher, level, children, *index, block, plan, &mut next,
         )?;
     }
     Ok(next)

@@ -95,7 +95,6 @@ impl Change {
 
 /// Makes a level of the new tree above these children, adds its hash blocks to the plan and answers their digests.
 fn make_next<H: BlockStore, A: Allocator + Copy>(
-    alloc: A,
     hash_store: &mut H,
     hasher: &mut Hasher<A>,
     change: &Change,
@@ -143,7 +142,7 @@ fn make_next<H: BlockStore, A: Allocator + Copy>(
         return Err(EditFault::NoMemory);
     };
     make_level(
-        alloc, hash_store, hasher, &made, children, &numbers, digests, block, plan,
+        hash_store, hasher, &made, children, &numbers, digests, block, plan,
     )
 }
 
@@ -202,7 +201,7 @@ pub fn make_tree<H: BlockStore, A: Allocator + Copy>(
     for level in 0..change.new.levels() {
         let room = next_room(alloc, &mut rooms)?;
         children = make_next(
-            alloc, hash_store, hasher, change, level, &children, room, block, plan,
+            hash_store, hasher, change, level, &children, room, block, plan,
         )?;
     }
     Ok(top_digest(&children, change.root))

@@ -18,6 +18,17 @@ use verity_store::BlockStore;
 /// How many checked hash blocks are kept.
 const CACHE: usize = 1024;
 
+/// A client that is served: what it sends, what is sent to it, and in how many turns at most.
+#[derive(Drop)]
+pub struct Client<R, W> {
+    /// What it sends.
+    pub reader: R,
+    /// What is sent to it.
+    pub writer: W,
+    /// How many turns may give bytes.
+    pub limit: u64,
+}
+
 /// Why no client was served. Nothing was read from it or written to it.
 #[derive(Drop)]
 pub enum Unserved<D, H, A: Allocator = Global> {
@@ -42,22 +53,21 @@ pub fn edit_and_serve<D: BlockStore + Drop, H: BlockStore + Drop, R: Input, W: O
     commands: &[Command],
     replies: &mut Vec<Reply>,
     name: ExportName,
-    reader: &mut R,
-    writer: &mut W,
-    limit: u64,
+    client: &mut Client<R, W>,
 ) -> Result<Result<(), ServeFault>, Unserved<D, H>>
     ensures delivers { IfOk result (λ served. Delivers D.BlockStore H.BlockStore name
-        (ends_of (R.remaining reader.old) (R.remaining reader.new) (W.contents writer.old) (W.contents writer.new)) limit served
+        (ends_of (R.remaining client.old.reader) (R.remaining client.new.reader) (W.contents client.old.writer)
+        (W.contents client.new.writer)) client.old.limit served
         Global data_store hash_store offset commands.now replies.old.items replies.new.items) }
     ensures refused { IfErr result (ExplainsUnserved D.BlockStore H.BlockStore data_store hash_store offset commands.now
         replies.old.items replies.new.items) }
-    ensures read_failed { IfOk result (λ served. FailsToRead (R.failures reader.old) (R.failures reader.new) served) }
-    ensures write_failed { IfOk result (λ served. FailsToWrite (W.failures writer.old) (W.failures writer.new) served) }
-    ensures unread { OnErr result (R.remaining reader.new ≡ R.remaining reader.old) }
-    ensures unwritten { OnErr result (W.contents writer.new ≡ W.contents writer.old) }
+    ensures read_failed { IfOk result (λ served. FailsToRead (R.failures client.old.reader) (R.failures client.new.reader) served) }
+    ensures write_failed { IfOk result (λ served. FailsToWrite (W.failures client.old.writer) (W.failures client.new.writer) served) }
+    ensures unread { OnErr result (R.remaining client.new.reader ≡ R.remaining client.old.reader) }
+    ensures unwritten { OnErr result (W.contents client.new.writer ≡ W.contents client.old.writer) }
 {
     match edit_from_scratch(alloc, data_store, hash_store, offset, commands, replies) {
-        Ok(edited) => serve_edited(alloc, edited, name, reader, writer, limit),
+        Ok(edited) => serve_edited(alloc, edited, name, client),
         Err(refused) => Err(Unserved::Opened(refused)),
     }
 }
@@ -67,18 +77,17 @@ pub fn serve_edited<D: BlockStore + Drop, H: BlockStore + Drop, R: Input, W: Out
     alloc: Global,
     edited: Edited<D, H>,
     name: ExportName,
-    reader: &mut R,
-    writer: &mut W,
-    limit: u64,
+    client: &mut Client<R, W>,
 ) -> Result<Result<(), ServeFault>, Unserved<D, H>>
     requires { IfSome edited.table (λ t. AreStoresOf D.BlockStore H.BlockStore t edited.data_store edited.hash_store) }
     ensures served { IfOk result (λ served. IsServed D.BlockStore H.BlockStore name
-        (ends_of (R.remaining reader.old) (R.remaining reader.new) (W.contents writer.old) (W.contents writer.new)) limit served edited) }
+        (ends_of (R.remaining client.old.reader) (R.remaining client.new.reader) (W.contents client.old.writer)
+        (W.contents client.new.writer)) client.old.limit served edited) }
     ensures refused { IfErr result (ExplainsUnmade edited) }
-    ensures read_failed { IfOk result (λ served. FailsToRead (R.failures reader.old) (R.failures reader.new) served) }
-    ensures write_failed { IfOk result (λ served. FailsToWrite (W.failures writer.old) (W.failures writer.new) served) }
-    ensures unread { OnErr result (R.remaining reader.new ≡ R.remaining reader.old) }
-    ensures unwritten { OnErr result (W.contents writer.new ≡ W.contents writer.old) }
+    ensures read_failed { IfOk result (λ served. FailsToRead (R.failures client.old.reader) (R.failures client.new.reader) served) }
+    ensures write_failed { IfOk result (λ served. FailsToWrite (W.failures client.old.writer) (W.failures client.new.writer) served) }
+    ensures unread { OnErr result (R.remaining client.new.reader ≡ R.remaining client.old.reader) }
+    ensures unwritten { OnErr result (W.contents client.new.writer ≡ W.contents client.old.writer) }
 {
     if edited.done.is_err() {
         return Err(Unserved::Edited(edited));
@@ -105,5 +114,6 @@ pub fn serve_edited<D: BlockStore + Drop, H: BlockStore + Drop, R: Input, W: Out
         Err(fault) => return Err(Unserved::Check(fault)),
     };
     let mut hub = Hub::new(alloc, verifier, name);
-    Ok(serve_stream(&mut hub, reader, writer, limit))
+    let limit = client.limit;
+    Ok(serve_stream(&mut hub, &mut client.reader, &mut client.writer, limit))
 }

@@ -19,7 +19,7 @@ mod scratch;
 mod under;
 
 pub use answers::{AnswerFault, answer_events};
-pub use delivery::{Unserved, edit_and_serve};
+pub use delivery::{Client, Unserved, edit_and_serve};
 pub use edited::Edited;
 pub use scratch::edit_from_scratch;
 pub use under::{edit_and_serve_under_line, edit_under_line};

@@ -12,7 +12,7 @@ use std::alloc::{AllocError, Allocator};
 use verity_digest::{Digest, Salt};
 use verity_edit::{Command, Editor, OpenRefused, Reply};
 use verity_store::BlockStore;
-use verity_superblock::{Table, tree_start};
+use verity_superblock::{Table, TableValues, tree_start};
 
 /// Opens the volume whose superblock stands at a byte offset of the hash store, does the commands in order with one reply
 /// each, and closes it. The opening reads each data block at most once, and nothing after it reads a data block. Where no commit
@@ -98,12 +98,16 @@ fn line_of<D: BlockStore, H: BlockStore, A: Allocator + Copy>(
     if broken {
         return None;
     }
-    let data_size = data_store.block_size();
-    let hash_size = hash_store.block_size();
     let blocks = data_store.len();
-    match Table::new(
-        alloc, "data", "hash", data_size, hash_size, blocks, start, root, salt,
-    ) {
+    let values = TableValues {
+        dev: "data",
+        hash_dev: "hash",
+        data_block_size: data_store.block_size(),
+        hash_block_size: hash_store.block_size(),
+        data_blocks: blocks,
+        hash_start_block: start,
+    };
+    match Table::new(alloc, &values, root, salt) {
         Ok(table) => Some(table),
         Err(_) => None,
     }

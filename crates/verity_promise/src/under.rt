@@ -6,7 +6,7 @@ ghost use Rattle.verity_promise.specs.Delivery.{ends_of};
 ghost use Rattle.verity_promise.specs.OnTheWay.{AreAnsweredUnder, IsClosedUnder};
 ghost use Rattle.verity_promise.specs.Under.{DeliversUnder, ExplainsUnservedUnder, IsEditedUnder, IsRefusedUnder};
 
-use crate::delivery::{Unserved, serve_edited};
+use crate::delivery::{Client, Unserved, serve_edited};
 use crate::edited::Edited;
 use nbd_session::ExportName;
 use std::alloc::{AllocError, Allocator, Global};
@@ -57,22 +57,21 @@ pub fn edit_and_serve_under_line<D: BlockStore + Drop, H: BlockStore + Drop, R: 
     commands: &[Command],
     replies: &mut Vec<Reply>,
     name: ExportName,
-    reader: &mut R,
-    writer: &mut W,
-    limit: u64,
+    client: &mut Client<R, W>,
 ) -> Result<Result<(), ServeFault>, Unserved<D, H>>
     ensures delivers { IfOk result (DeliversUnder D.BlockStore H.BlockStore data_store hash_store table commands.now Global
         replies.old.items replies.new.items name
-        (ends_of (R.remaining reader.old) (R.remaining reader.new) (W.contents writer.old) (W.contents writer.new)) limit) }
+        (ends_of (R.remaining client.old.reader) (R.remaining client.new.reader) (W.contents client.old.writer)
+        (W.contents client.new.writer)) client.old.limit) }
     ensures refused { IfErr result (ExplainsUnservedUnder D.BlockStore H.BlockStore data_store hash_store table commands.now
         replies.old.items replies.new.items) }
-    ensures read_failed { IfOk result (λ served. FailsToRead (R.failures reader.old) (R.failures reader.new) served) }
-    ensures write_failed { IfOk result (λ served. FailsToWrite (W.failures writer.old) (W.failures writer.new) served) }
-    ensures unread { OnErr result (R.remaining reader.new ≡ R.remaining reader.old) }
-    ensures unwritten { OnErr result (W.contents writer.new ≡ W.contents writer.old) }
+    ensures read_failed { IfOk result (λ served. FailsToRead (R.failures client.old.reader) (R.failures client.new.reader) served) }
+    ensures write_failed { IfOk result (λ served. FailsToWrite (W.failures client.old.writer) (W.failures client.new.writer) served) }
+    ensures unread { OnErr result (R.remaining client.new.reader ≡ R.remaining client.old.reader) }
+    ensures unwritten { OnErr result (W.contents client.new.writer ≡ W.contents client.old.writer) }
 {
     match edit_under_line(alloc, data_store, hash_store, table, commands, replies) {
-        Ok(edited) => serve_edited(alloc, edited, name, reader, writer, limit),
+        Ok(edited) => serve_edited(alloc, edited, name, client),
         Err(refused) => Err(Unserved::Opened(refused)),
     }
 }

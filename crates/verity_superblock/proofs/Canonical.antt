@@ -30,6 +30,7 @@ use Rattle.verity_superblock.proofs.LineReads.{line_refusal-taken}
 use Rattle.verity_superblock.proofs.InTurn.{one-taken, two-taken, three-none}
 use Rattle.verity_superblock.proofs.Refusals.{text_true}
 use Rattle.verity_superblock.specs.declared.faults.TableFault.TheVariants as fault
+use Rattle.verity_superblock.specs.declared.table.TableValues.{TableValues}
 use Rattle.verity_profile.specs.Profile.{is_block_size, is_block_count}
 use Rattle.std.specs.Cmp.Lexicographic.{same_text}
 
@@ -293,22 +294,22 @@ spelt-from t paths numbers digests e1 e2 e3 =
     (decimal t.hash_start_block) (name_of t.algorithm) (encode_lower t.root) (salt_text t.salt)
 
 -- values of which none is refused
-pub record ValuesFit (dev hash_dev : List ℕ) (data_size hash_size blocks begin : ℕ) : Type 0 where
-  pub paths : (is_path dev ≡ true) × (is_path hash_dev ≡ true)
-  pub sizes : (is_block_size data_size ≡ true) × (is_block_size hash_size ≡ true)
-  pub count : is_block_count blocks ≡ true
-  pub near : begin ≤ 2 ^ 40
+pub record ValuesFit (v : TableValues) : Type 0 where
+  pub paths : (is_path v.dev.now ≡ true) × (is_path v.hash_dev.now ≡ true)
+  pub sizes : (is_block_size v.data_block_size ≡ true) × (is_block_size v.hash_block_size ≡ true)
+  pub count : is_block_count v.data_blocks ≡ true
+  pub near : v.hash_start_block ≤ 2 ^ 40
 
-pub values_refusal-none : (dev hash_dev : List ℕ) (data_size hash_size blocks begin : ℕ) →
-    None ≡ values_refusal dev hash_dev data_size hash_size blocks begin → ValuesFit dev hash_dev data_size hash_size blocks begin
-values_refusal-none dev hash_dev data_size hash_size blocks begin h =
-    let all = three-none (is_path dev && is_path hash_dev) (is_block_size data_size && is_block_size hash_size)
-    (is_block_count blocks && nat_le begin (2 ^ 40))
+pub values_refusal-none : (v : TableValues) → None ≡ values_refusal v → ValuesFit v
+values_refusal-none v h =
+    let all = three-none (is_path v.dev.now && is_path v.hash_dev.now)
+    (is_block_size v.data_block_size && is_block_size v.hash_block_size)
+    (is_block_count v.data_blocks && nat_le v.hash_start_block (2 ^ 40))
     fault.Fields fault.Size fault.Count h in
-    let counts = and_parts (is_block_count blocks) (nat_le begin (2 ^ 40)) all.third in
+    let counts = and_parts (is_block_count v.data_blocks) (nat_le v.hash_start_block (2 ^ 40)) all.third in
     record {
-      paths = and_parts (is_path dev) (is_path hash_dev) all.first;
-      sizes = and_parts (is_block_size data_size) (is_block_size hash_size) all.second;
+      paths = and_parts (is_path v.dev.now) (is_path v.hash_dev.now) all.first;
+      sizes = and_parts (is_block_size v.data_block_size) (is_block_size v.hash_block_size) all.second;
       count = counts.0;
-      near = leb-true begin (2 ^ 40) counts.1;
+      near = leb-true v.hash_start_block (2 ^ 40) counts.1;
     }

@@ -15,6 +15,7 @@ use Rattle.verity_profile.specs.Profile.{is_block_size, is_block_count, IsBlockS
 use Rattle.verity_superblock.specs.Reading.{is_text}
 use Rattle.verity_superblock.specs.declared.faults.TableFault.{TableFault}
 use Rattle.verity_superblock.specs.declared.faults.TableFault.TheVariants as fault
+use Rattle.verity_superblock.specs.declared.table.TableValues.{TableValues}
 
 -- the values of a table line, but for its version, which is 1. The paths are their bytes
 pub record TableLine : Type 0 where
@@ -155,13 +156,27 @@ line_refusal text = option_or (shape_refusal text)
     (option_or (digest_refusal (field text 7) (field text 8)) (salt_refusal (field text 9))))
 
 -- of values
-abbrev pub values_refusal : List ℕ → List ℕ → ℕ → ℕ → ℕ → ℕ → Option TableFault
-values_refusal dev hash_dev data_size hash_size count start =
-    if not (is_path dev && is_path hash_dev) then Some fault.Fields
-    else if not (is_block_size data_size && is_block_size hash_size) then Some fault.Size
-    else if not (is_block_count count && nat_le start (2 ^ 40)) then Some fault.Count
+abbrev pub values_refusal : TableValues → Option TableFault
+values_refusal v =
+    if not (is_path v.dev.now && is_path v.hash_dev.now) then Some fault.Fields
+    else if not (is_block_size v.data_block_size && is_block_size v.hash_block_size) then Some fault.Size
+    else if not (is_block_count v.data_blocks && nat_le v.hash_start_block (2 ^ 40)) then Some fault.Count
     else None
 
 -- the algorithm of a digest, by its size
 abbrev pub algorithm_of : List ℕ → Algorithm
 algorithm_of root = if length root == 32 then Sha256 else Sha512
+
+-- the table line that these values, this root hash and this salt make
+abbrev pub line_of : TableValues → List ℕ → List ℕ → TableLine
+line_of v root salt = record {
+  dev = v.dev.now;
+  hash_dev = v.hash_dev.now;
+  data_block_size = v.data_block_size;
+  hash_block_size = v.hash_block_size;
+  data_blocks = v.data_blocks;
+  hash_start_block = v.hash_start_block;
+  algorithm = algorithm_of root;
+  root = root;
+  salt = salt;
+}

@@ -27,4 +27,4 @@ pub use faults::{SuperFault, TableFault};
 pub use line::{path_fits, read_number};
 pub use start::tree_start;
 pub use superblock::Superblock;
-pub use table::{Table, spell_salt};
+pub use table::{Table, TableValues, spell_salt};

@@ -1,7 +1,7 @@
 //! The table line of a volume.
 ghost use Rattle.std.specs.Prelude.{◌≡◌, ◌^◌, ◌≤◌, ◌∷◌, [], codes, IsOkUnless, IfOk, MatchOption, string_bytes, length};
 ghost use Rattle.verity_profile.specs.Profile.{IsBlockSize, IsBlockCount};
-ghost use Rattle.verity_superblock.specs.Line.{IsTableLine, Line, canonical, line_refusal, values_refusal, salt_text, algorithm_of};
+ghost use Rattle.verity_superblock.specs.Line.{IsTableLine, Line, canonical, line_of, line_refusal, values_refusal, salt_text};
 ghost use Rattle.hex.specs.Hex.{IsBytes};
 ghost use Rattle.verity_digest.specs.Hash.{size_of};
 ghost use Rattle.std.specs.Result.{result_err};
@@ -63,6 +63,23 @@ impl<A: Allocator> Model for Table<A> {
     }) };
 }
 
+/// The values of a table line, but for the root hash and the salt.
+#[derive(Clone, Copy)]
+pub struct TableValues<'a> {
+    /// The path of the data device.
+    pub dev: &'a str,
+    /// The path of the hash device.
+    pub hash_dev: &'a str,
+    /// The bytes of a data block.
+    pub data_block_size: usize,
+    /// The bytes of a hash block.
+    pub hash_block_size: usize,
+    /// The count of data blocks.
+    pub data_blocks: u64,
+    /// The hash block at which the tree begins.
+    pub hash_start_block: u64,
+}
+
 impl<A: Allocator + Copy> Table<A> {
     /// The table line that a text is. Of L1 to L8 the first that applies is answered; else L9 where
     /// memory was refused. It takes three requests for memory: the salt and the two paths.
@@ -98,47 +115,31 @@ impl<A: Allocator + Copy> Table<A> {
     /// memory, for the paths.
     pub fn new(
         alloc: A,
-        dev: &str,
-        hash_dev: &str,
-        data_size: usize,
-        hash_size: usize,
-        blocks: u64,
-        start: u64,
+        values: &TableValues<'_>,
         root: Digest,
         salt: Salt<A>,
     ) -> Result<Self, TableFault>
-        ensures value { IfOk result (λ t. t ≡ record {
-          dev = dev.now;
-          hash_dev = hash_dev.now;
-          data_block_size = data_size;
-          hash_block_size = hash_size;
-          data_blocks = blocks;
-          hash_start_block = start;
-          algorithm = algorithm_of root;
-          root = root;
-          salt = salt;
-        }) }
+        ensures value { IfOk result (λ t. t ≡ line_of values.now root salt) }
         ensures profile { IfOk result (λ t. IsTableLine t) }
-        ensures refused { MatchOption (values_refusal dev.now hash_dev.now data_size hash_size blocks start)
-            (IsOkUnless result TableFault.NoMemory) (λ fault. result ≡ Err fault) }
+        ensures refused { MatchOption (values_refusal values.now) (IsOkUnless result TableFault.NoMemory) (λ fault. result ≡ Err fault) }
     {
-        check_values(dev, hash_dev, data_size, hash_size, blocks, start)?;
+        check_values(values)?;
         are_bytes(root.bytes());
         are_bytes(salt.bytes());
         let _sized = root.algorithm();
-        let Ok(dev) = String::from_str(alloc, dev) else {
+        let Ok(dev) = String::from_str(alloc, values.dev) else {
             return Err(TableFault::NoMemory);
         };
-        let Ok(hash_dev) = String::from_str(alloc, hash_dev) else {
+        let Ok(hash_dev) = String::from_str(alloc, values.hash_dev) else {
             return Err(TableFault::NoMemory);
         };
         Ok(Table {
             dev,
             hash_dev,
-            data_block_size: data_size,
-            hash_block_size: hash_size,
-            data_blocks: blocks,
-            hash_start_block: start,
+            data_block_size: values.data_block_size,
+            hash_block_size: values.hash_block_size,
+            data_blocks: values.data_blocks,
+            hash_start_block: values.hash_start_block,
             root,
             salt,
         })
@@ -160,17 +161,15 @@ impl<A: Allocator + Copy> Table<A> {
         let Ok(salt) = self.salt.copy(alloc) else {
             return Err(TableFault::NoMemory);
         };
-        Self::new(
-            alloc,
-            self.dev(),
-            self.hash_dev(),
-            self.data_block_size,
-            self.hash_block_size,
+        let values = TableValues {
+            dev: self.dev(),
+            hash_dev: self.hash_dev(),
+            data_block_size: self.data_block_size,
+            hash_block_size: self.hash_block_size,
             data_blocks,
-            self.hash_start_block,
-            root,
-            salt,
-        )
+            hash_start_block: self.hash_start_block,
+        };
+        Self::new(alloc, &values, root, salt)
     }
 
     /// The canonical spelling: numbers without leading zeros, digits in lower case, `-` for the empty
@@ -264,23 +263,16 @@ impl<A: Allocator> Table<A> {
 }
 
 /// L1, L4 or L5, the first that applies to these values.
-fn check_values(
-    dev: &str,
-    hash_dev: &str,
-    data_size: usize,
-    hash_size: usize,
-    blocks: u64,
-    start: u64,
-) -> Result<(), TableFault>
-    ensures { result_err result ≡ values_refusal dev.now hash_dev.now data_size hash_size blocks start }
+fn check_values(values: &TableValues<'_>) -> Result<(), TableFault>
+    ensures { result_err result ≡ values_refusal values.now }
 {
-    if !path_fits(dev) || !path_fits(hash_dev) {
+    if !path_fits(values.dev) || !path_fits(values.hash_dev) {
         return Err(TableFault::Fields);
     }
-    if !is_block_size(data_size) || !is_block_size(hash_size) {
+    if !is_block_size(values.data_block_size) || !is_block_size(values.hash_block_size) {
         return Err(TableFault::Size);
     }
-    if !is_block_count(blocks) || start > FARTHEST_START {
+    if !is_block_count(values.data_blocks) || values.hash_start_block > FARTHEST_START {
         return Err(TableFault::Count);
     }
     Ok(())

@@ -30,7 +30,6 @@ use verity_superblock::{Superblock, Table};
 /// getters and `close` answers E7.
 #[derive(Drop)]
 pub struct LineEditor<D: BlockStore, H: BlockStore, A: Allocator + Copy = Global> {
-    alloc: A,
     data_store: D,
     hash_store: H,
     tree: Tree<A>,
@@ -100,7 +99,6 @@ impl<D: BlockStore, H: BlockStore, A: Allocator + Copy + Drop> LineEditor<D, H, 
         table.facts();
         match find_line(alloc, &data_store, &mut hash_store, table) {
             Ok(found) => Ok(LineEditor {
-                alloc,
                 pending: Pending::new(
                     alloc,
                     found.superblock.data_block_size(),
@@ -163,7 +161,6 @@ impl<D: BlockStore, H: BlockStore, A: Allocator + Copy + Drop> LineEditor<D, H, 
             return (self, Err(EditFault::Broken));
         }
         let LineEditor {
-            alloc,
             data_store,
             hash_store,
             tree,
@@ -180,7 +177,6 @@ impl<D: BlockStore, H: BlockStore, A: Allocator + Copy + Drop> LineEditor<D, H, 
         let mut broken = broken;
         pending.facts();
         let (tree, hash_store, made) = commit_under(
-            alloc,
             tree,
             &mut data_store,
             hash_store,
@@ -199,7 +195,6 @@ impl<D: BlockStore, H: BlockStore, A: Allocator + Copy + Drop> LineEditor<D, H, 
                 };
                 pending.settle();
                 let editor = LineEditor {
-                    alloc,
                     data_store,
                     hash_store,
                     tree: next,
@@ -213,7 +208,6 @@ impl<D: BlockStore, H: BlockStore, A: Allocator + Copy + Drop> LineEditor<D, H, 
             }
             Err(why) => {
                 let editor = LineEditor {
-                    alloc,
                     data_store,
                     hash_store,
                     tree,

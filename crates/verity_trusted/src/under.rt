@@ -109,25 +109,22 @@ pub fn plan_under<H: BlockStore, A: Allocator + Copy + Drop>(
     hasher: &mut Hasher<A>,
     pending: &Pending<A>,
     superblock: &Superblock<A>,
-    first: u64,
-    root: Digest,
     block: &mut [u8],
     checks: &mut Count,
 ) -> (Tree<A>, H, Result<CommitPlan<A>, PlanRefused>)
-    requires near { first ≤ 2 ^ 40 }
-    requires line { IsLineFor tree superblock.now first root }
+    requires line { IsLineFor tree superblock.now tree.hash_start_block tree.root }
     requires store { IsHashStoreOf H.BlockStore tree hash_store }
     requires committed { pending.now.committed ≡ superblock.now.data_blocks }
     requires data_size { superblock.now.params.data_block_size ≡ pending.now.size }
     requires sized { length block.old ≡ superblock.now.params.hash_block_size }
     requires salted { hasher.old.salted ≡ salted superblock.now.params }
-    requires root_size { length root ≡ size_of superblock.now.params.algorithm }
+    requires root_size { length tree.root ≡ size_of superblock.now.params.algorithm }
     ensures same { result.0 ≡ tree }
-    ensures plan { IfOk result.2 (λ plan. IsPlan superblock.now pending.now first root plan) }
+    ensures plan { IfOk result.2 (λ plan. IsPlan superblock.now pending.now tree.hash_start_block tree.root plan) }
     ensures right { IfOk result.2 (λ plan. IsRightUnder H.BlockStore tree (length (H.given hash_store)) result.1
-        superblock.now pending.now first plan) }
+        superblock.now pending.now tree.hash_start_block plan) }
     ensures told { IfOk result.2 (λ plan. H.tells hash_store ≡ true
-        → IsRight superblock.now pending.now first root (H.content hash_store) plan) }
+        → IsRight superblock.now pending.now tree.hash_start_block tree.root (H.content hash_store) plan) }
     ensures refused { IfErr result.2 (ExplainsUnplanned H.BlockStore tree (length (H.given hash_store)) hash_store result.1) }
     ensures unfailed { OnOk result.2 (H.failures result.1 ≡ H.failures hash_store) }
     ensures counted { IfOk result.2 (λ plan. hasher.new.hashed ≡ hasher.old.hashed + plan.hashed) }
@@ -136,7 +133,8 @@ pub fn plan_under<H: BlockStore, A: Allocator + Copy + Drop>(
     ensures most { ReadsMost superblock.now pending.now (height tree) (H.reads hash_store) (H.reads result.1) checks.new.steps }
     ensures read_only { IsOnlyRead H.BlockStore hash_store result.1 }
 {
-    let _allowed = tree.table();
+    let first = tree.table().hash_start_block();
+    let root = tree.root();
     let mut checked = Checked::new(alloc, tree, hash_store);
     let planned = plan_checked(
         alloc,
@@ -186,15 +184,13 @@ fn make_ready<D: BlockStore, H: BlockStore, A: Allocator + Copy>(
     data_store: &mut D,
     hash_store: &mut H,
     data_blocks: u64,
-    first: u64,
     plan: &CommitPlan<A>,
 ) -> Result<Tree<A>, EditFault>
     requires root_size { length plan.now.root ≡ size_of tree.now.algorithm }
     requires data_few { data_blocks ≤ 2 ^ 41 }
-    requires near { first ≤ 2 ^ 40 }
     ensures next { IfOk result (λ next. next ≡ record tree.now { data_blocks = data_blocks; root = plan.now.root }) }
     ensures data_room { OnOk result (data_blocks ≤ D.room data_store.new) }
-    ensures hash_room { OnOk result (first + total_of plan.now.change.new ≤ H.room hash_store.new) }
+    ensures hash_room { OnOk result (tree.now.hash_start_block + total_of plan.now.change.new ≤ H.room hash_store.new) }
     ensures fault { IfErr result (λ fault. fault ≡ EditFault.NoMemory) }
     ensures data_unfailed { D.failures data_store.new ≡ D.failures data_store.old }
     ensures hash_unfailed { H.failures hash_store.new ≡ H.failures hash_store.old }
@@ -202,16 +198,16 @@ fn make_ready<D: BlockStore, H: BlockStore, A: Allocator + Copy>(
     ensures hash_store { IsKept H.BlockStore hash_store.old hash_store.new }
 {
     let next = next_tree(alloc, tree, data_blocks, plan.root)?;
-    let hash_blocks = first + plan.change.new.total();
+    let hash_blocks = tree.table().hash_start_block() + plan.change.new.total();
     reserve_both(data_store, hash_store, data_blocks, hash_blocks)?;
     Ok(next)
 }
 
 /// Commits the pending edits to both stores under a table line: plans, makes the tree of the new line and room, raises the flag
 /// `broken`, and changes the stores. On success the flag is still raised, and whoever called lowers it. The tree, which is the
-/// old one, and the hash store come back, and `checks` then says how many digests were made to check blocks.
+/// old one, and the hash store come back, and `checks` then says how many digests were made to check blocks. It takes memory where the
+/// superblock's salt stands.
 pub fn commit_under<D: BlockStore, H: BlockStore, A: Allocator + Copy + Drop>(
-    alloc: A,
     tree: Tree<A>,
     data_store: &mut D,
     hash_store: H,
@@ -251,8 +247,7 @@ pub fn commit_under<D: BlockStore, H: BlockStore, A: Allocator + Copy + Drop>(
     ensures most_checks { ReadsPaths superblock.now pending.now (height tree) 0 checks.new.steps }
 {
     *checks = Count::new();
-    let first = tree.table().hash_start_block();
-    let root = tree.root();
+    let alloc = *superblock.salt().allocator();
     let Ok(mut block) = Vec::from_elem(alloc, 0u8, superblock.hash_block_size()) else {
         return (
             tree,
@@ -261,7 +256,7 @@ pub fn commit_under<D: BlockStore, H: BlockStore, A: Allocator + Copy + Drop>(
         );
     };
     let (tree, hash_store, planned) = plan_under(
-        alloc, tree, hash_store, hasher, pending, superblock, first, root, &mut block, checks,
+        alloc, tree, hash_store, hasher, pending, superblock, &mut block, checks,
     );
     let plan = match planned {
         Ok(plan) => plan,
@@ -274,7 +269,6 @@ pub fn commit_under<D: BlockStore, H: BlockStore, A: Allocator + Copy + Drop>(
         data_store,
         &mut hash_store,
         pending.blocks(),
-        first,
         &plan,
     ) else {
         return (

@@ -31,7 +31,6 @@ fn bound<A: Allocator>(notes: &mut Vec<Noted<A>, A>)
 /// Along rising data blocks it reads each level-0 block once, and the blocks above one again each time that the notes begin anew.
 /// It takes memory for at most 64 hash blocks and a path.
 fn named_at<H: BlockStore, A: Allocator + Copy + Drop>(
-    alloc: A,
     tree: &mut Tree<A>,
     store: &mut H,
     notes: &mut Vec<Noted<A>, A>,
@@ -61,24 +60,13 @@ fn named_at<H: BlockStore, A: Allocator + Copy + Drop>(
     bound(notes);
     let above = tree.parent_of(0, n);
     let mut hashed = Count::new();
-    let c = fetch(
-        alloc,
-        tree,
-        &mut hashed,
-        store,
-        notes,
-        since,
-        0,
-        above,
-        block,
-    )?;
+    let c = fetch(tree, &mut hashed, store, notes, since, 0, above, block)?;
     let slot = tree.slot_of(n);
     Ok(tree.digest_in(notes[c].block(), slot))
 }
 
 /// Whether there is a data block `n` under the table line, and a block has the digest that the tree names for it.
 pub fn is_named<H: BlockStore, A: Allocator + Copy + Drop>(
-    alloc: A,
     tree: &mut Tree<A>,
     store: &mut H,
     notes: &mut Vec<Noted<A>, A>,
@@ -109,6 +97,6 @@ pub fn is_named<H: BlockStore, A: Allocator + Copy + Drop>(
     if n >= tree.table().data_blocks() {
         return Ok(false);
     }
-    let named = named_at(alloc, tree, store, notes, since, n, block)?;
+    let named = named_at(tree, store, notes, since, n, block)?;
     Ok(tree.matches(bytes, &named))
 }

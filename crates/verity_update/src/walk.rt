@@ -30,15 +30,20 @@ fn fault_for(why: ReadRefused) -> UpdateFault
     })
 }
 
+/// Hash blocks that were read and checked, of what the hash store gave behind a mark.
+#[derive(Drop)]
+struct Seen<A: Allocator> {
+    notes: Vec<Noted<A>, A>,
+    since: Mark,
+}
+
 /// Reads block `n` of NEW, and writes it to the working image where its digest isn't the one that the tree names. Answers whether
 /// it did.
 fn take_block<E: Edited, H: BlockStore, N: BlockStore, A: Allocator + Copy + Drop>(
-    alloc: A,
     tree: &mut Tree<A>,
     hash_store: &mut H,
     new_store: &mut N,
-    notes: &mut Vec<Noted<A>, A>,
-    since: &Mark,
+    seen: &mut Seen<A>,
     edited: &mut E,
     n: u64,
     bytes: &mut [u8],
@@ -48,26 +53,27 @@ fn take_block<E: Edited, H: BlockStore, N: BlockStore, A: Allocator + Copy + Dro
     requires whole { length bytes.old ≡ N.size new_store.old }
     requires sized { length block.old ≡ tree.old.hash_block_size }
     requires store { IsHashStoreOf H.BlockStore tree.old hash_store.old }
-    requires since { since.now.steps ≤ length (H.given hash_store.old) }
-    requires checked { AreChecked tree.old notes.old.items }
-    requires given { WereGiven H.BlockStore since.now.steps hash_store.old notes.old.items }
+    requires since { seen.old.since.steps ≤ length (H.given hash_store.old) }
+    requires checked { AreChecked tree.old seen.old.notes.items }
+    requires given { WereGiven H.BlockStore seen.old.since.steps hash_store.old seen.old.notes.items }
     requires sound { E.broken edited.old ≡ false }
     requires there { n < E.count edited.old }
     ensures gave { OnOk result (N.given new_store.new ≡ N.given new_store.old ++ (n, bytes.new) ∷ []) }
     ensures right { OnOk result (N.tells new_store.old ≡ true → slice_index_or (N.content new_store.old) n [] ≡ bytes.new) }
-    ensures takes { OnOk result (Takes tree.old (hash_given H.BlockStore tree.old since.now.steps hash_store.new) n bytes.new
+    ensures takes { OnOk result (Takes tree.old (hash_given H.BlockStore tree.old seen.old.since.steps hash_store.new) n bytes.new
         (E.working edited.old) (E.working edited.new)) }
-    ensures spares { OnOk result (Spares tree.old (hash_given H.BlockStore tree.old since.now.steps hash_store.new) n bytes.new
+    ensures spares { OnOk result (Spares tree.old (hash_given H.BlockStore tree.old seen.old.since.steps hash_store.new) n bytes.new
         (E.changed edited.old) (E.changed edited.new)) }
     ensures others { OnOk result ((i : ℕ) → i ≢ n → E.changed edited.new i ≡ E.changed edited.old i) }
     ensures written { IfOk result (λ written. (n < tree.old.data_blocks → E.changed edited.old n ≡ false)
         → E.changed edited.new n ≡ written) }
-    ensures refused { IfErr result (ExplainsUntaken tree.old (hash_given H.BlockStore tree.old since.now.steps hash_store.new)
+    ensures refused { IfErr result (ExplainsUntaken tree.old (hash_given H.BlockStore tree.old seen.old.since.steps hash_store.new)
         (E.size edited.old) (length bytes.old) (H.failures hash_store.old) (H.failures hash_store.new) (N.failures new_store.old)
         (N.failures new_store.new)) }
     ensures unchanged { OnErr result (edited.new ≡ edited.old) }
-    ensures checked { AreChecked tree.old notes.new.items }
-    ensures given { WereGiven H.BlockStore since.now.steps hash_store.new notes.new.items }
+    ensures since { seen.new.since ≡ seen.old.since }
+    ensures checked { AreChecked tree.old seen.new.notes.items }
+    ensures given { WereGiven H.BlockStore seen.old.since.steps hash_store.new seen.new.notes.items }
     ensures unfailed { OnOk result (H.failures hash_store.new ≡ H.failures hash_store.old) }
     ensures new_unfailed { OnOk result (N.failures new_store.new ≡ N.failures new_store.old) }
     ensures keeps { IsOnlyRead H.BlockStore hash_store.old hash_store.new }
@@ -83,7 +89,15 @@ fn take_block<E: Edited, H: BlockStore, N: BlockStore, A: Allocator + Copy + Dro
     if new_store.read(n, bytes).is_err() {
         return Err(UpdateFault::New);
     }
-    match is_named(alloc, tree, hash_store, notes, since, n, bytes, block) {
+    match is_named(
+        tree,
+        hash_store,
+        &mut seen.notes,
+        &seen.since,
+        n,
+        bytes,
+        block,
+    ) {
         Ok(true) => return Ok(false),
         Ok(false) => {}
         Err(why) => return Err(fault_for(why)),
@@ -96,12 +110,10 @@ fn take_block<E: Edited, H: BlockStore, N: BlockStore, A: Allocator + Copy + Dro
 
 /// Takes the blocks of NEW in order, of which there are `count`, and answers how many were written.
 fn take_blocks<E: Edited, H: BlockStore, N: BlockStore, A: Allocator + Copy + Drop>(
-    alloc: A,
     tree: &mut Tree<A>,
     hash_store: &mut H,
     new_store: &mut N,
-    notes: &mut Vec<Noted<A>, A>,
-    since: &Mark,
+    seen: &mut Seen<A>,
     edited: &mut E,
     count: u64,
     bytes: &mut [u8],
@@ -112,20 +124,20 @@ fn take_blocks<E: Edited, H: BlockStore, N: BlockStore, A: Allocator + Copy + Dr
     requires data_sized { N.size new_store.old ≡ tree.old.data_block_size }
     requires sized { length block.old ≡ tree.old.hash_block_size }
     requires store { IsHashStoreOf H.BlockStore tree.old hash_store.old }
-    requires since { since.now.steps ≤ length (H.given hash_store.old) }
-    requires checked { AreChecked tree.old notes.old.items }
-    requires given { WereGiven H.BlockStore since.now.steps hash_store.old notes.old.items }
+    requires since { seen.old.since.steps ≤ length (H.given hash_store.old) }
+    requires checked { AreChecked tree.old seen.old.notes.items }
+    requires given { WereGiven H.BlockStore seen.old.since.steps hash_store.old seen.old.notes.items }
     requires wide { (image : List (List ℕ)) → length (E.working edited.old image) ≡ count }
     requires kept { Keeps tree.old (E.working edited.old) }
     requires sound { E.broken edited.old ≡ false }
     requires counted { E.count edited.old ≡ count }
     requires fresh { (i : ℕ) → i < tree.old.data_blocks → i < count → E.changed edited.old i ≡ false }
-    ensures taken { OnOk result (TakesTo N.BlockStore tree.old (hash_given H.BlockStore tree.old since.now.steps hash_store.new)
+    ensures taken { OnOk result (TakesTo N.BlockStore tree.old (hash_given H.BlockStore tree.old seen.old.since.steps hash_store.new)
         new_store.old new_store.new count (E.working edited.old) (E.working edited.new) (E.changed edited.old)
         (E.changed edited.new)) }
     ensures most { IfOk result (λ changed. changed ≤ count) }
     ensures written { IfOk result (λ changed. changed ≡ changed_count (E.changed edited.new) count) }
-    ensures refused { IfErr result (λ fault. (n : ℕ) × StopsAt E.Edited H.BlockStore N.BlockStore tree.old since.now.steps
+    ensures refused { IfErr result (λ fault. (n : ℕ) × StopsAt E.Edited H.BlockStore N.BlockStore tree.old seen.old.since.steps
         hash_store.old hash_store.new new_store.old new_store.new edited.old edited.new fault n) }
     ensures unfailed { OnOk result (H.failures hash_store.new ≡ H.failures hash_store.old) }
     ensures new_unfailed { OnOk result (N.failures new_store.new ≡ N.failures new_store.old) }
@@ -141,9 +153,7 @@ fn take_blocks<E: Edited, H: BlockStore, N: BlockStore, A: Allocator + Copy + Dr
 {
     let mut changed = 0;
     for n in 0..count {
-        if take_block(
-            alloc, tree, hash_store, new_store, notes, since, edited, n, bytes, block,
-        )? {
+        if take_block(tree, hash_store, new_store, seen, edited, n, bytes, block)? {
             changed += 1;
         }
     }
@@ -276,10 +286,10 @@ pub fn update<E: Edited, H: BlockStore, N: BlockStore, A: Allocator + Copy + Dro
     let mut bytes = Vec::from_elem(alloc, 0u8, new_store.block_size())?;
     let mut block = Vec::from_elem(alloc, 0u8, hash_store.block_size())?;
     prepare(edited, blocks, count)?;
-    let mut notes = Vec::new(alloc);
+    let notes = Vec::new(alloc);
     let since = end_of(hash_store);
+    let mut seen = Seen { notes, since };
     take_blocks(
-        alloc, tree, hash_store, new_store, &mut notes, &since, edited, count, &mut bytes,
-        &mut block,
+        tree, hash_store, new_store, &mut seen, edited, count, &mut bytes, &mut block,
     )
 }

@@ -5,7 +5,7 @@ use std::test::Fail;
 use verity_check::{CheckFault, Place, Verdict, Verifier};
 use verity_digest::{Algorithm, Digest, Hasher, Salt};
 use verity_store::{BlockStore, MemStore};
-use verity_superblock::Table;
+use verity_superblock::{Table, TableValues};
 
 pub const ROOT_1: [u8; 32] = [
     0x07, 0x6a, 0x27, 0xc7, 0x9e, 0x5a, 0xce, 0x2a, 0x3d, 0x47, 0xf9, 0xdd, 0x2e, 0x83, 0xe4, 0xff,
@@ -70,17 +70,15 @@ pub fn root_17(algorithm: Algorithm) -> Digest {
 }
 
 pub fn table(alloc: Global, blocks: u64, start: u64, root: Digest) -> Result<Table, Fail> {
-    Ok(Table::new(
-        alloc,
-        "d",
-        "h",
-        512,
-        512,
-        blocks,
-        start,
-        root,
-        Salt::new(alloc, b"")?,
-    )?)
+    let values = TableValues {
+        dev: "d",
+        hash_dev: "h",
+        data_block_size: 512,
+        hash_block_size: 512,
+        data_blocks: blocks,
+        hash_start_block: start,
+    };
+    Ok(Table::new(alloc, &values, root, Salt::new(alloc, b"")?)?)
 }
 
 pub fn store(bytes: Vec<u8>) -> Result<MemStore, Fail> {

@@ -9,7 +9,7 @@ use verity_check::{CheckFault, Verifier};
 use verity_digest::{Algorithm, Digest, Hasher, Salt};
 use verity_hub::{Hub, Notices};
 use verity_store::{BlockStore, MemStore};
-use verity_superblock::{Table, TableFault};
+use verity_superblock::{Table, TableFault, TableValues};
 
 pub const ROOT_17: [u8; 32] = [
     0x21, 0xf0, 0xc0, 0x06, 0x3b, 0x9f, 0x39, 0x86, 0x27, 0xb7, 0xe5, 0xc7, 0x4a, 0x49, 0x72, 0x12,
@@ -72,7 +72,15 @@ fn line_17<A: Allocator + Copy>(alloc: A) -> Result<Table<A>, TableFault> {
         return Err(TableFault::NoMemory);
     };
     let root = Digest::from_bytes(ROOT_17);
-    Table::new(alloc, "d", "h", 512, 512, 17, 0, root, salt)
+    let values = TableValues {
+        dev: "d",
+        hash_dev: "h",
+        data_block_size: 512,
+        hash_block_size: 512,
+        data_blocks: 17,
+        hash_start_block: 0,
+    };
+    Table::new(alloc, &values, root, salt)
 }
 
 /// A hub over stores in the roles of the volume of 17 blocks, with room for so many cached hash blocks and so many data blocks.

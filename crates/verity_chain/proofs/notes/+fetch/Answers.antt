@@ -11,8 +11,8 @@ use Rattle.verity_chain.proofs.NoteLemmas.{note_here, note_names, explains_grows
 use Rattle.verity_chain.proofs.FewLemmas.{unnoted_above, within_then, within_next}
 use Rattle.verity_chain.proofs.notes.+fetch.Goals as goal
 
-pub digest_in-named-requires-clause-whole : goal.digest_in-named-requires-clause-whole
-digest_in-named-requires-clause-whole g t c =
+pub digest_in-digest-requires-clause-whole : goal.digest_in-digest-requires-clause-whole
+digest_in-digest-requires-clause-whole g t c =
     let tree = c.args.tree.now in
     let r = c.in_ok-c.ensures in
     let here = note_here tree c.fetch.new.notes.items c.in_ok-c.c (c.args.level + 1) c.parent_of-above.result r.checked
@@ -47,9 +47,9 @@ take-requires-2-clause-names g t c =
     c.block.ensures ∙ ap (λ n. n.block) (c.index.ensures ∙ get_or_default notes c.in_ok-c.c c.index.result.now
     (record { number = 0; block = [] }) r.found.0) in
     let j : c.slot_of-slot.result ≡ i % branching tree = c.slot_of-slot.ensures.value ∙ ap (λ tr. i % branching tr) r.same in
-    let digest : c.digest_in-named.result ≡ slot (hashing_of tree) (note_at notes c.in_ok-c.c).block (i % branching tree) =
-    c.digest_in-named.ensures ∙ (λ a. slot (hashing_of (r.same a)) (is a) (j a)) in
-    subst (λ tr. Names tr (noted tr notes) (suc l) i c.digest_in-named.result) (sym r.same)
+    let digest : c.digest_in-digest.result ≡ slot (hashing_of tree) (note_at notes c.in_ok-c.c).block (i % branching tree) =
+    c.digest_in-digest.ensures ∙ (λ a. slot (hashing_of (r.same a)) (is a) (j a)) in
+    subst (λ tr. Names tr (noted tr notes) (suc l) i c.digest_in-digest.result) (sym r.same)
     (subst (λ d. Names tree (noted tree notes) (suc l) i d) (sym digest) names)
 
 pub returns-clause-checked : goal.returns-clause-checked

@@ -13,8 +13,8 @@ returns-then-not-right-clause-err g c =
     let H = g.H.BlockStore in
     let e = c.read.ensures in
     let t = c.args.tree.now in
-    let l : ℕ = c.args.level in
-    let i : ℕ = c.args.index in
+    let l : ℕ = c.args.named.level in
+    let i : ℕ = c.args.named.index in
     let y : List ℕ = c.read.new.out in
     let mark : ℕ = c.args.since.now.steps in
     let read : IsOnlyRead H c.args.store.now c.read.new.self =
@@ -39,19 +39,19 @@ returns-then-not-right-clause-err g c =
     (ok_here c.read.result _ e.right c.if-is_err.ensures.value) in
     let gave : Gave H mark c.read.new.self (hash_place t l i) y =
     subst (λ n. Gave H mark c.read.new.self n y) c.hash_place-number.ensures.value here in
-    let differs : (hashing_of t).digest y ≢ c.args.named.now =
+    let differs : (hashing_of t).digest y ≢ c.args.named.digest =
     λ same. differs_here c.check-right.result _ c.check-right.ensures.value c.if-not-right.true same in (
       c.requires.level,
       c.requires.index,
       wrong_noted H t mark c.args.store.now c.read.new.self c.args.notes.now.items l i
-          c.args.named.now y read c.requires.given c.requires.names gave differs,
+          c.args.named.digest y read c.requires.given c.requires.names gave differs,
     )
 
 pub returns-clause-checked : goal.returns-clause-checked
 returns-clause-checked g c =
     let t = c.args.tree.now in
-    let l : ℕ = c.args.level in
-    let i : ℕ = c.args.index in
+    let l : ℕ = c.args.named.level in
+    let i : ℕ = c.args.named.index in
     let y : List ℕ = c.read.new.out in
     let x : Note = record { number = c.hash_place-number.result; block = y } in
     let added : c.push.new.self.items ≡ c.args.notes.now.items ++ x ∷ [] = search rules in
@@ -62,9 +62,9 @@ returns-clause-checked g c =
       number = c.hash_place-number.ensures.value;
       sized = long;
     } in
-    let same : (hashing_of t).digest y ≡ c.args.named.now =
+    let same : (hashing_of t).digest y ≡ c.args.named.digest =
     same_here c.check-right.result _ c.check-right.ensures.value c.if-not-right.false in
-    checked_push t c.args.notes.now.items c.push.new.self.items l i x c.args.named.now added at c.requires.names same c.requires.checked
+    checked_push t c.args.notes.now.items c.push.new.self.items l i x c.args.named.digest added at c.requires.names same c.requires.checked
 
 pub returns-clause-given : goal.returns-clause-given
 returns-clause-given g c =
@@ -187,12 +187,12 @@ pub returns-clause-apart : goal.returns-clause-apart
 returns-clause-apart g c = λ apart.
     let x : Note = record { number = c.hash_place-number.result; block = c.read.new.out } in
     let added : c.push.new.self.items ≡ c.args.notes.now.items ++ x ∷ [] = search rules in
-    apart_push c.args.notes.now.items c.push.new.self.items x (hash_place c.args.tree.now c.args.level c.args.index) added
+    apart_push c.args.notes.now.items c.push.new.self.items x (hash_place c.args.tree.now c.args.named.level c.args.named.index) added
     c.hash_place-number.ensures.value apart c.requires.unnoted
 
 pub returns-clause-within : goal.returns-clause-within
 returns-clause-within g c = λ set among.
     let x : Note = record { number = c.hash_place-number.result; block = c.read.new.out } in
     let added : c.push.new.self.items ≡ c.args.notes.now.items ++ x ∷ [] = search rules in
-    within_push c.args.tree.now set c.args.notes.now.items c.push.new.self.items x c.args.level c.args.index added c.requires.level
-    c.requires.index c.hash_place-number.ensures.value among
+    within_push c.args.tree.now set c.args.notes.now.items c.push.new.self.items x c.args.named.level c.args.named.index added
+    c.requires.level c.requires.index c.hash_place-number.ensures.value among

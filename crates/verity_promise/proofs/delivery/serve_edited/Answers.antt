@@ -24,12 +24,12 @@ returns-clause-served g c =
     let hub : HubState × Verifying g.row.D.Denot g.row.H.Denot = c.new-hub.result in
     let hub' : HubState × Verifying g.row.D.Denot g.row.H.Denot = c.serve_stream.new.hub in
     let e : Ends = record {
-      reader = g.R.Input.remaining c.args.reader.now;
+      reader = g.R.Input.remaining c.args.client.now.reader;
       reader' = g.R.Input.remaining c.serve_stream.new.reader;
-      writer = g.W.Output.contents c.args.writer.now;
+      writer = g.W.Output.contents c.args.client.now.writer;
       writer' = g.W.Output.contents c.serve_stream.new.writer;
     } in
-    served_by D H left c.args.name e c.args.limit c.serve_stream.result
+    served_by D H left c.args.name e c.args.client.now.limit c.serve_stream.result
     (done_ok left.done (sym c.is_err.ensures.value ∙ c.if-is_err.false)) c.in-Some.table c.in-Some.is v hub hub' over
     c.new-hub.ensures.verifier c.new-hub.ensures.offer c.serve_stream.ensures.verifier c.serve_stream.ensures.right
     c.serve_stream.ensures.exact

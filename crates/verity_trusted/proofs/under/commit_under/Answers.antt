@@ -18,7 +18,7 @@ carry_out-requires-clause-plan g c =
     let v : Volume = c.args.superblock.now in
     let d : Draft = c.args.pending.now in
     let plan = c.in-Ok-planned.plan in
-    let made = from_ok c.plan_under-tree.result.2 plan (λ p. IsPlan v d c.hash_start_block-first.result c.root-root.result p)
+    let made = from_ok c.plan_under-tree.result.2 plan (λ p. IsPlan v d c.args.tree.hash_start_block c.args.tree.root p)
     c.in-Ok-planned.is c.plan_under-tree.ensures.plan in
     subst (λ (x : Change). IsPlan v d x.first x.root plan) (sym made.change) made
 
@@ -28,8 +28,8 @@ carry_out-requires-clause-right g c = λ told.
     let v : Volume = c.args.superblock.now in
     let d : Draft = c.args.pending.now in
     let plan = c.in-Ok-planned.plan in
-    let first : ℕ = c.hash_start_block-first.result in
-    let root : List ℕ = c.root-root.result in
+    let first : ℕ = c.args.tree.hash_start_block in
+    let root : List ℕ = c.args.tree.root in
     let read = c.plan_under-tree.ensures.read_only in
     let kept = c.make_ready.ensures.hash_store in
     let made = from_ok c.plan_under-tree.result.2 plan (λ p. IsPlan v d first root p) c.in-Ok-planned.is c.plan_under-tree.ensures.plan in
@@ -44,11 +44,12 @@ carry_out-requires-clause-hash_room g c =
     let v : Volume = c.args.superblock.now in
     let d : Draft = c.args.pending.now in
     let plan = c.in-Ok-planned.plan in
-    let made = from_ok c.plan_under-tree.result.2 plan (λ p. IsPlan v d c.hash_start_block-first.result c.root-root.result p)
+    let made = from_ok c.plan_under-tree.result.2 plan (λ p. IsPlan v d c.args.tree.hash_start_block c.args.tree.root p)
     c.in-Ok-planned.is c.plan_under-tree.ensures.plan in
     let room = at_ok c.make_ready.result c.in-Ok-make_ready.next _ c.in-Ok-make_ready.is c.make_ready.ensures.hash_room in
     let total = ap (λ x. total_of x.new) made.change in
     let first = ap (λ x. x.first) made.change in
+    let same = ap (λ t. t.hash_start_block) c.plan_under-tree.ensures.same in
     omega arith
 
 pub returns-in-Ok-carry_out-clause-done : goal.returns-in-Ok-carry_out-clause-done
@@ -59,10 +60,7 @@ returns-in-Ok-carry_out-clause-done g c =
     let d : Draft = c.args.pending.now in
     let plan = c.in-Ok-planned.plan in
     let t = c.args.tree in
-    let first : c.hash_start_block-first.result ≡ t.hash_start_block =
-    c.hash_start_block-first.ensures.value ∙ ap (λ u. u.hash_start_block) c.table.ensures.value in
-    let root : c.root-root.result ≡ t.root = c.root-root.ensures in
-    let made = from_ok c.plan_under-tree.result.2 plan (λ p. IsPlan v d c.hash_start_block-first.result c.root-root.result p)
+    let made = from_ok c.plan_under-tree.result.2 plan (λ p. IsPlan v d c.args.tree.hash_start_block c.args.tree.root p)
     c.in-Ok-planned.is c.plan_under-tree.ensures.plan in
     let read = c.plan_under-tree.ensures.read_only in
     let kept = c.make_ready.ensures.hash_store in
@@ -73,9 +71,7 @@ returns-in-Ok-carry_out-clause-done g c =
     let new_hash = c.carry_out.new.hash_store in
     let done = subst (λ (x : Change). IsCarriedOut D H v d x.first x.root now new_data hash_now new_hash) made.change
     c.in-Ok-carry_out.ensures.done in
-    let here = subst (λ (r : List ℕ). IsCarriedOut D H v d t.hash_start_block r now new_data hash_now new_hash) root
-    (subst (λ (f : ℕ). IsCarriedOut D H v d f c.root-root.result now new_data hash_now new_hash) first done) in
-    carried_before D H v d t.hash_start_block t.root c.args.data_store.now now new_data c.args.hash_store hash_now new_hash here
+    carried_before D H v d t.hash_start_block t.root c.args.data_store.now now new_data c.args.hash_store hash_now new_hash done
     data_kept.content data_kept.later.tells (kept.content ∙ read.content) (kept.later.tells ∙ read.later.tells)
 
 pub returns-in-Ok-carry_out-clause-most_reads : goal.returns-in-Ok-carry_out-clause-most_reads
@@ -87,7 +83,7 @@ returns-in-Ok-carry_out-clause-all_reads g c = λ image len.
     let v : Volume = c.args.superblock.now in
     let d : Draft = c.args.pending.now in
     let plan = c.in-Ok-planned.plan in
-    let made = from_ok c.plan_under-tree.result.2 plan (λ p. IsPlan v d c.hash_start_block-first.result c.root-root.result p)
+    let made = from_ok c.plan_under-tree.result.2 plan (λ p. IsPlan v d c.args.tree.hash_start_block c.args.tree.root p)
     c.in-Ok-planned.is c.plan_under-tree.ensures.plan in
     let moves = ap (λ (x : Change). moved_blocks x.old x.new) made.change in
     let most = c.plan_under-tree.ensures.most.paths image len in
@@ -101,7 +97,7 @@ returns-clause-all_reads g c = λ image len.
     let v : Volume = c.args.superblock.now in
     let d : Draft = c.args.pending.now in
     let plan = c.in-Ok-planned.plan in
-    let made = from_ok c.plan_under-tree.result.2 plan (λ p. IsPlan v d c.hash_start_block-first.result c.root-root.result p)
+    let made = from_ok c.plan_under-tree.result.2 plan (λ p. IsPlan v d c.args.tree.hash_start_block c.args.tree.root p)
     c.in-Ok-planned.is c.plan_under-tree.ensures.plan in
     let moves = ap (λ (x : Change). moved_blocks x.old x.new) made.change in
     let most = c.plan_under-tree.ensures.most.paths image len in
@@ -135,26 +131,19 @@ returns-in-Ok-carry_out-clause-made g c =
     let plan = c.in-Ok-planned.plan in
     let t = c.args.tree in
     let mark : ℕ = length (H.given c.args.hash_store) in
-    let first : c.hash_start_block-first.result ≡ t.hash_start_block =
-    c.hash_start_block-first.ensures.value ∙ ap (λ u. u.hash_start_block) c.table.ensures.value in
-    let planned = from_ok c.plan_under-tree.result.2 plan (λ p. IsPlan v d c.hash_start_block-first.result c.root-root.result p)
+    let planned = from_ok c.plan_under-tree.result.2 plan (λ p. IsPlan v d c.args.tree.hash_start_block c.args.tree.root p)
     c.in-Ok-planned.is c.plan_under-tree.ensures.plan in
     let right = from_ok c.plan_under-tree.result.2 plan (λ p. IsRightUnder H t mark c.plan_under-tree.result.1 v d
-    c.hash_start_block-first.result p) c.in-Ok-planned.is c.plan_under-tree.ensures.right in
-    let right_here = subst (λ (f : ℕ). IsRightUnder H t mark c.plan_under-tree.result.1 v d f plan) first right in
+    t.hash_start_block p) c.in-Ok-planned.is c.plan_under-tree.ensures.right in
     let told = from_ok c.plan_under-tree.result.2 plan (λ p. H.tells c.args.hash_store ≡ true
-    → IsRight v d c.hash_start_block-first.result c.root-root.result (H.content c.args.hash_store) p) c.in-Ok-planned.is
+    → IsRight v d t.hash_start_block t.root (H.content c.args.hash_store) p) c.in-Ok-planned.is
     c.plan_under-tree.ensures.told in
     record {
-      plan = subst (λ (r : List ℕ). IsPlan v d t.hash_start_block r plan) c.root-root.ensures
-          (subst (λ (f : ℕ). IsPlan v d f c.root-root.result plan) first planned);
+      plan = planned;
       next = search rules;
       right = right_later H t mark c.plan_under-tree.result.1 c.carry_out.new.hash_store v d t.hash_start_block plan
-          (goes_on_then _ _ _ c.make_ready.ensures.hash_store.later.gave c.carry_out.ensures.hash_store.gave) right_here;
-      told = subst (λ (r : List ℕ). H.tells c.args.hash_store ≡ true
-          → IsRight v d t.hash_start_block r (H.content c.args.hash_store) plan) c.root-root.ensures
-          (subst (λ (f : ℕ). H.tells c.args.hash_store ≡ true
-          → IsRight v d f c.root-root.result (H.content c.args.hash_store) plan) first told);
+          (goes_on_then _ _ _ c.make_ready.ensures.hash_store.later.gave c.carry_out.ensures.hash_store.gave) right;
+      told = told;
       counted = search rules;
     }
 
@@ -166,7 +155,7 @@ returns-in-Ok-carry_out-clause-reads g c =
     let plan = c.in-Ok-planned.plan in
     let each = at_ok c.plan_under-tree.result.2 plan (ReadsEach v d (H.reads c.args.hash_store) (H.reads c.plan_under-tree.result.1)
     c.plan_under-tree.new.checks.steps) c.in-Ok-planned.is c.plan_under-tree.ensures.each in
-    let made = from_ok c.plan_under-tree.result.2 plan (λ p. IsPlan v d c.hash_start_block-first.result c.root-root.result p)
+    let made = from_ok c.plan_under-tree.result.2 plan (λ p. IsPlan v d c.args.tree.hash_start_block c.args.tree.root p)
     c.in-Ok-planned.is c.plan_under-tree.ensures.plan in
     let moves = ap (λ (x : Change). moved_blocks x.old x.new) made.change in
     let kept = c.make_ready.ensures.hash_store.reads in

@@ -1,4 +1,4 @@
-use Rattle.std.proofs.Common.{◌≡◌, ℕ, true, length, IfOk, IfErr, OnOk, sym, subst}
+use Rattle.std.proofs.Common.{◌≡◌, ℕ, true, List, length, IfOk, IfErr, OnOk, sym, ap, ◌∙◌, subst}
 use Rattle.verity_chain.specs.Checked.{Checking}
 use Rattle.verity_chain.specs.Table.{height}
 use Rattle.verity_plan.specs.Planning.{IsRight}
@@ -10,8 +10,16 @@ returns-clause-told g c =
     let H = g.H.BlockStore in
     let v = c.args.superblock.now in
     let d = c.args.pending.now in
-    subst (λ (s : Checking g.row.H.Denot). IfOk c.plan_checked-planned.result (λ plan. H.tells s.hash_store ≡ true
-    → IsRight v d c.args.first c.args.root (H.content s.hash_store) plan)) c.new-checked.ensures c.plan_checked-planned.ensures.told
+    let t = c.args.tree in
+    let first : c.hash_start_block-first.result ≡ t.hash_start_block =
+    c.hash_start_block-first.ensures.value ∙ ap (λ u. u.hash_start_block) c.table.ensures.value in
+    let told = subst (λ (s : Checking g.row.H.Denot). IfOk c.plan_checked-planned.result (λ plan. H.tells s.hash_store ≡ true
+    → IsRight v d c.hash_start_block-first.result c.root-root.result (H.content s.hash_store) plan)) c.new-checked.ensures
+    c.plan_checked-planned.ensures.told in
+    subst (λ (r : List ℕ). IfOk c.plan_checked-planned.result (λ plan. H.tells c.args.hash_store ≡ true
+    → IsRight v d t.hash_start_block r (H.content c.args.hash_store) plan)) c.root-root.ensures
+    (subst (λ (f : ℕ). IfOk c.plan_checked-planned.result (λ plan. H.tells c.args.hash_store ≡ true
+    → IsRight v d f c.root-root.result (H.content c.args.hash_store) plan)) first told)
 
 pub returns-clause-refused : goal.returns-clause-refused
 returns-clause-refused g c =

@@ -2,7 +2,7 @@ use Rattle.std.proofs.Common.{rules, ◌≡◌, ◌+◌, ◌<◌, ℕ, cond, Err
 use Rattle.verity_store.proofs.GivenLemmas.{goes_on_len}
 use Rattle.verity_chain.specs.Table.{Table}
 use Rattle.verity_chain.specs.Stores.{Gave, hash_given}
-use Rattle.verity_chain.specs.Notes.{AreChecked}
+use Rattle.verity_chain.specs.Notes.{AreChecked, WereGiven}
 use Rattle.verity_chain.proofs.ChainLemmas.{gave_here, hash_given-grows}
 use Rattle.verity_update.specs.Walk.{Spares, Takes, TakesTo}
 use Rattle.verity_update.specs.Refused.{ExplainsUntaken}
@@ -15,7 +15,19 @@ use Rattle.verity_update.proofs.walk.take_blocks.Goals.{then-branch, else-branch
 
 pub take_block-requires-clause-checked : goal.take_block-requires-clause-checked
 take_block-requires-clause-checked g c =
-    subst (λ t. AreChecked t c.loop-n.notes.items) (sym c.loop-n.invariant.same) c.loop-n.invariant.checked
+    subst (λ t. AreChecked t c.loop-n.seen.notes.items) (sym c.loop-n.invariant.same) c.loop-n.invariant.checked
+
+pub take_block-requires-clause-since : goal.take_block-requires-clause-since
+take_block-requires-clause-since g c =
+    let given = g.H.BlockStore.given in
+    let begins : c.loop-n.seen.since.steps ≡ c.args.seen.now.since.steps = ap (λ s. s.steps) c.loop-n.invariant.since in
+    let more = goes_on_len (given c.args.hash_store.now) (given c.loop-n.hash_store) c.loop-n.invariant.read.later.gave in
+    omega (arith, begins, more, c.requires.since)
+
+pub take_block-requires-clause-given : goal.take_block-requires-clause-given
+take_block-requires-clause-given g c =
+    subst (λ (m : ℕ). WereGiven g.H.BlockStore m c.loop-n.hash_store c.loop-n.seen.notes.items)
+    (sym (ap (λ s. s.steps) c.loop-n.invariant.since)) c.loop-n.invariant.given
 
 pub loop-n-preserved : goal.loop-n-preserved
 loop-n-preserved g c =
@@ -26,9 +38,10 @@ loop-n-preserved g c =
     let mid = c.take_block.new in
     let t = c.args.tree.now in
     let n : ℕ = c.loop-n.n in
-    let mark : ℕ = c.args.since.now.steps in
+    let mark : ℕ = c.args.seen.now.since.steps in
     let start : ℕ = length (N.given c.args.new_store.now) in
     let same : mid.tree ≡ t = one.same ∙ inv.same in
+    let begins : c.loop-n.seen.since.steps ≡ mark = ap (λ s. s.steps) inv.since in
     let grows = hash_given-grows H t mark c.loop-n.hash_store mid.hash_store one.keeps in
     let less : n < c.args.count = c.loop-n-test.true in
     let here : Gave N start mid.new_store n mid.bytes =
@@ -38,12 +51,16 @@ loop-n-preserved g c =
     one.keeps_new.content one.keeps_new.later.tells one.right in
     let takes : Takes t (hash_given H t mark mid.hash_store) n mid.bytes (g.E.Edited.working c.loop-n.edited)
     (g.E.Edited.working mid.edited) =
-    subst (λ tr. Takes tr (hash_given H tr mark mid.hash_store) n mid.bytes (g.E.Edited.working c.loop-n.edited)
-    (g.E.Edited.working mid.edited)) inv.same one.takes in
+    subst (λ (m : ℕ). Takes t (hash_given H t m mid.hash_store) n mid.bytes (g.E.Edited.working c.loop-n.edited)
+    (g.E.Edited.working mid.edited)) begins
+    (subst (λ tr. Takes tr (hash_given H tr c.loop-n.seen.since.steps mid.hash_store) n mid.bytes (g.E.Edited.working c.loop-n.edited)
+    (g.E.Edited.working mid.edited)) inv.same one.takes) in
     let spares : Spares t (hash_given H t mark mid.hash_store) n mid.bytes (g.E.Edited.changed c.loop-n.edited)
     (g.E.Edited.changed mid.edited) =
-    subst (λ tr. Spares tr (hash_given H tr mark mid.hash_store) n mid.bytes (g.E.Edited.changed c.loop-n.edited)
-    (g.E.Edited.changed mid.edited)) inv.same one.spares in
+    subst (λ (m : ℕ). Spares t (hash_given H t m mid.hash_store) n mid.bytes (g.E.Edited.changed c.loop-n.edited)
+    (g.E.Edited.changed mid.edited)) begins
+    (subst (λ tr. Spares tr (hash_given H tr c.loop-n.seen.since.steps mid.hash_store) n mid.bytes
+    (g.E.Edited.changed c.loop-n.edited) (g.E.Edited.changed mid.edited)) inv.same one.spares) in
     let written : c.loop-n.changed + cond c.in_ok-take_block.field-0 1 0 ≡ changed_count (g.E.Edited.changed mid.edited) (n + 1) =
     count_more (g.E.Edited.changed c.loop-n.edited) (g.E.Edited.changed mid.edited) n c.loop-n.changed c.in_ok-take_block.field-0 one.others
     (one.written (λ low. inv.taken.rest n (omega arith)
@@ -56,8 +73,9 @@ loop-n-preserved g c =
       read_new = read_on N c.args.new_store.now c.loop-n.new_store mid.new_store inv.read_new one.keeps_new;
       whole = search rules;
       sized = search rules;
-      checked = subst (λ tr. AreChecked tr mid.notes.items) inv.same one.checked;
-      given = one.given;
+      checked = subst (λ tr. AreChecked tr mid.seen.notes.items) inv.same one.checked;
+      since = one.since ∙ inv.since;
+      given = subst (λ (m : ℕ). WereGiven H m mid.hash_store mid.seen.notes.items) begins one.given;
       taken = takes_next N t (hash_given H t mark c.loop-n.hash_store) (hash_given H t mark mid.hash_store) c.args.new_store.now
           c.loop-n.new_store mid.new_store n c.args.count mid.bytes (g.E.Edited.working c.args.edited.now)
           (g.E.Edited.working c.loop-n.edited) (g.E.Edited.working mid.edited) (g.E.Edited.changed c.args.edited.now)
@@ -83,7 +101,7 @@ pub returns-clause-taken : goal.returns-clause-taken
 returns-clause-taken g c =
     let H = g.H.BlockStore in
     let end : c.loop-n.n ≡ c.args.count = omega (arith, c.loop-n.auto.n-end, c.loop-n-test.false) in
-    subst (λ n. TakesTo g.N.BlockStore c.args.tree.now (hash_given H c.args.tree.now c.args.since.now.steps c.loop-n.hash_store)
+    subst (λ n. TakesTo g.N.BlockStore c.args.tree.now (hash_given H c.args.tree.now c.args.seen.now.since.steps c.loop-n.hash_store)
     c.args.new_store.now c.loop-n.new_store n (g.E.Edited.working c.args.edited.now) (g.E.Edited.working c.loop-n.edited)
     (g.E.Edited.changed c.args.edited.now) (g.E.Edited.changed c.loop-n.edited)) end
     c.loop-n.invariant.taken
@@ -101,16 +119,19 @@ returns-in_err-take_block-clause-refused g c =
     let one = c.take_block.ensures in
     let mid = c.take_block.new in
     let t = c.args.tree.now in
-    let mark : ℕ = c.args.since.now.steps in
+    let mark : ℕ = c.args.seen.now.since.steps in
     let n : ℕ = c.loop-n.n in
     let same : mid.edited ≡ c.loop-n.edited = c.in_err-take_block.ensures.unchanged in
     let fault = c.in_err-take_block.field-0.0 in
     let back : c.from_residual.result ≡ Err fault = search rules in
     let why : ExplainsUntaken t (hash_given H t mark mid.hash_store) (g.E.Edited.size c.loop-n.edited) (length c.loop-n.bytes)
     (H.failures c.loop-n.hash_store) (H.failures mid.hash_store) (N.failures c.loop-n.new_store) (N.failures mid.new_store) fault =
-    subst (λ tr. ExplainsUntaken tr (hash_given H tr mark mid.hash_store) (g.E.Edited.size c.loop-n.edited) (length c.loop-n.bytes)
+    subst (λ (m : ℕ). ExplainsUntaken t (hash_given H t m mid.hash_store) (g.E.Edited.size c.loop-n.edited) (length c.loop-n.bytes)
     (H.failures c.loop-n.hash_store) (H.failures mid.hash_store) (N.failures c.loop-n.new_store) (N.failures mid.new_store) fault)
-    inv.same c.in_err-take_block.ensures.refused in
+    (ap (λ s. s.steps) inv.since)
+    (subst (λ tr. ExplainsUntaken tr (hash_given H tr c.loop-n.seen.since.steps mid.hash_store) (g.E.Edited.size c.loop-n.edited)
+    (length c.loop-n.bytes) (H.failures c.loop-n.hash_store) (H.failures mid.hash_store) (N.failures c.loop-n.new_store)
+    (N.failures mid.new_store) fault) inv.same c.in_err-take_block.ensures.refused) in
     rw back (
       n,
       record {

@@ -14,9 +14,10 @@ invariant-loop-n g l = let H = g.H.BlockStore in let N = g.N.BlockStore in recor
   read_new : IsOnlyRead N l.initial.new_store l.new_store;
   whole : length l.bytes ≡ N.size l.initial.new_store;
   sized : length l.block ≡ l.initial.tree.hash_block_size;
-  checked : AreChecked l.initial.tree l.notes.items;
-  given : WereGiven H l.since.steps l.hash_store l.notes.items;
-  taken : TakesTo N l.initial.tree (hash_given H l.initial.tree l.since.steps l.hash_store) l.initial.new_store l.new_store l.n
+  since : l.seen.since ≡ l.initial.seen.since;
+  checked : AreChecked l.initial.tree l.seen.notes.items;
+  given : WereGiven H l.initial.seen.since.steps l.hash_store l.seen.notes.items;
+  taken : TakesTo N l.initial.tree (hash_given H l.initial.tree l.initial.seen.since.steps l.hash_store) l.initial.new_store l.new_store l.n
       (g.E.Edited.working l.initial.edited) (g.E.Edited.working l.edited) (g.E.Edited.changed l.initial.edited)
       (g.E.Edited.changed l.edited);
   unfailed : H.failures l.hash_store ≡ H.failures l.initial.hash_store;

@@ -9,8 +9,7 @@ use Rattle.verity_superblock.proofs.table.Table.new.Goals as goal
 
 pub invariant_of-result : goal.invariant_of-result
 invariant_of-result g c =
-    let fit = values_refusal-none c.args.dev.now c.args.hash_dev.now c.args.data_size c.args.hash_size c.args.blocks c.args.start
-    c.in_ok-check_values.ensures in
+    let fit = values_refusal-none c.args.values.now c.in_ok-check_values.ensures in
     record {
       dev = ap is_path c.in-Ok.ensures.ok ∙ fit.paths.0;
       hash_dev = ap is_path c.in-Ok-from_str.ensures.ok ∙ fit.paths.1;
