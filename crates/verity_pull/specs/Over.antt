@@ -4,7 +4,7 @@ use Rattle.verity_store.specs.declared.store.BlockStore as store
 use Rattle.verity_chain.specs.Table.{Table, branching, height, row_len, tree_len, hash_place, path_index}
 use Rattle.verity_chain.specs.Chain.{Given, given_by, EndsChain, Names}
 use Rattle.verity_chain.specs.Right.{own}
-use Rattle.verity_report.specs.Descent.{Known, known, seen_in}
+use Rattle.verity_report.specs.Descent.{Known, known, seen_in, AreRows}
 use Rattle.verity_pull.specs.Walk.{Came, IsName, IsVouched}
 
 -- the line with another root hash
@@ -19,6 +19,12 @@ was_given facts t mark k = given_by t (λ n y. ⊥) (Came facts mark k)
 pub record OldTree : Type 0 where
   pub root : List ℕ
   pub rows : List Known
+
+-- the rows of both trees are such rows, and the old line's root hash is what it was
+pub record KeepTrees (t : Table) (rows' : List Known) (old new : OldTree) : Type 0 where
+  pub rows : AreRows t rows'
+  pub old_rows : AreRows t new.rows
+  pub root : new.root ≡ old.root
 
 -- a row keeps the block of this index; no other row has changed
 pub record IsHeldAt (r i : ℕ) (block : List ℕ) (old new : List Known) : Type 0 where

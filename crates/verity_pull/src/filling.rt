@@ -2,11 +2,14 @@
 ghost use Rattle.std.specs.Prelude.{◌≡◌, ◌≢◌, ℕ, ◌+◌, ◌*◌, ◌^◌, ◌<◌, ◌≤◌, true, List, [], length, slice_index_or, OnOk, OnErr, IfOk, IfErr};
 ghost use Rattle.std.specs.Fork.{slice_chunk};
 ghost use Rattle.verity_profile.specs.Profile.{zero_block};
-ghost use Rattle.verity_store.specs.Stores.{IsOnlyRead, IsOnlyWritten};
+ghost use Rattle.verity_store.specs.Stores.{IsOnlyWritten};
 ghost use Rattle.verity_store.specs.Moves.{ChangesWithin};
 ghost use Rattle.verity_chain.specs.Table.{hashing_of};
 ghost use Rattle.verity_report.specs.Descent.{Known};
 ghost use Rattle.verity_pull.specs.Walk.{Came, IsName, AreTaken, OfWrong, IsWrongIn};
+ghost use Rattle.verity_pull.specs.Faults.{IsDataFault};
+ghost use Rattle.verity_pull.specs.Stays.{StoresStay};
+ghost use Rattle.verity_pull.specs.Counted.{CountsFetched};
 
 use crate::fault::{PullFault, Role};
 use std::alloc::Allocator;
@@ -105,16 +108,9 @@ fn fetch_run<L: BlockStore, S: BlockStore, A: Allocator>(
     ensures writes { OnOk result (L.changes local.new ≡ L.changes local.old + length names.now) }
     ensures reads { OnOk result (S.reads source.new ≡ S.reads source.old + length names.now) }
     ensures all { S.reads source.new ≤ S.reads source.old + length names.now }
-    ensures local_failed { result ≡ Err (PullFault.Store Role.LocalData) → L.failures local.old < L.failures local.new }
-    ensures local_asked { result ≡ Err (PullFault.Store Role.LocalData) → L.changes local.old < L.changes local.new }
-    ensures source_failed { result ≡ Err (PullFault.Store Role.SourceData) → S.failures source.old < S.failures source.new }
-    ensures not_hash { result ≢ Err (PullFault.Store Role.LocalHash) }
-    ensures not_source_hash { result ≢ Err (PullFault.Store Role.SourceHash) }
-    ensures not_memory { result ≢ Err PullFault.NoMemory }
-    ensures not_unsuited { (role : Role) → result ≢ Err (PullFault.Unsuited role) }
-    ensures source_unfailed { OnOk result (S.failures source.new ≡ S.failures source.old) }
-    ensures local_keeps { IsOnlyWritten L.BlockStore local.old local.new }
-    ensures source_keeps { IsOnlyRead S.BlockStore source.old source.new }
+    ensures faults { IfErr result (IsDataFault L.BlockStore S.BlockStore local.old local.new source.old source.new) }
+    ensures stays { StoresStay L.BlockStore S.BlockStore result local.old local.new source.old source.new }
+    ensures unread { L.reads local.new ≡ L.reads local.old }
     ensures same { tree.new ≡ tree.old }
 {
     let size = tree.table().data_block_size();
@@ -171,20 +167,12 @@ pub(crate) fn fill_run<L: BlockStore, S: BlockStore, A: Allocator>(
     ensures behind { IfOk result (λ filled. ChangesWithin n filled (L.content local.old) (L.content local.new)) }
     ensures spared { slice_index_or names.now 0 [] ≡ zeros.now
         → (S.reads source.new ≡ S.reads source.old) × (L.changes local.new ≡ L.changes local.old) }
-    ensures writes { OnOk result (L.changes local.new + fetched.old ≡ L.changes local.old + fetched.new) }
-    ensures reads { OnOk result (S.reads source.new + fetched.old ≡ S.reads source.old + fetched.new) }
-    ensures all { S.reads source.new ≤ S.reads source.old + length names.now }
+    ensures counts { CountsFetched L.BlockStore S.BlockStore result (length names.now) fetched.old fetched.new
+        local.old local.new source.old source.new }
     ensures most { IfOk result (λ filled. fetched.new ≤ fetched.old + filled) }
-    ensures local_failed { result ≡ Err (PullFault.Store Role.LocalData) → L.failures local.old < L.failures local.new }
-    ensures local_asked { result ≡ Err (PullFault.Store Role.LocalData) → L.changes local.old < L.changes local.new }
-    ensures source_failed { result ≡ Err (PullFault.Store Role.SourceData) → S.failures source.old < S.failures source.new }
-    ensures not_hash { result ≢ Err (PullFault.Store Role.LocalHash) }
-    ensures not_source_hash { result ≢ Err (PullFault.Store Role.SourceHash) }
-    ensures not_memory { result ≢ Err PullFault.NoMemory }
-    ensures not_unsuited { (role : Role) → result ≢ Err (PullFault.Unsuited role) }
-    ensures source_unfailed { OnOk result (S.failures source.new ≡ S.failures source.old) }
-    ensures local_keeps { IsOnlyWritten L.BlockStore local.old local.new }
-    ensures source_keeps { IsOnlyRead S.BlockStore source.old source.new }
+    ensures faults { IfErr result (IsDataFault L.BlockStore S.BlockStore local.old local.new source.old source.new) }
+    ensures stays { StoresStay L.BlockStore S.BlockStore result local.old local.new source.old source.new }
+    ensures unread { L.reads local.new ≡ L.reads local.old }
     ensures same { tree.new ≡ tree.old }
 {
     let blank = zeros_ahead(names, zeros);

@@ -1,14 +1,15 @@
 //! The local stores' lengths, and what stands in front of the tree.
-ghost use Rattle.std.specs.Prelude.{◌≡◌, ◌≢◌, ℕ, ◌+◌, ◌^◌, ◌<◌, ◌≤◌, min, true, [], length, slice_index_or, OnOk, OnErr, IfErr};
+ghost use Rattle.std.specs.Prelude.{◌≡◌, ℕ, ◌+◌, ◌^◌, ◌<◌, ◌≤◌, min, true, [], length, slice_index_or, OnOk, OnErr, IfErr};
 ghost use Rattle.verity_profile.specs.Profile.{zero_block};
 ghost use Rattle.verity_store.specs.Blocks.{resized};
 ghost use Rattle.verity_store.specs.Stores.{IsKept, IsOnlyWritten};
 ghost use Rattle.verity_chain.specs.Table.{IsTable, tree_len};
 ghost use Rattle.verity_pull.specs.Pull.{laid};
+ghost use Rattle.verity_pull.specs.Faults.{IsLayoutFault};
 
 use crate::fault::{PullFault, Role};
 use std::alloc::Allocator;
-use verity_chain::{Place, Tree};
+use verity_chain::Tree;
 use verity_store::{BlockStore, StoreFault};
 
 /// Makes room in both local stores for the volume, so that no memory is refused once a block of them has changed.
@@ -116,13 +117,7 @@ pub(crate) fn lay_out<L: BlockStore, K: BlockStore, A: Allocator>(
     ensures hash_len { OnOk result (length (K.content local_hash.new) ≡ tree.now.hash_start_block + tree_len tree.now) }
     ensures front { OnOk result (K.tells local_hash.old ≡ true → K.content local_hash.new ≡ laid tree.now.hash_start_block superblock.now
         (resized (K.size local_hash.old) (tree.now.hash_start_block + tree_len tree.now) (K.content local_hash.old))) }
-    ensures data_failed { result ≡ Err (PullFault.Store Role.LocalData) → L.failures local_data.old < L.failures local_data.new }
-    ensures hash_failed { result ≡ Err (PullFault.Store Role.LocalHash) → K.failures local_hash.old < K.failures local_hash.new }
-    ensures not_source_data { result ≢ Err (PullFault.Store Role.SourceData) }
-    ensures not_source_hash { result ≢ Err (PullFault.Store Role.SourceHash) }
-    ensures not_memory { result ≢ Err PullFault.NoMemory }
-    ensures not_unsuited { (role : Role) → result ≢ Err (PullFault.Unsuited role) }
-    ensures not_wrong { (place : Place) → result ≢ Err (PullFault.Wrong place) }
+    ensures faults { IfErr result (IsLayoutFault L.BlockStore K.BlockStore local_data.old local_data.new local_hash.old local_hash.new) }
     ensures data_changes { OnOk result (L.changes local_data.new ≡ L.changes local_data.old + 1) }
     ensures hash_changes { OnOk result (K.changes local_hash.new
         ≡ K.changes local_hash.old + (1 + min tree.now.hash_start_block 1)) }

@@ -1,9 +1,11 @@
 //! Along the data blocks that the local store had: each is kept, or fetched.
 ghost use Rattle.std.specs.Prelude.{◌≡◌, ◌≢◌, ℕ, ◌+◌, ◌*◌, ◌^◌, ◌<◌, ◌≤◌, List, [], length, slice_index_or, OnOk, IfOk, IfErr};
-ghost use Rattle.verity_store.specs.Stores.{IsLater, IsOnlyRead, IsOnlyWritten};
 ghost use Rattle.verity_store.specs.Moves.{ChangesWithin};
 ghost use Rattle.verity_report.specs.Descent.{AreRows};
 ghost use Rattle.verity_pull.specs.Walk.{AreTaken, IsRead, IsMixed, OfWrong, IsWrongIn};
+ghost use Rattle.verity_pull.specs.Faults.{IsDataFault};
+ghost use Rattle.verity_pull.specs.Stays.{StoresStay};
+ghost use Rattle.verity_pull.specs.Counted.{CountsFetched};
 
 use crate::fault::{PullFault, Role};
 use crate::fetch::{mend, take};
@@ -43,21 +45,13 @@ fn mend_each<L: BlockStore, S: BlockStore, A: Allocator>(
     ensures wrong { IfErr result (λ fault. OfWrong fault (λ place. (mark : ℕ) → mark ≤ length (S.given source.old)
         → IsWrongIn S.BlockStore tree.old mark source.new rows.now n (length digests.now) place)) }
     ensures others { ChangesWithin n (length digests.now) (L.content local.old) (L.content local.new) }
-    ensures writes { OnOk result (L.changes local.new + fetched.old ≡ L.changes local.old + fetched.new) }
-    ensures reads { OnOk result (S.reads source.new + fetched.old ≡ S.reads source.old + fetched.new) }
-    ensures each { S.reads source.new ≤ S.reads source.old + length digests.now }
+    ensures counts { CountsFetched L.BlockStore S.BlockStore result (length digests.now) fetched.old fetched.new
+        local.old local.new source.old source.new }
     ensures most { fetched.new ≤ fetched.old + length digests.now }
     ensures more { fetched.old ≤ fetched.new }
-    ensures local_failed { result ≡ Err (PullFault.Store Role.LocalData) → L.failures local.old < L.failures local.new }
-    ensures local_asked { result ≡ Err (PullFault.Store Role.LocalData) → L.changes local.old < L.changes local.new }
-    ensures source_failed { result ≡ Err (PullFault.Store Role.SourceData) → S.failures source.old < S.failures source.new }
-    ensures not_hash { result ≢ Err (PullFault.Store Role.LocalHash) }
-    ensures not_source_hash { result ≢ Err (PullFault.Store Role.SourceHash) }
-    ensures not_memory { result ≢ Err PullFault.NoMemory }
-    ensures not_unsuited { (role : Role) → result ≢ Err (PullFault.Unsuited role) }
-    ensures source_unfailed { OnOk result (S.failures source.new ≡ S.failures source.old) }
-    ensures local_keeps { IsOnlyWritten L.BlockStore local.old local.new }
-    ensures source_keeps { IsOnlyRead S.BlockStore source.old source.new }
+    ensures faults { IfErr result (IsDataFault L.BlockStore S.BlockStore local.old local.new source.old source.new) }
+    ensures stays { StoresStay L.BlockStore S.BlockStore result local.old local.new source.old source.new }
+    ensures unread { L.reads local.new ≡ L.reads local.old }
     ensures same { tree.new ≡ tree.old }
 {
     'each: for j in 0..digests.len() {
@@ -111,22 +105,13 @@ pub(crate) fn mend_run<L: BlockStore, S: BlockStore, A: Allocator>(
         → IsWrongIn S.BlockStore tree.old mark source.new rows.now n count place)) }
     ensures others { ChangesWithin n count (L.content local.old) (L.content local.new) }
     ensures behind { IfOk result (λ looked. ChangesWithin n looked (L.content local.old) (L.content local.new)) }
-    ensures writes { OnOk result (L.changes local.new + fetched.old ≡ L.changes local.old + fetched.new) }
-    ensures reads { OnOk result (S.reads source.new + fetched.old ≡ S.reads source.old + fetched.new) }
-    ensures all { S.reads source.new ≤ S.reads source.old + count }
+    ensures counts { CountsFetched L.BlockStore S.BlockStore result count fetched.old fetched.new
+        local.old local.new source.old source.new }
     ensures most { IfOk result (λ looked. fetched.new ≤ fetched.old + looked) }
     ensures local_reads { IfOk result (λ looked. L.reads local.new ≡ L.reads local.old + looked) }
     ensures local_few { L.reads local.new ≤ L.reads local.old + count }
-    ensures local_failed { result ≡ Err (PullFault.Store Role.LocalData) → L.failures local.old < L.failures local.new }
-    ensures local_asked { result ≡ Err (PullFault.Store Role.LocalData) → L.changes local.old < L.changes local.new }
-    ensures source_failed { result ≡ Err (PullFault.Store Role.SourceData) → S.failures source.old < S.failures source.new }
-    ensures not_hash { result ≢ Err (PullFault.Store Role.LocalHash) }
-    ensures not_source_hash { result ≢ Err (PullFault.Store Role.SourceHash) }
-    ensures not_memory { result ≢ Err PullFault.NoMemory }
-    ensures not_unsuited { (role : Role) → result ≢ Err (PullFault.Unsuited role) }
-    ensures source_unfailed { OnOk result (S.failures source.new ≡ S.failures source.old) }
-    ensures local_keeps { IsLater L.BlockStore local.old local.new }
-    ensures source_keeps { IsOnlyRead S.BlockStore source.old source.new }
+    ensures faults { IfErr result (IsDataFault L.BlockStore S.BlockStore local.old local.new source.old source.new) }
+    ensures stays { StoresStay L.BlockStore S.BlockStore result local.old local.new source.old source.new }
     ensures same { tree.new ≡ tree.old }
 {
     let size = tree.table().data_block_size();

@@ -1,13 +1,15 @@
 //! Down to a data block over the volume of an old line: past the places for which both lines name the same digest.
-ghost use Rattle.std.specs.Prelude.{◌≡◌, ◌≢◌, ℕ, suc, ◌+◌, ◌<◌, ◌≤◌, true, List, [], length, slice_index_or, slice_set, OnOk, IfOk, IfErr};
+ghost use Rattle.std.specs.Prelude.{◌≡◌, ◌≢◌, ℕ, suc, ◌+◌, ◌<◌, ◌≤◌, true, length, slice_set, OnOk, IfOk, IfErr};
 ghost use Rattle.verity_store.specs.Blocks.{ChangesAt};
-ghost use Rattle.verity_store.specs.Stores.{IsLater, IsOnlyRead, IsOnlyWritten};
 ghost use Rattle.verity_chain.specs.Table.{IsTable, hashing_of, height, row_len, hash_place, tree_len, path_index};
 ghost use Rattle.verity_chain.specs.Stores.{Gave, hash_given, IsHashStoreOf};
 ghost use Rattle.verity_report.specs.Descent.{AreRows};
 ghost use Rattle.verity_pull.specs.Walk.{IsHashMixed, OfWrong, IsWrongAt, KeepsFront};
-ghost use Rattle.verity_pull.specs.Over.{was_given, IsHeldAt, IsFollowed, IsOnPath, IsKeptTo, IsKeptBelow};
+ghost use Rattle.verity_pull.specs.Over.{was_given, KeepTrees, IsHeldAt, IsFollowed, IsOnPath, IsKeptTo, IsKeptBelow};
 ghost use Rattle.verity_pull.specs.Steps.{fetched_by, IfDown, IfKept};
+ghost use Rattle.verity_pull.specs.Faults.{IsOfStores};
+ghost use Rattle.verity_pull.specs.Stays.{StoresStay};
+ghost use Rattle.verity_pull.specs.Counted.{CountsWay};
 
 use crate::fault::{PullFault, Role};
 use crate::old::Old;
@@ -71,11 +73,9 @@ fn take_hash<K: BlockStore, H: BlockStore, A: Allocator>(
         × ((hashing_of tree.old).digest hash_block.new ≢ named.now))) }
     ensures writes { OnOk result (K.changes local.new ≡ K.changes local.old + 1) }
     ensures counted { OnOk result (H.reads source.new ≡ H.reads source.old + 1) }
-    ensures not_memory { result ≢ Err PullFault.NoMemory }
-    ensures not_unsuited { (role : Role) → result ≢ Err (PullFault.Unsuited role) }
-    ensures source_unfailed { OnOk result (H.failures source.new ≡ H.failures source.old) }
-    ensures local_keeps { IsOnlyWritten K.BlockStore local.old local.new }
-    ensures source_keeps { IsOnlyRead H.BlockStore source.old source.new }
+    ensures faults { IfErr result IsOfStores }
+    ensures stays { StoresStay K.BlockStore H.BlockStore result local.old local.new source.old source.new }
+    ensures unread { K.reads local.new ≡ K.reads local.old }
     ensures same { tree.new ≡ tree.old }
 {
     let number = tree.hash_place(level, index);
@@ -136,11 +136,9 @@ fn step_over<K: BlockStore, H: BlockStore, A: Allocator>(
     requires rows { AreRows tree.old rows.old }
     requires old_rows { AreRows tree.old old.old.rows }
     requires down { IsOnPath tree.old n (suc level) rows.old }
-    ensures rows { OnOk result (AreRows tree.old rows.new) }
-    ensures old_rows { OnOk result (AreRows tree.old old.new.rows) }
-    ensures root { OnOk result (old.new.root ≡ old.old.root) }
+    ensures trees { OnOk result (KeepTrees tree.old rows.new old.old old.new) }
     ensures down { IfOk result (λ step. IfDown step (IsOnPath tree.old n level rows.new)) }
-    ensures stays { IfOk result (λ step. IfKept step (λ next. IsOnPath tree.old n (suc level) rows.new)) }
+    ensures above { IfOk result (λ step. IfKept step (λ next. IsOnPath tree.old n (suc level) rows.new)) }
     ensures further { IfOk result (λ step. IfKept step (λ next. n < next)) }
     ensures within { IfOk result (λ step. IfKept step (λ next. next ≤ tree.old.data_blocks)) }
     ensures found { (mark was_mark : ℕ) → mark ≤ length (H.given source.old) → was_mark ≤ length (K.given local.old)
@@ -164,15 +162,11 @@ fn step_over<K: BlockStore, H: BlockStore, A: Allocator>(
         (was_given K.BlockStore tree.old was_mark local.old) local.old rows.old old.old.rows
         → IsWrongAt tree.old (hash_given H.BlockStore tree.old mark source.new) place)) }
     ensures front { KeepsFront tree.old.hash_start_block (K.content local.old) (K.content local.new) }
-    ensures counted { IfOk result (λ step. (H.reads source.new ≡ H.reads source.old + fetched_by step)
-        × (K.changes local.new ≡ K.changes local.old + fetched_by step)) }
+    ensures counts { IfOk result (λ step. CountsWay K.BlockStore H.BlockStore (fetched_by step)
+        local.old local.new source.old source.new) }
     ensures local_reads { K.reads local.new ≤ K.reads local.old + 1 }
-    ensures looked { IfOk result (λ step. K.reads local.new ≤ K.reads local.old + fetched_by step) }
-    ensures not_memory { result ≢ Err PullFault.NoMemory }
-    ensures not_unsuited { (role : Role) → result ≢ Err (PullFault.Unsuited role) }
-    ensures source_unfailed { OnOk result (H.failures source.new ≡ H.failures source.old) }
-    ensures local_keeps { IsLater K.BlockStore local.old local.new }
-    ensures source_keeps { IsOnlyRead H.BlockStore source.old source.new }
+    ensures faults { IfErr result IsOfStores }
+    ensures stays { StoresStay K.BlockStore H.BlockStore result local.old local.new source.old source.new }
     ensures same { tree.new ≡ tree.old }
 {
     let index = tree.above(level, n);
@@ -207,9 +201,7 @@ pub(crate) fn go_down_over<K: BlockStore, H: BlockStore, A: Allocator>(
     requires block { length hash_block.old ≡ tree.old.hash_block_size }
     requires rows { AreRows tree.old rows.old }
     requires old_rows { AreRows tree.old old.old.rows }
-    ensures rows { OnOk result (AreRows tree.old rows.new) }
-    ensures old_rows { OnOk result (AreRows tree.old old.new.rows) }
-    ensures root { OnOk result (old.new.root ≡ old.old.root) }
+    ensures trees { OnOk result (KeepTrees tree.old rows.new old.old old.new) }
     ensures path { IfOk result (λ way. way.next ≡ n → IsOnPath tree.old n 0 rows.new) }
     ensures few { IfOk result (λ way. way.fetched ≤ 14) }
     ensures further { IfOk result (λ way. n ≤ way.next) }
@@ -239,14 +231,9 @@ pub(crate) fn go_down_over<K: BlockStore, H: BlockStore, A: Allocator>(
         (was_given K.BlockStore tree.old was_mark local.old) local.old rows.old old.old.rows
         → IsWrongAt tree.old (hash_given H.BlockStore tree.old mark source.new) place)) }
     ensures front { KeepsFront tree.old.hash_start_block (K.content local.old) (K.content local.new) }
-    ensures counted { IfOk result (λ way. H.reads source.new ≡ H.reads source.old + way.fetched) }
-    ensures writes { IfOk result (λ way. K.changes local.new ≡ K.changes local.old + way.fetched) }
-    ensures looked { IfOk result (λ way. K.reads local.new ≤ K.reads local.old + way.fetched) }
-    ensures not_memory { result ≢ Err PullFault.NoMemory }
-    ensures not_unsuited { (role : Role) → result ≢ Err (PullFault.Unsuited role) }
-    ensures source_unfailed { OnOk result (H.failures source.new ≡ H.failures source.old) }
-    ensures local_keeps { IsLater K.BlockStore local.old local.new }
-    ensures source_keeps { IsOnlyRead H.BlockStore source.old source.new }
+    ensures counts { IfOk result (λ way. CountsWay K.BlockStore H.BlockStore way.fetched local.old local.new source.old source.new) }
+    ensures faults { IfErr result IsOfStores }
+    ensures stays { StoresStay K.BlockStore H.BlockStore result local.old local.new source.old source.new }
     ensures same { tree.new ≡ tree.old }
 {
     let mut level = tree.levels();

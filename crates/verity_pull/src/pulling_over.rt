@@ -1,15 +1,17 @@
 //! A pull over the volume of an old line.
-ghost use Rattle.std.specs.Prelude.{◌≡◌, ◌≢◌, ℕ, suc, ◌+◌, ◌*◌, ◌<◌, ◌≤◌, ◌⊎◌, min};
-ghost use Rattle.std.specs.Prelude.{true, [], length, take, slice_index_or, OnOk, IfOk, IfErr};
+ghost use Rattle.std.specs.Prelude.{◌≡◌, ◌≢◌, ℕ, suc, ◌+◌, ◌<◌, ◌≤◌, ◌⊎◌};
+ghost use Rattle.std.specs.Prelude.{[], length, take, slice_index_or, OnOk, IfOk, IfErr};
 ghost use Rattle.verity_profile.specs.Profile.{zero_block};
 ghost use Rattle.verity_store.specs.Blocks.{resized};
-ghost use Rattle.verity_store.specs.Stores.{IsLater, IsOnlyRead};
 ghost use Rattle.verity_chain.specs.Table.{IsTable, height, row_len, tree_len, hash_place};
 ghost use Rattle.verity_chain.specs.Stores.{hash_given, IsHashStoreOf};
 ghost use Rattle.verity_report.specs.Descent.{seen_in, AreRows};
 ghost use Rattle.verity_pull.specs.Walk.{IsVouched, IsHashMixed, OfWrong, IsWrongAt, KeepsFront};
 ghost use Rattle.verity_pull.specs.Pull.{marks_at, pull_given, source_given, SuitsOver, IsUntouched, laid};
 ghost use Rattle.verity_pull.specs.Over.{was_given, IsSettled, IsPulledOver};
+ghost use Rattle.verity_pull.specs.Faults.{IsOfStores};
+ghost use Rattle.verity_pull.specs.Stays.{StoresStay, SourcesStay, AreSynced};
+ghost use Rattle.verity_pull.specs.Counted.{CountsWalk, CountsPull};
 
 use crate::fault::{PullFault, Role};
 use crate::layout::{lay_out, make_room};
@@ -98,23 +100,15 @@ fn go_over<L: BlockStore, K: BlockStore, S: BlockStore, H: BlockStore, A: Alloca
         source_data.new source_hash.new))) }
     ensures data_len { length (L.content local_data.new) ≡ length (L.content local_data.old) }
     ensures front { KeepsFront tree.old.hash_start_block (K.content local_hash.old) (K.content local_hash.new) }
-    ensures most { IfOk result (λ gone. gone.fetched ≤ tree.old.data_blocks) }
+    ensures counts { IfOk result (λ gone. CountsWalk L.BlockStore K.BlockStore S.BlockStore H.BlockStore tree.old
+        local_data.old local_data.new local_hash.old local_hash.new source_data.old source_data.new source_hash.old source_hash.new
+        gone.fetched gone.read gone.hash_blocks) }
     ensures looked { IfOk result (λ gone. gone.read ≤ tree.old.data_blocks) }
-    ensures data_writes { IfOk result (λ gone. L.changes local_data.new ≡ L.changes local_data.old + gone.fetched) }
-    ensures hash_writes { IfOk result (λ gone. K.changes local_hash.new ≡ K.changes local_hash.old + gone.hash_blocks) }
-    ensures source_reads { IfOk result (λ gone. S.reads source_data.new ≡ S.reads source_data.old + gone.fetched) }
     ensures source_few { S.reads source_data.new ≤ S.reads source_data.old + tree.old.data_blocks }
-    ensures hash_reads { IfOk result (λ gone. H.reads source_hash.new ≡ H.reads source_hash.old + gone.hash_blocks) }
-    ensures local_reads { IfOk result (λ gone. L.reads local_data.new ≡ L.reads local_data.old + gone.read) }
     ensures hash_looked { IfOk result (λ gone. K.reads local_hash.new ≤ K.reads local_hash.old + gone.hash_blocks) }
-    ensures source_unfailed { OnOk result (S.failures source_data.new ≡ S.failures source_data.old) }
-    ensures source_hash_unfailed { OnOk result (H.failures source_hash.new ≡ H.failures source_hash.old) }
-    ensures not_memory { result ≢ Err PullFault.NoMemory }
-    ensures not_unsuited { (role : Role) → result ≢ Err (PullFault.Unsuited role) }
-    ensures local_keeps { IsLater L.BlockStore local_data.old local_data.new }
-    ensures hash_keeps { IsLater K.BlockStore local_hash.old local_hash.new }
-    ensures source_keeps { IsOnlyRead S.BlockStore source_data.old source_data.new }
-    ensures source_hash_keeps { IsOnlyRead H.BlockStore source_hash.old source_hash.new }
+    ensures stays { StoresStay L.BlockStore S.BlockStore result local_data.old local_data.new source_data.old source_data.new }
+    ensures hash_stays { StoresStay K.BlockStore H.BlockStore result local_hash.old local_hash.new source_hash.old source_hash.new }
+    ensures faults { IfErr result IsOfStores }
     ensures same { tree.new ≡ tree.old }
 {
     let count = tree.table().data_blocks();
@@ -209,24 +203,14 @@ pub fn pull_over<
         → IsUntouched L.BlockStore local_data.old local_data.new × IsUntouched K.BlockStore local_hash.old local_hash.new }
     ensures memory_first { result ≡ Err PullFault.NoMemory
         → IsUntouched L.BlockStore local_data.old local_data.new × IsUntouched K.BlockStore local_hash.old local_hash.new }
-    ensures counted { IfOk result (λ pulled. pulled.fetched + pulled.kept ≡ tree.old.data_blocks) }
-    ensures fetched { IfOk result (λ pulled. S.reads source_data.new ≡ S.reads source_data.old + pulled.fetched) }
-    ensures written { IfOk result (λ pulled. L.changes local_data.new ≡ L.changes local_data.old + (1 + pulled.fetched)) }
-    ensures hash_written { IfOk result (λ pulled. K.changes local_hash.new
-        ≡ K.changes local_hash.old + (1 + min tree.old.hash_start_block 1) + pulled.hash_blocks) }
+    ensures counts { IfOk result (λ pulled. CountsPull L.BlockStore K.BlockStore S.BlockStore H.BlockStore tree.old
+        local_data.old local_data.new local_hash.old local_hash.new source_data.old source_data.new source_hash.old source_hash.new
+        pulled.fetched pulled.kept pulled.read pulled.hash_blocks) }
     ensures source_few { S.reads source_data.new ≤ S.reads source_data.old + tree.old.data_blocks }
-    ensures hash_reads { IfOk result (λ pulled. H.reads source_hash.new ≡ H.reads source_hash.old + pulled.hash_blocks) }
-    ensures local_reads { IfOk result (λ pulled. L.reads local_data.new ≡ L.reads local_data.old + pulled.read) }
     ensures hash_looked { IfOk result (λ pulled. K.reads local_hash.new ≤ K.reads local_hash.old + pulled.hash_blocks) }
-    ensures source_unfailed { OnOk result (S.failures source_data.new ≡ S.failures source_data.old) }
-    ensures source_hash_unfailed { OnOk result (H.failures source_hash.new ≡ H.failures source_hash.old) }
-    ensures sized { OnOk result ((L.size local_data.new ≡ tree.old.data_block_size) × (S.size source_data.new ≡ tree.old.data_block_size)
-        × (H.size source_hash.new ≡ tree.old.hash_block_size) × (K.size local_hash.new ≡ tree.old.hash_block_size)) }
-    ensures told { OnOk result ((L.tells local_data.new ≡ L.tells local_data.old) × (K.tells local_hash.new ≡ K.tells local_hash.old)) }
-    ensures data_synced { OnOk result (L.synced local_data.new ≡ true) }
-    ensures hash_synced { OnOk result (K.synced local_hash.new ≡ true) }
-    ensures source_keeps { IsOnlyRead S.BlockStore source_data.old source_data.new }
-    ensures source_hash_keeps { IsOnlyRead H.BlockStore source_hash.old source_hash.new }
+    ensures sources { SourcesStay S.BlockStore H.BlockStore result source_data.old source_data.new source_hash.old source_hash.new }
+    ensures left { OnOk result (AreSynced L.BlockStore K.BlockStore S.BlockStore H.BlockStore tree.old
+        local_data.old local_data.new local_hash.old local_hash.new source_data.new source_hash.new) }
     ensures same { tree.new ≡ tree.old }
 {
     match unsuited_over(tree, local_data, local_hash, source_data, source_hash) {

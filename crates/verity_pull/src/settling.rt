@@ -1,12 +1,14 @@
 //! Data blocks over the volume of an old line: kept where both lines name the same digest, else fetched, or looked at.
 ghost use Rattle.std.specs.Prelude.{◌≡◌, ◌≢◌, ℕ, suc, ◌+◌, ◌/◌, ◌^◌, ◌<◌, ◌≤◌, ◌⊎◌, [], length, slice_index_or, OnOk, IfOk, IfErr};
 ghost use Rattle.verity_profile.specs.Profile.{zero_block};
-ghost use Rattle.verity_store.specs.Stores.{IsLater, IsOnlyRead};
 ghost use Rattle.verity_store.specs.Blocks.{ChangesAt};
 ghost use Rattle.verity_chain.specs.Table.{IsTable, hashing_of, branching, height};
 ghost use Rattle.verity_report.specs.Descent.{known, seen_in, AreRows};
 ghost use Rattle.verity_pull.specs.Walk.{IsName, IsTaken, IsMixedIn, OfWrong, IsWrongIn, IsWrongBelow, KeepsFront};
 ghost use Rattle.verity_pull.specs.Over.{IsOnPath, IsKeptData};
+ghost use Rattle.verity_pull.specs.Faults.{IsDataFault};
+ghost use Rattle.verity_pull.specs.Stays.{StoresStay};
+ghost use Rattle.verity_pull.specs.Counted.{CountsSettled};
 
 use crate::fault::{PullFault, Role};
 use crate::fetch::fetch;
@@ -62,12 +64,8 @@ fn settle_named<L: BlockStore, S: BlockStore, A: Allocator>(
     ensures most { IfOk result (λ done. done.fetched ≤ 1) }
     ensures unread { IfOk result (λ done. done.read ≡ 0) }
     ensures local_reads { L.reads local.new ≡ L.reads local.old }
-    ensures not_memory { result ≢ Err PullFault.NoMemory }
-    ensures not_unsuited { (role : Role) → result ≢ Err (PullFault.Unsuited role) }
-    ensures not_hash { result ≢ Err (PullFault.Store Role.LocalHash) }
-    ensures source_unfailed { OnOk result (S.failures source.new ≡ S.failures source.old) }
-    ensures local_keeps { IsLater L.BlockStore local.old local.new }
-    ensures source_keeps { IsOnlyRead S.BlockStore source.old source.new }
+    ensures faults { IfErr result (IsDataFault L.BlockStore S.BlockStore local.old local.new source.old source.new) }
+    ensures stays { StoresStay L.BlockStore S.BlockStore result local.old local.new source.old source.new }
     ensures same { tree.new ≡ tree.old }
 {
     let named = name_of(tree, 0, n, rows);
@@ -125,18 +123,11 @@ fn settle_run<L: BlockStore, S: BlockStore, A: Allocator>(
     ensures wrong { IfErr result (λ fault. OfWrong fault (λ place. (mark : ℕ) → mark ≤ length (S.given source.old)
         → IsWrongBelow S.BlockStore tree.old mark source.new rows.old place)) }
     ensures front { KeepsFront n (L.content local.old) (L.content local.new) }
-    ensures writes { IfOk result (λ done. L.changes local.new ≡ L.changes local.old + done.fetched) }
-    ensures reads { IfOk result (λ done. S.reads source.new ≡ S.reads source.old + done.fetched) }
+    ensures counts { IfOk result (λ done. CountsSettled L.BlockStore S.BlockStore n done.next done.fetched done.read
+        local.old local.new source.old source.new) }
     ensures all { S.reads source.new + n ≤ S.reads source.old + tree.old.data_blocks }
-    ensures most { IfOk result (λ done. done.fetched + n ≤ done.next) }
-    ensures local_reads { IfOk result (λ done. L.reads local.new ≡ L.reads local.old + done.read) }
-    ensures looked { IfOk result (λ done. done.read + n ≤ done.next) }
-    ensures not_memory { result ≢ Err PullFault.NoMemory }
-    ensures not_unsuited { (role : Role) → result ≢ Err (PullFault.Unsuited role) }
-    ensures not_hash { result ≢ Err (PullFault.Store Role.LocalHash) }
-    ensures source_unfailed { OnOk result (S.failures source.new ≡ S.failures source.old) }
-    ensures local_keeps { IsLater L.BlockStore local.old local.new }
-    ensures source_keeps { IsOnlyRead S.BlockStore source.old source.new }
+    ensures faults { IfErr result (IsDataFault L.BlockStore S.BlockStore local.old local.new source.old source.new) }
+    ensures stays { StoresStay L.BlockStore S.BlockStore result local.old local.new source.old source.new }
     ensures same { tree.new ≡ tree.old }
 {
     let mut fetched = 0;
@@ -191,18 +182,11 @@ pub(crate) fn settle<L: BlockStore, S: BlockStore, A: Allocator>(
     ensures wrong { IfErr result (λ fault. OfWrong fault (λ place. (mark : ℕ) → mark ≤ length (S.given source.old)
         → IsWrongBelow S.BlockStore tree.old mark source.new rows.old place)) }
     ensures front { KeepsFront n (L.content local.old) (L.content local.new) }
-    ensures writes { IfOk result (λ done. L.changes local.new ≡ L.changes local.old + done.fetched) }
-    ensures reads { IfOk result (λ done. S.reads source.new ≡ S.reads source.old + done.fetched) }
+    ensures counts { IfOk result (λ done. CountsSettled L.BlockStore S.BlockStore n done.next done.fetched done.read
+        local.old local.new source.old source.new) }
     ensures all { S.reads source.new + n ≤ S.reads source.old + tree.old.data_blocks }
-    ensures most { IfOk result (λ done. done.fetched + n ≤ done.next) }
-    ensures local_reads { IfOk result (λ done. L.reads local.new ≡ L.reads local.old + done.read) }
-    ensures looked { IfOk result (λ done. done.read + n ≤ done.next) }
-    ensures not_memory { result ≢ Err PullFault.NoMemory }
-    ensures not_unsuited { (role : Role) → result ≢ Err (PullFault.Unsuited role) }
-    ensures not_hash { result ≢ Err (PullFault.Store Role.LocalHash) }
-    ensures source_unfailed { OnOk result (S.failures source.new ≡ S.failures source.old) }
-    ensures local_keeps { IsLater L.BlockStore local.old local.new }
-    ensures source_keeps { IsOnlyRead S.BlockStore source.old source.new }
+    ensures faults { IfErr result (IsDataFault L.BlockStore S.BlockStore local.old local.new source.old source.new) }
+    ensures stays { StoresStay L.BlockStore S.BlockStore result local.old local.new source.old source.new }
     ensures same { tree.new ≡ tree.old }
 {
     let size = tree.table().data_block_size();

@@ -41,8 +41,38 @@ returns-clause-added g c =
 pub returns-clause-local_unfailed : goal.returns-clause-local_unfailed
 returns-clause-local_unfailed g c = ok_here c.write.result _ c.write.ensures.unfailed c.if-is_err-2.ensures.value
 
-pub returns-clause-source_unfailed : goal.returns-clause-source_unfailed
-returns-clause-source_unfailed g c = ok_here c.read.result _ c.read.ensures.unfailed c.if-is_err.ensures.value
+pub returns-clause-stays : goal.returns-clause-stays
+returns-clause-stays g c =
+    let e = c.read.ensures in
+    let w = c.write.ensures in
+    record {
+      local_keeps = record {
+        tells = w.tells;
+        size = w.size;
+        fixed = w.fixed;
+        gave = w.gave;
+        failures = w.failures;
+        reads = omega (arith, w.reads);
+        changes = omega (arith, w.counted);
+        room = omega (arith, w.room);
+      };
+      source_keeps = record {
+        content = e.content;
+        changes = e.changes;
+        room = e.room;
+        later = record {
+          tells = e.tells;
+          size = e.size;
+          fixed = e.fixed;
+          gave = e.gave;
+          failures = e.failures;
+          reads = omega (arith, e.counted);
+          changes = omega (arith, e.changes);
+          room = omega (arith, e.room);
+        };
+      };
+      source_unfailed = ok_here c.read.result _ c.read.ensures.unfailed c.if-is_err.ensures.value;
+    }
 
 pub returns-clause-found : goal.returns-clause-found
 returns-clause-found g c = λ mark marked d.

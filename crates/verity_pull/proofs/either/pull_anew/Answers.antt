@@ -24,19 +24,19 @@ returns-in-Ok-clause-done g c =
     (resized (K.size c.args.local_hash.now) (t.hash_start_block + tree_len t) (K.content c.args.local_hash.now)) in
     record {
       holds = e.pulled;
-      counted = e.counted;
-      fetched = e.fetched;
-      written = e.written;
-      data_tells = e.told.0;
-      hash_tells = e.told.1;
-      data_synced = e.data_synced;
-      hash_synced = e.hash_synced;
-      data_read = c.pull.ensures.source_keeps;
-      hash_read = c.pull.ensures.source_hash_keeps;
+      counted = e.counts.counted;
+      fetched = e.counts.source_reads;
+      written = e.counts.data_writes;
+      data_tells = e.left.data_tells;
+      hash_tells = e.left.hash_tells;
+      data_synced = e.left.data_synced;
+      hash_synced = e.left.hash_synced;
+      data_read = c.pull.ensures.sources.source_keeps;
+      hash_read = c.pull.ensures.sources.source_hash_keeps;
       volume = λ none told hash_told image fits.
           volume t image c.table-line.ensures.allowed fits (pull_given L S H t marks l s h)
-          (sized_given L S H t marks l s h e.sized.0 e.sized.1 e.sized.2) L K front l k
+          (sized_given L S H t marks l s h e.left.data_size e.left.source_size e.left.source_hash_size) L K front l k
           (front_room t.hash_start_block (K.size c.args.local_hash.now) (tree_len t) c.args.superblock.now
           (K.content c.args.local_hash.now))
-          e.pulled (e.told.0 ∙ told) (e.told.1 ∙ hash_told);
+          e.pulled (e.left.data_tells ∙ told) (e.left.hash_tells ∙ hash_told);
     }

@@ -27,7 +27,7 @@ returns-clause-taken g c = λ rows local_mark source_mark marked named j lt.
       y = _;
       came = inl (inr (e.came source_mark marked j under));
       name = record { top = λ x. same ∙ (named j low).top x; under = λ x. same ∙ (named j low).under x };
-      held = λ told. e.written (sym e.local_keeps.later.tells ∙ told) j under;
+      held = λ told. e.written (sym e.stays.local_keeps.tells ∙ told) j under;
     }
 
 pub returns-in_err-fetch_run-clause-wrong : goal.returns-in_err-fetch_run-clause-wrong

@@ -94,14 +94,14 @@ returns-clause-taken g c = λ local_mark source_mark local_marked marked k upto.
     → IsTaken L S x local_mark source_mark l'' s'' rows (n + read)) tree c.in_ok-take.ensures.taken in
     let e = c.in_ok-take.ensures in
     elim (cases_lt k c.read_ahead-read.result) [
-      | inl lt ↦ taken_stays L S t local_mark source_mark l' l'' s' s'' rows (n + k) e.local_keeps.later e.source_keeps.later
+      | inl lt ↦ taken_stays L S t local_mark source_mark l' l'' s' s'' rows (n + k) e.stays.local_keeps e.stays.source_keeps.later
           (e.others.1 (n + k) (λ z. omega (arith, z, lt)))
           (each (slice_chunk out (L.size l0)) local_mark source_mark marked (looked local_mark local_marked) k (omega (arith, lt, made)))
       | inr ge ↦
           let is : c.read_ahead-read.result ≡ k = omega (arith, ge, upto) in
           subst (λ m. IsTaken L S t local_mark source_mark l'' s'' rows (n + m)) is
           (here local_mark source_mark
-          (omega (arith, marked, goes_on_len _ _ c.in_ok-mend_each.ensures.source_keeps.later.gave)))
+          (omega (arith, marked, goes_on_len _ _ c.in_ok-mend_each.ensures.stays.source_keeps.later.gave)))
     ]
 
 pub returns-in_err-mend_each-clause-mixed : goal.returns-in_err-mend_each-clause-mixed
@@ -190,7 +190,8 @@ returns-in_err-take-clause-mixed g c =
     let e = c.in_err-take.ensures in
     let back = err_back c.from_residual-in_err-take.result c.in_err-take.field-0.0 c.from_residual-in_err-take.ensures.1 in
     err_here c.from_residual-in_err-take.result c.in_err-take.field-0.0 _ back (λ isnt local_mark source_mark local_marked marked k.
-    mixed_at L S t local_mark source_mark l0 l' l'' s' s'' rows n read e.local_keeps.later e.source_keeps.later (e.untouched isnt) within
+    mixed_at L S t local_mark source_mark l0 l' l'' s' s'' rows n read e.stays.local_keeps e.stays.source_keeps.later
+    (e.untouched isnt) within
     (subst (λ m. AreTaken L S t local_mark source_mark l' s' rows n m) made
     (each (slice_chunk out (L.size l0)) local_mark source_mark marked (looked local_mark local_marked))) k)
 
@@ -241,7 +242,7 @@ returns-in_err-take-clause-wrong g c =
     (wrong_weaker c.in_err-take.field-0.0 _ _ (λ here w mark marked.
     wrong_wider S t mark s'' rows (n + read) 1 n count here (omega arith) (omega (arith, ahead.most, c.if-read-count.false))
     (subst (λ (x : Table). IsWrongIn S x mark s'' rows (n + read) 1 here) tree
-    (w mark (omega (arith, marked, goes_on_len _ _ c.in_ok-mend_each.ensures.source_keeps.later.gave)))))
+    (w mark (omega (arith, marked, goes_on_len _ _ c.in_ok-mend_each.ensures.stays.source_keeps.later.gave)))))
     c.in_err-take.ensures.wrong)
 
 pub returns-then-read-count-clause-others : goal.returns-then-read-count-clause-others
@@ -432,4 +433,4 @@ take-requires-clause-sized g c =
     let fits : c.data_block_size-size.result ≤ length c.read_ahead-read.new.out =
     omega (arith, c.read_ahead-read.auto.out, c.requires.run, mul-le-mul_right z one, size) in
     c.mend_each.auto.block ∙ length-take-le s c.read_ahead-read.new.out fits ∙ size ∙ sym c.requires.local_size
-    ∙ sym c.read_ahead-read.ensures.read.later.size ∙ sym c.in_ok-mend_each.ensures.local_keeps.later.size
+    ∙ sym c.read_ahead-read.ensures.read.later.size ∙ sym c.in_ok-mend_each.ensures.stays.local_keeps.size

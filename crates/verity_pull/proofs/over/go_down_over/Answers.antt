@@ -72,27 +72,27 @@ loop-level-preserved-in-Held g c =
     inv.old_root e.mixed) in
     let count : fetched_by c.in_ok-step_over.field-0 ≡ 0 = ap fetched_by c.in-Held.is in
     record {
-      rows = subst (λ (x : Table). AreRows x rows') inv.same e.rows;
-      old_rows = subst (λ (x : Table). AreRows x olds') inv.same e.old_rows;
-      old_root = e.root ∙ inv.old_root;
+      rows = subst (λ (x : Table). AreRows x rows') inv.same e.trees.rows;
+      old_rows = subst (λ (x : Table). AreRows x olds') inv.same e.trees.old_rows;
+      old_root = e.trees.root ∙ inv.old_root;
       down = subst (λ (x : Table). IsOnPath x n (c.loop-level.level - 1) rows') inv.same
           (held_down c.in_ok-step_over.field-0 _ c.in-Held.is e.down);
       few = omega (arith, inv.few, c.loop-level-test.true);
       found = λ mark was_mark marked was_marked f. found mark was_mark (omega (arith, marked, goes_on_len _ _ inv.source_keeps.later.gave))
           (omega (arith, was_marked, goes_on_len _ _ inv.local_keeps.gave)) (inv.found mark was_mark marked was_marked f);
       mixed = λ mark was_mark marked was_marked f. mixed_then K t (hash_given H t mark h) (hash_given H t mark h')
-          (hash_given-grows H t mark h h' e.source_keeps) c.args.local.now l l' e.local_keeps.tells
+          (hash_given-grows H t mark h h' e.stays.source_keeps) c.args.local.now l l' e.stays.local_keeps.tells
           (inv.mixed mark was_mark marked was_marked f)
           (mixed mark was_mark (omega (arith, marked, goes_on_len _ _ inv.source_keeps.later.gave))
           (omega (arith, was_marked, goes_on_len _ _ inv.local_keeps.gave)) (inv.found mark was_mark marked was_marked f));
       front = front_then t.hash_start_block (K.content c.args.local.now) (K.content l) (K.content l') inv.front
           (subst (λ (x : Table). KeepsFront x.hash_start_block (K.content l) (K.content l')) inv.same e.front);
-      counted = omega (arith, inv.counted, e.counted.0, count);
-      writes = omega (arith, inv.writes, e.counted.1, count);
-      looked = omega (arith, inv.looked, e.looked, count);
-      source_unfailed = e.source_unfailed ∙ inv.source_unfailed;
-      local_keeps = later_then K _ _ _ inv.local_keeps e.local_keeps;
-      source_keeps = only_read_then H _ _ _ inv.source_keeps e.source_keeps;
+      counted = omega (arith, inv.counted, e.counts.counted, count);
+      writes = omega (arith, inv.writes, e.counts.writes, count);
+      looked = omega (arith, inv.looked, e.counts.looked, count);
+      source_unfailed = e.stays.source_unfailed ∙ inv.source_unfailed;
+      local_keeps = later_then K _ _ _ inv.local_keeps e.stays.local_keeps;
+      source_keeps = only_read_then H _ _ _ inv.source_keeps e.stays.source_keeps;
       block = c.step_over.auto.hash_block ∙ inv.block;
       same = e.same ∙ inv.same;
     }
@@ -130,29 +130,52 @@ loop-level-preserved g c =
     inv.old_root e.mixed) in
     let count : fetched_by c.in_ok-step_over.field-0 ≡ 1 = ap fetched_by c.in-Fetched.is in
     record {
-      rows = subst (λ (x : Table). AreRows x rows') inv.same e.rows;
-      old_rows = subst (λ (x : Table). AreRows x olds') inv.same e.old_rows;
-      old_root = e.root ∙ inv.old_root;
+      rows = subst (λ (x : Table). AreRows x rows') inv.same e.trees.rows;
+      old_rows = subst (λ (x : Table). AreRows x olds') inv.same e.trees.old_rows;
+      old_root = e.trees.root ∙ inv.old_root;
       down = subst (λ (x : Table). IsOnPath x n (c.loop-level.level - 1) rows') inv.same
           (fetched_down c.in_ok-step_over.field-0 _ c.in-Fetched.is e.down);
       few = omega (arith, inv.few, c.loop-level-test.true);
       found = λ mark was_mark marked was_marked f. found mark was_mark (omega (arith, marked, goes_on_len _ _ inv.source_keeps.later.gave))
           (omega (arith, was_marked, goes_on_len _ _ inv.local_keeps.gave)) (inv.found mark was_mark marked was_marked f);
       mixed = λ mark was_mark marked was_marked f. mixed_then K t (hash_given H t mark h) (hash_given H t mark h')
-          (hash_given-grows H t mark h h' e.source_keeps) c.args.local.now l l' e.local_keeps.tells
+          (hash_given-grows H t mark h h' e.stays.source_keeps) c.args.local.now l l' e.stays.local_keeps.tells
           (inv.mixed mark was_mark marked was_marked f)
           (mixed mark was_mark (omega (arith, marked, goes_on_len _ _ inv.source_keeps.later.gave))
           (omega (arith, was_marked, goes_on_len _ _ inv.local_keeps.gave)) (inv.found mark was_mark marked was_marked f));
       front = front_then t.hash_start_block (K.content c.args.local.now) (K.content l) (K.content l') inv.front
           (subst (λ (x : Table). KeepsFront x.hash_start_block (K.content l) (K.content l')) inv.same e.front);
-      counted = omega (arith, inv.counted, e.counted.0, count);
-      writes = omega (arith, inv.writes, e.counted.1, count);
-      looked = omega (arith, inv.looked, e.looked, count);
-      source_unfailed = e.source_unfailed ∙ inv.source_unfailed;
-      local_keeps = later_then K _ _ _ inv.local_keeps e.local_keeps;
-      source_keeps = only_read_then H _ _ _ inv.source_keeps e.source_keeps;
+      counted = omega (arith, inv.counted, e.counts.counted, count);
+      writes = omega (arith, inv.writes, e.counts.writes, count);
+      looked = omega (arith, inv.looked, e.counts.looked, count);
+      source_unfailed = e.stays.source_unfailed ∙ inv.source_unfailed;
+      local_keeps = later_then K _ _ _ inv.local_keeps e.stays.local_keeps;
+      source_keeps = only_read_then H _ _ _ inv.source_keeps e.stays.source_keeps;
       block = c.step_over.auto.hash_block ∙ inv.block;
       same = e.same ∙ inv.same;
+    }
+
+pub returns-in-Kept-clause-trees : goal.returns-in-Kept-clause-trees
+returns-in-Kept-clause-trees g c =
+    let inv = c.loop-level.invariant in
+    let e = c.in_ok-step_over.ensures in
+    let rows' = c.step_over.new.rows in
+    let olds' = c.step_over.new.old.rows in
+    record {
+      rows = subst (λ (x : Table). AreRows x rows') inv.same e.trees.rows;
+      old_rows = subst (λ (x : Table). AreRows x olds') inv.same e.trees.old_rows;
+      root = e.trees.root ∙ inv.old_root;
+    }
+
+pub returns-in-Kept-clause-counts : goal.returns-in-Kept-clause-counts
+returns-in-Kept-clause-counts g c =
+    let inv = c.loop-level.invariant in
+    let e = c.in_ok-step_over.ensures in
+    let count : fetched_by c.in_ok-step_over.field-0 ≡ 0 = ap fetched_by c.in-Kept.is in
+    record {
+      counted = omega (arith, inv.counted, e.counts.counted, count);
+      writes = omega (arith, inv.writes, e.counts.writes, count);
+      looked = omega (arith, inv.looked, e.counts.looked, count);
     }
 
 pub returns-in-Kept-clause-found : goal.returns-in-Kept-clause-found
@@ -208,7 +231,7 @@ returns-in-Kept-clause-mixed g c = λ mark was_mark marked was_marked f.
     → IsHashMixed K c.loop-level.tree (hash_given H c.loop-level.tree mark h') l l')
     inv.old_root e.mixed) in
     mixed_then K t (hash_given H t mark h) (hash_given H t mark h')
-    (hash_given-grows H t mark h h' e.source_keeps) c.args.local.now l l' e.local_keeps.tells
+    (hash_given-grows H t mark h h' e.stays.source_keeps) c.args.local.now l l' e.stays.local_keeps.tells
     (inv.mixed mark was_mark marked was_marked f)
     (mixed mark was_mark (omega (arith, marked, goes_on_len _ _ inv.source_keeps.later.gave))
     (omega (arith, was_marked, goes_on_len _ _ inv.local_keeps.gave)) (inv.found mark was_mark marked was_marked f))
@@ -267,7 +290,7 @@ returns-in-Kept-clause-kept g c = λ mark was_mark marked was_marked f further.
           (arith, was_marked, goes_on_len _ _ inv.local_keeps.gave))
           (inv.found mark was_mark marked was_marked f));
       on = subst (λ (x : Table). IsOnPath x n (suc (c.loop-level.level - 1)) rows') inv.same
-          (kept_next c.in_ok-step_over.field-0 c.in-Kept.next _ c.in-Kept.is e.stays);
+          (kept_next c.in_ok-step_over.field-0 c.in-Kept.next _ c.in-Kept.is e.above);
     }
 
 pub returns-in_err-step_over-clause-partly : goal.returns-in_err-step_over-clause-partly
@@ -289,8 +312,9 @@ returns-in_err-step_over-clause-partly g c =
     let h' = c.step_over.new.source in
     let back = err_back c.from_residual.result c.in_err-step_over.field-0.0 c.from_residual.ensures.1 in
     err_here c.from_residual.result c.in_err-step_over.field-0.0 _ back (λ isnt mark was_mark marked was_marked f.
-    mixed_then K t (hash_given H t mark h) (hash_given H t mark h') (hash_given-grows H t mark h h' e.source_keeps) c.args.local.now l l'
-    e.local_keeps.tells (inv.mixed mark was_mark marked was_marked f) (mixed_same K t (hash_given H t mark h') l l' (e.untouched isnt)))
+    mixed_then K t (hash_given H t mark h) (hash_given H t mark h') (hash_given-grows H t mark h h' e.stays.source_keeps)
+    c.args.local.now l l' e.stays.local_keeps.tells (inv.mixed mark was_mark marked was_marked f)
+    (mixed_same K t (hash_given H t mark h') l l' (e.untouched isnt)))
 
 pub returns-in_err-step_over-clause-wrong : goal.returns-in_err-step_over-clause-wrong
 returns-in_err-step_over-clause-wrong g c =

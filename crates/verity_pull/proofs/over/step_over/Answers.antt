@@ -107,7 +107,7 @@ returns-clause-found g c = λ mark was_mark marked was_marked f.
     let was1 = was_given K t was_mark k1 in
     let was2 = was_given K t was_mark k2 in
     let turn : c.args.level + 1 ≡ suc c.args.level = omega arith in
-    let grows = hash_given-grows H t mark h h2 e.source_keeps in
+    let grows = hash_given-grows H t mark h h2 e.stays.source_keeps in
     let f1 : IsFollowed K t root given was1 k1 rows olds =
     followed_read K t root given was was1 k k1 rows c.args.old.now.rows olds a.keeps.content a.keeps.later.tells
     (a.found was_mark was_marked f.old) f in
@@ -123,9 +123,9 @@ returns-clause-found g c = λ mark was_mark marked was_marked f.
     let written = subst (λ (x : Table). K.tells k1 ≡ true → K.content k2 ≡ set (K.content k1) (hash_place x v i) y) a.same e.written in
     let others = subst (λ (x : Table). ChangesAt (hash_place x v i) (K.content k1) (K.content k2)) a.same e.others in
     followed_more K t root given more was1 was2 v i y rows rows' olds e.held c.requires.level c.above-index.ensures.within k1 k2
-    e.local_keeps.later.tells written others
+    e.stays.local_keeps.tells written others
     (omega (arith, place_low t v i c.requires.level c.above-index.ensures.within, c.requires.there, ap length a.keeps.content)) here
-    grows (was_grows K t was_mark k1 k2 e.local_keeps.later) f1
+    grows (was_grows K t was_mark k1 k2 e.stays.local_keeps) f1
 
 pub returns-clause-mixed : goal.returns-clause-mixed
 returns-clause-mixed g c = λ mark was_mark marked was_marked f.
@@ -153,7 +153,7 @@ returns-clause-mixed g c = λ mark was_mark marked was_marked f.
     let was1 = was_given K t was_mark k1 in
     let was2 = was_given K t was_mark k2 in
     let turn : c.args.level + 1 ≡ suc c.args.level = omega arith in
-    let grows = hash_given-grows H t mark h h2 e.source_keeps in
+    let grows = hash_given-grows H t mark h h2 e.stays.source_keeps in
     let name : IsName t (suc v) i rows d = subst (λ m. IsName t m i rows d) turn c.name_of-named.ensures in
     let parent : suc c.args.level < height c.args.tree.now → seen_in c.args.rows.now (suc (suc c.args.level)) ≡ suc (i / branching t) =
     λ low. c.requires.down (suc v) (omega arith) low
@@ -165,9 +165,9 @@ returns-clause-mixed g c = λ mark was_mark marked was_marked f.
     let here : EndsChain t more (suc v) i y = chain_here t more (suc v) i d y names (gave mark marked) digest in
     let written = subst (λ (x : Table). K.tells k1 ≡ true → K.content k2 ≡ set (K.content k1) (hash_place x v i) y) a.same e.written in
     let others = subst (λ (x : Table). ChangesAt (hash_place x v i) (K.content k1) (K.content k2)) a.same e.others in
-    mixed_then K t more more (λ r q z gave. gave) k k1 k2 e.local_keeps.later.tells (mixed_same K t more k k1 a.keeps.content)
+    mixed_then K t more more (λ r q z gave. gave) k k1 k2 e.stays.local_keeps.tells (mixed_same K t more k k1 a.keeps.content)
     (mixed_one K t root given more was1 was2 v i y rows rows' olds e.held c.requires.level c.above-index.ensures.within k1 k2
-    e.local_keeps.later.tells written others
+    e.stays.local_keeps.tells written others
     (omega (arith, place_low t v i c.requires.level c.above-index.ensures.within, c.requires.there, ap length a.keeps.content)) here)
 
 pub returns-clause-front : goal.returns-clause-front
@@ -219,7 +219,7 @@ returns-in_err-take_hash-clause-wrong g c =
     (wrong_weaker c.in_err-take_hash.field-0.0 _ _ (λ here w mark was_mark marked was_marked f.
     let given = hash_given H t mark h in
     let more = hash_given H t mark h2 in
-    let grows = hash_given-grows H t mark h h2 e.source_keeps in
+    let grows = hash_given-grows H t mark h h2 e.stays.source_keeps in
     let name : IsName t (suc v) i rows d = subst (λ m. IsName t m i rows d) turn c.name_of-named.ensures in
     let parent : suc c.args.level < height c.args.tree.now → seen_in c.args.rows.now (suc (suc c.args.level)) ≡ suc (i / branching t) =
     λ low. c.requires.down (suc v) (omega arith) low

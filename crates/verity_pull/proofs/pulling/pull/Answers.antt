@@ -1,4 +1,4 @@
-use Rattle.std.proofs.Common.{Err, inl, inr, ⊎_elim, suc, ℕ, ◌+◌, ◌≤◌, ◌≡◌, []}
+use Rattle.std.proofs.Common.{inl, inr, ⊎_elim, suc, ℕ, ◌+◌, ◌≤◌, ◌≡◌, []}
 use Rattle.std.proofs.Common.{length, take, replicate, get_or, refl, sym, ap, subst, ◌∙◌, arith}
 use Rattle.verity_store.specs.Blocks.{resized}
 use Rattle.verity_store.proofs.StoreLemmas.{later_same, only_read_same}
@@ -66,7 +66,7 @@ returns-clause-pulled g c =
       hash_front = λ told q lt.
           ap (λ blocks. get_or blocks q []) z.content ∙ e.front.1 q lt
           ∙ ap (λ blocks. get_or blocks q [])
-          (lay.front (sym lay.hash_keeps.later.tells ∙ (sym e.hash_keeps.later.tells ∙ (sym z.later.tells ∙ told))))
+          (lay.front (sym lay.hash_keeps.later.tells ∙ (sym e.hash_stays.local_keeps.tells ∙ (sym z.later.tells ∙ told))))
           ∙ ap (λ size. get_or (laid t.hash_start_block superblock (resized size end (K.content k1))) q []) made.hash_kept.later.size
           ∙ ap (λ content. get_or (laid t.hash_start_block superblock (resized (K.size k0) end content)) q []) made.hash_kept.content;
     }
@@ -136,26 +136,26 @@ returns-in_err-keep-2-clause-mixed g c =
     inr (vouched_stays L t before after grows 0 n n l2 l3 y.later.tells (ap (λ blocks. get_or blocks n []) y.content) (e.data_blocks
     n below)))
 
-pub returns-clause-sized : goal.returns-clause-sized
-returns-clause-sized g c =
+pub returns-clause-left : goal.returns-clause-left
+returns-clause-left g c =
     let suit = c.in-None.ensures in
     let made = c.in_ok-make_room.ensures in
     let lay = c.in_ok-lay_out.ensures in
-    let e = c.in_ok-fetched.ensures in (
-      c.in_ok-keep.ensures.keeps.later.size ∙ e.local_keeps.size ∙ lay.data_keeps.later.size ∙ made.data_kept.later.size ∙ (suit
-          role.LocalData).0,
-      e.source_keeps.later.size ∙ (suit role.SourceData).0,
-      e.source_hash_keeps.later.size ∙ (suit role.SourceHash).0,
-    )
-
-pub returns-clause-told : goal.returns-clause-told
-returns-clause-told g c =
-    let made = c.in_ok-make_room.ensures in
-    let lay = c.in_ok-lay_out.ensures in
-    let e = c.in_ok-fetched.ensures in (
-      c.in_ok-keep.ensures.keeps.later.tells ∙ e.local_keeps.tells ∙ lay.data_keeps.later.tells ∙ made.data_kept.later.tells,
-      c.in_ok-keep-2.ensures.keeps.later.tells ∙ e.hash_keeps.later.tells ∙ lay.hash_keeps.later.tells ∙ made.hash_kept.later.tells,
-    )
+    let e = c.in_ok-fetched.ensures in
+    let y = c.in_ok-keep.ensures in
+    let z = c.in_ok-keep-2.ensures in
+    record {
+      data_size = y.keeps.later.size ∙ e.stays.local_keeps.size ∙ lay.data_keeps.later.size ∙ made.data_kept.later.size
+          ∙ (suit role.LocalData).0;
+      hash_size = z.keeps.later.size ∙ e.hash_stays.local_keeps.size ∙ lay.hash_keeps.later.size ∙ made.hash_kept.later.size
+          ∙ (suit role.LocalHash).0;
+      source_size = e.stays.source_keeps.later.size ∙ (suit role.SourceData).0;
+      source_hash_size = e.hash_stays.source_keeps.later.size ∙ (suit role.SourceHash).0;
+      data_tells = y.keeps.later.tells ∙ e.stays.local_keeps.tells ∙ lay.data_keeps.later.tells ∙ made.data_kept.later.tells;
+      hash_tells = z.keeps.later.tells ∙ e.hash_stays.local_keeps.tells ∙ lay.hash_keeps.later.tells ∙ made.hash_kept.later.tells;
+      data_synced = y.synced;
+      hash_synced = z.synced;
+    }
 
 pub returns-in_err-lay_out-clause-hash_mixed : goal.returns-in_err-lay_out-clause-hash_mixed
 returns-in_err-lay_out-clause-hash_mixed g c =
@@ -208,7 +208,7 @@ pub returns-in_err-lay_out-clause-wrong : goal.returns-in_err-lay_out-clause-wro
 returns-in_err-lay_out-clause-wrong g c =
     let back = err_back c.from_residual-in_err-lay_out.result c.in_err-lay_out.field-0.0 c.from_residual-in_err-lay_out.ensures.1 in
     err_here c.from_residual-in_err-lay_out.result c.in_err-lay_out.field-0.0 _ back
-    (wrong_never c.in_err-lay_out.field-0.0 _ (λ here is. c.in_err-lay_out.ensures.not_wrong here (ap (λ why. Err why) is)))
+    (wrong_never c.in_err-lay_out.field-0.0 _ (λ here is. c.in_err-lay_out.ensures.faults.not_wrong here is))
 
 pub returns-in_err-make_room-clause-wrong : goal.returns-in_err-make_room-clause-wrong
 returns-in_err-make_room-clause-wrong g c =

@@ -98,8 +98,8 @@ loop-n-preserved-then-way-n g c =
     let later = was_given K t was_mark k' in
     let marked : length (H.given c.args.source_hash.now) ≤ length (H.given h) = goes_on_len _ _ inv.source_hash_keeps.later.gave in
     let was_marked : length (K.given c.args.local_hash.now) ≤ length (K.given k) = goes_on_len _ _ inv.hash_keeps.gave in
-    let grows = hash_given-grows H t mark h h' e.source_keeps in
-    let grown = was_grows K t was_mark k k' e.local_keeps in
+    let grows = hash_given-grows H t mark h h' e.stays.source_keeps in
+    let grown = was_grows K t was_mark k k' e.stays.local_keeps in
     let found = subst (λ (x : Table). (mark was_mark : ℕ) → mark ≤ length (H.given h) → was_mark ≤ length (K.given k)
     → IsFollowed K x root (hash_given H x mark h) (was_given K x was_mark k) k rows olds
     → IsFollowed K x root (hash_given H x mark h') (was_given K x was_mark k') k' rows' olds') inv.same
@@ -130,12 +130,12 @@ loop-n-preserved-then-way-n g c =
     let below : IsKeptBelow t root more later n next rows' = kept mark was_mark marked was_marked inv.followed further in
     let low : c.loop-n.n < c.args.tree.now.data_blocks =
     omega (arith, c.loop-n-test.true, c.data_blocks-count.ensures.value, ap (λ (x : Table). x.data_blocks) c.table.ensures.value) in
-    let all = pull_grows L S H t marks l l s s h h' (later_same L l) (later_same S s) e.source_keeps in
+    let all = pull_grows L S H t marks l l s s h h' (later_same L l) (later_same S s) e.stays.source_keeps in
     let into = hash_into L S H t marks l s h' in
     record {
-      rows = subst (λ (x : Table). AreRows x rows') inv.same e.rows;
-      old_rows = subst (λ (x : Table). AreRows x olds') inv.same e.old_rows;
-      old_root = e.root ∙ inv.old_root;
+      rows = subst (λ (x : Table). AreRows x rows') inv.same e.trees.rows;
+      old_rows = subst (λ (x : Table). AreRows x olds') inv.same e.trees.old_rows;
+      old_root = e.trees.root ∙ inv.old_root;
       within = subst (λ (x : Table). next ≤ x.data_blocks) inv.same e.within;
       followed = followed;
       settled = λ j lt. elim (cases_lt j c.loop-n.n) [
@@ -148,8 +148,8 @@ loop-n-preserved-then-way-n g c =
         )
       ];
       hash = λ j v lt vlow. elim (cases_lt j c.loop-n.n) [
-        | inl under ↦ done_stays K t root given more was later grows grown k k' e.local_keeps.tells moved v (path_index t j (suc v)) vlow
-            (path_below t c.requires.allowed j (suc v) (omega (arith, under, low))) (inv.hash j v under vlow)
+        | inl under ↦ done_stays K t root given more was later grows grown k k' e.stays.local_keeps.tells moved v
+            (path_index t j (suc v)) vlow (path_below t c.requires.allowed j (suc v) (omega (arith, under, low))) (inv.hash j v under vlow)
         | inr from ↦ kept_done K t c.requires.allowed root more later k' rows' olds' followed n next j v low below from lt vlow
       ];
       behind = λ q from. inv.behind q (omega (arith, from, further));
@@ -160,20 +160,20 @@ loop-n-preserved-then-way-n g c =
       looked = omega (arith, inv.looked, further);
       few = omega (arith, inv.few, e.few, further);
       data_writes = inv.data_writes;
-      hash_writes = omega (arith, inv.hash_writes, e.writes);
+      hash_writes = omega (arith, inv.hash_writes, e.counts.writes);
       source_reads = inv.source_reads;
-      hash_reads = omega (arith, inv.hash_reads, e.counted);
+      hash_reads = omega (arith, inv.hash_reads, e.counts.counted);
       local_reads = inv.local_reads;
-      hash_looked = omega (arith, inv.hash_looked, e.looked);
+      hash_looked = omega (arith, inv.hash_looked, e.counts.looked);
       source_unfailed = inv.source_unfailed;
-      source_hash_unfailed = e.source_unfailed ∙ inv.source_hash_unfailed;
+      source_hash_unfailed = e.stays.source_unfailed ∙ inv.source_hash_unfailed;
       local_keeps = inv.local_keeps;
-      hash_keeps = later_then K _ _ _ inv.hash_keeps e.local_keeps;
+      hash_keeps = later_then K _ _ _ inv.hash_keeps e.stays.local_keeps;
       source_keeps = inv.source_keeps;
-      source_hash_keeps = only_read_then H _ _ _ inv.source_hash_keeps e.source_keeps;
+      source_hash_keeps = only_read_then H _ _ _ inv.source_hash_keeps e.stays.source_keeps;
       data_room = omega (arith, inv.data_room, c.go_down_over.auto.hash_block);
       hash_room = omega (arith, inv.hash_room, c.go_down_over.auto.hash_block);
-      hash_mixed = mixed_then K t given more grows k0 k k' e.local_keeps.tells inv.hash_mixed moved;
+      hash_mixed = mixed_then K t given more grows k0 k k' e.stays.local_keeps.tells inv.hash_mixed moved;
       same = e.same ∙ inv.same;
     }
 
@@ -209,8 +209,8 @@ loop-n-preserved g c =
     let later = was_given K t was_mark k' in
     let marked : length (H.given c.args.source_hash.now) ≤ length (H.given h) = goes_on_len _ _ inv.source_hash_keeps.later.gave in
     let was_marked : length (K.given c.args.local_hash.now) ≤ length (K.given k) = goes_on_len _ _ inv.hash_keeps.gave in
-    let grows = hash_given-grows H t mark h h' e.source_keeps in
-    let grown = was_grows K t was_mark k k' e.local_keeps in
+    let grows = hash_given-grows H t mark h h' e.stays.source_keeps in
+    let grown = was_grows K t was_mark k k' e.stays.local_keeps in
     let found = subst (λ (x : Table). (mark was_mark : ℕ) → mark ≤ length (H.given h) → was_mark ≤ length (K.given k)
     → IsFollowed K x root (hash_given H x mark h) (was_given K x was_mark k) k rows olds
     → IsFollowed K x root (hash_given H x mark h') (was_given K x was_mark k') k' rows' olds') inv.same
@@ -241,19 +241,19 @@ loop-n-preserved g c =
     let taken = subst (λ (x : Table). (local_mark source_mark : ℕ) → local_mark ≤ length (L.given l) → source_mark ≤ length (S.given s)
     → (j : ℕ) → n ≤ j → j < next → IsTaken L S x local_mark source_mark l' s' rows' j
     ⊎ IsKeptData x c.go_down_over.new.old.root rows' olds' (L.content l) (L.content l') j) tree f.taken in
-    let old_root : c.go_down_over.new.old.root ≡ c.args.old.now.root = e.root ∙ inv.old_root in
-    let all = pull_grows L S H t marks l l' s s' h h' f.local_keeps f.source_keeps.later e.source_keeps in
+    let old_root : c.go_down_over.new.old.root ≡ c.args.old.now.root = e.trees.root ∙ inv.old_root in
+    let all = pull_grows L S H t marks l l' s s' h h' f.stays.local_keeps f.stays.source_keeps.later e.stays.source_keeps in
     let local_marked : length (L.given c.args.local_data.now) ≤ length (L.given l) = goes_on_len _ _ inv.local_keeps.gave in
     let source_marked : length (S.given c.args.source_data.now) ≤ length (S.given s) = goes_on_len _ _ inv.source_keeps.later.gave in
     record {
       rows = subst (λ (x : Table). AreRows x rows'') tree f.rows;
-      old_rows = subst (λ (x : Table). AreRows x olds') inv.same e.old_rows;
+      old_rows = subst (λ (x : Table). AreRows x olds') inv.same e.trees.old_rows;
       old_root = old_root;
       within = subst (λ (x : Table). next ≤ x.data_blocks) tree f.within;
       followed = followed_rows K t root more later k' rows' rows'' olds' f.hash_rows followed;
       settled = λ j lt. elim (cases_lt j c.loop-n.n) [
         | inl under ↦ settled_stays L t root (pull_given L S H t marks l s h) (pull_given L S H t marks l' s' h') was later all grown 0 j j
-            (L.content c.args.local_data.now) (L.content c.args.local_data.now) l l' f.local_keeps.tells (f.front.1 j under) refl
+            (L.content c.args.local_data.now) (L.content c.args.local_data.now) l l' f.stays.local_keeps.tells (f.front.1 j under) refl
             (inv.settled j under)
         | inr from ↦ ⊎_elim
             (λ t'. inl (vouch_by L S H t marks root later rows' l' s' h' j followed.path (parent j from lt) t'))
@@ -265,8 +265,8 @@ loop-n-preserved g c =
             (taken marks.of_local marks.of_data local_marked source_marked j from lt)
       ];
       hash = λ j v lt vlow. elim (cases_lt j c.loop-n.n) [
-        | inl under ↦ done_stays K t root given more was later grows grown k k' e.local_keeps.tells moved v (path_index t j (suc v)) vlow
-            (path_below t c.requires.allowed j (suc v) (omega (arith, under, low))) (inv.hash j v under vlow)
+        | inl under ↦ done_stays K t root given more was later grows grown k k' e.stays.local_keeps.tells moved v
+            (path_index t j (suc v)) vlow (path_below t c.requires.allowed j (suc v) (omega (arith, under, low))) (inv.hash j v under vlow)
         | inr from ↦ inl (way_done K t c.requires.allowed root more later k' rows' olds' followed n j v low vlow (on v (omega arith) vlow)
             (path_same t n j rows' on (parent j from lt) v vlow))
       ];
@@ -274,34 +274,34 @@ loop-n-preserved g c =
       data_len = f.front.0 ∙ inv.data_len;
       front = front_then t.hash_start_block (K.content k0) (K.content k) (K.content k') inv.front
           (subst (λ (x : Table). KeepsFront x.hash_start_block (K.content k) (K.content k')) inv.same e.front);
-      most = omega (arith, inv.most, f.most);
-      looked = omega (arith, inv.looked, f.looked);
+      most = omega (arith, inv.most, f.counts.most);
+      looked = omega (arith, inv.looked, f.counts.looked);
       few = omega (arith, inv.few, e.few, f.further);
-      data_writes = omega (arith, inv.data_writes, f.writes);
-      hash_writes = omega (arith, inv.hash_writes, e.writes);
-      source_reads = omega (arith, inv.source_reads, f.reads);
-      hash_reads = omega (arith, inv.hash_reads, e.counted);
-      local_reads = omega (arith, inv.local_reads, f.local_reads);
-      hash_looked = omega (arith, inv.hash_looked, e.looked);
-      source_unfailed = f.source_unfailed ∙ inv.source_unfailed;
-      source_hash_unfailed = e.source_unfailed ∙ inv.source_hash_unfailed;
-      local_keeps = later_then L _ _ _ inv.local_keeps f.local_keeps;
-      hash_keeps = later_then K _ _ _ inv.hash_keeps e.local_keeps;
-      source_keeps = only_read_then S _ _ _ inv.source_keeps f.source_keeps;
-      source_hash_keeps = only_read_then H _ _ _ inv.source_hash_keeps e.source_keeps;
+      data_writes = omega (arith, inv.data_writes, f.counts.writes);
+      hash_writes = omega (arith, inv.hash_writes, e.counts.writes);
+      source_reads = omega (arith, inv.source_reads, f.counts.reads);
+      hash_reads = omega (arith, inv.hash_reads, e.counts.counted);
+      local_reads = omega (arith, inv.local_reads, f.counts.local_reads);
+      hash_looked = omega (arith, inv.hash_looked, e.counts.looked);
+      source_unfailed = f.stays.source_unfailed ∙ inv.source_unfailed;
+      source_hash_unfailed = e.stays.source_unfailed ∙ inv.source_hash_unfailed;
+      local_keeps = later_then L _ _ _ inv.local_keeps f.stays.local_keeps;
+      hash_keeps = later_then K _ _ _ inv.hash_keeps e.stays.local_keeps;
+      source_keeps = only_read_then S _ _ _ inv.source_keeps f.stays.source_keeps;
+      source_hash_keeps = only_read_then H _ _ _ inv.source_hash_keeps e.stays.source_keeps;
       data_room = omega (arith, inv.data_room, c.settle.auto.run);
       hash_room = omega (arith, inv.hash_room, c.settle.auto.run);
-      hash_mixed = mixed_then K t given more grows k0 k k' e.local_keeps.tells inv.hash_mixed moved;
+      hash_mixed = mixed_then K t given more grows k0 k k' e.stays.local_keeps.tells inv.hash_mixed moved;
       same = f.same ∙ tree;
     }
 
 pub settle-requires-clause-rows : goal.settle-requires-clause-rows
 settle-requires-clause-rows g c = subst (λ (x : Table). AreRows x c.go_down_over.new.rows)
-    (sym c.in_ok-way.ensures.same) c.in_ok-way.ensures.rows
+    (sym c.in_ok-way.ensures.same) c.in_ok-way.ensures.trees.rows
 
 pub settle-requires-clause-old_rows : goal.settle-requires-clause-old_rows
 settle-requires-clause-old_rows g c =
-    subst (λ (x : Table). AreRows x c.go_down_over.new.old.rows) (sym c.in_ok-way.ensures.same) c.in_ok-way.ensures.old_rows
+    subst (λ (x : Table). AreRows x c.go_down_over.new.old.rows) (sym c.in_ok-way.ensures.same) c.in_ok-way.ensures.trees.old_rows
 
 pub settle-requires-clause-path : goal.settle-requires-clause-path
 settle-requires-clause-path g c =
@@ -390,7 +390,7 @@ returns-in_err-way-clause-mixed g c =
     err_here c.from_residual.result c.in_err-way.field-0.0 _ back (λ isnt n. elim (cases_lt n c.loop-n.n) [
       | inl under ↦ ⊎_elim
           (λ vouched. inr (vouched_grows L t (pull_given L S H t marks l s h) (pull_given L S H t marks l s h')
-          (pull_grows L S H t marks l l s s h h' (later_same L l) (later_same S s) e.source_keeps) 0 n n l vouched))
+          (pull_grows L S H t marks l l s s h h' (later_same L l) (later_same S s) e.stays.source_keeps) 0 n n l vouched))
           (λ alike. inl alike.1)
           (inv.settled n under)
       | inr from ↦ inl (inv.behind n from)
@@ -428,11 +428,11 @@ returns-in_err-way-clause-hash_mixed g c =
     let later = was_given K t was_mark k' in
     let marked : length (H.given c.args.source_hash.now) ≤ length (H.given h) = goes_on_len _ _ inv.source_hash_keeps.later.gave in
     let was_marked : length (K.given c.args.local_hash.now) ≤ length (K.given k) = goes_on_len _ _ inv.hash_keeps.gave in
-    let grows = hash_given-grows H t mark h h' e.source_keeps in
-    let grown = was_grows K t was_mark k k' e.local_keeps in
+    let grows = hash_given-grows H t mark h h' e.stays.source_keeps in
+    let grown = was_grows K t was_mark k k' e.stays.local_keeps in
     let back = err_back c.from_residual.result c.in_err-way.field-0.0 c.from_residual.ensures.1 in
     err_here c.from_residual.result c.in_err-way.field-0.0 _ back (λ isnt.
-    mixed_then K t given more grows k0 k k' e.local_keeps.tells inv.hash_mixed
+    mixed_then K t given more grows k0 k k' e.stays.local_keeps.tells inv.hash_mixed
     (subst (λ (x : Table). (mark was_mark : ℕ) → mark ≤ length (H.given h) → was_mark ≤ length (K.given k)
     → IsFollowed K x root (hash_given H x mark h) (was_given K x was_mark k) k rows olds
     → IsHashMixed K x (hash_given H x mark h') k k') inv.same
@@ -473,8 +473,8 @@ returns-in_err-way-clause-wrong g c =
     let later = was_given K t was_mark k' in
     let marked : length (H.given c.args.source_hash.now) ≤ length (H.given h) = goes_on_len _ _ inv.source_hash_keeps.later.gave in
     let was_marked : length (K.given c.args.local_hash.now) ≤ length (K.given k) = goes_on_len _ _ inv.hash_keeps.gave in
-    let grows = hash_given-grows H t mark h h' e.source_keeps in
-    let grown = was_grows K t was_mark k k' e.local_keeps in
+    let grows = hash_given-grows H t mark h h' e.stays.source_keeps in
+    let grown = was_grows K t was_mark k k' e.stays.local_keeps in
     let back = err_back c.from_residual.result c.in_err-way.field-0.0 c.from_residual.ensures.1 in
     err_here c.from_residual.result c.in_err-way.field-0.0 _ back
     (wrong_weaker c.in_err-way.field-0.0 _ _ (λ here w.
@@ -529,8 +529,8 @@ returns-in_err-done-clause-hash_mixed g c =
     let later = was_given K t was_mark k' in
     let marked : length (H.given c.args.source_hash.now) ≤ length (H.given h) = goes_on_len _ _ inv.source_hash_keeps.later.gave in
     let was_marked : length (K.given c.args.local_hash.now) ≤ length (K.given k) = goes_on_len _ _ inv.hash_keeps.gave in
-    let grows = hash_given-grows H t mark h h' e.source_keeps in
-    let grown = was_grows K t was_mark k k' e.local_keeps in
+    let grows = hash_given-grows H t mark h h' e.stays.source_keeps in
+    let grown = was_grows K t was_mark k k' e.stays.local_keeps in
     let mixed = subst (λ (x : Table). (mark was_mark : ℕ) → mark ≤ length (H.given h) → was_mark ≤ length (K.given k)
     → IsFollowed K x root (hash_given H x mark h) (was_given K x was_mark k) k rows olds
     → IsHashMixed K x (hash_given H x mark h') k k') inv.same
@@ -541,7 +541,7 @@ returns-in_err-done-clause-hash_mixed g c =
     let moved : IsHashMixed K t more k k' = mixed mark was_mark marked was_marked inv.followed in
     let back = err_back c.from_residual-in_err-done.result c.in_err-done.field-0.0 c.from_residual-in_err-done.ensures.1 in
     err_here c.from_residual-in_err-done.result c.in_err-done.field-0.0 _ back (λ isnt.
-    mixed_then K t given more grows k0 k k' e.local_keeps.tells inv.hash_mixed moved)
+    mixed_then K t given more grows k0 k k' e.stays.local_keeps.tells inv.hash_mixed moved)
 
 pub returns-in_err-done-clause-mixed : goal.returns-in_err-done-clause-mixed
 returns-in_err-done-clause-mixed g c =
@@ -575,8 +575,8 @@ returns-in_err-done-clause-mixed g c =
     let later = was_given K t was_mark k' in
     let marked : length (H.given c.args.source_hash.now) ≤ length (H.given h) = goes_on_len _ _ inv.source_hash_keeps.later.gave in
     let was_marked : length (K.given c.args.local_hash.now) ≤ length (K.given k) = goes_on_len _ _ inv.hash_keeps.gave in
-    let grows = hash_given-grows H t mark h h' e.source_keeps in
-    let grown = was_grows K t was_mark k k' e.local_keeps in
+    let grows = hash_given-grows H t mark h h' e.stays.source_keeps in
+    let grown = was_grows K t was_mark k k' e.stays.local_keeps in
     let found = subst (λ (x : Table). (mark was_mark : ℕ) → mark ≤ length (H.given h) → was_mark ≤ length (K.given k)
     → IsFollowed K x root (hash_given H x mark h) (was_given K x was_mark k) k rows olds
     → IsFollowed K x root (hash_given H x mark h') (was_given K x was_mark k') k' rows' olds') inv.same
@@ -591,7 +591,7 @@ returns-in_err-done-clause-mixed g c =
     let tree : c.go_down_over.new.tree ≡ c.args.tree.now = e.same ∙ inv.same in
     let before = pull_given L S H t marks l s h in
     let after = pull_given L S H t marks l' s' h' in
-    let all = pull_grows L S H t marks l l' s s' h h' f.local_keeps f.source_keeps.later e.source_keeps in
+    let all = pull_grows L S H t marks l l' s s' h h' f.stays.local_keeps f.stays.source_keeps.later e.stays.source_keeps in
     let local_marked : length (L.given c.args.local_data.now) ≤ length (L.given l) = goes_on_len _ _ inv.local_keeps.gave in
     let source_marked : length (S.given c.args.source_data.now) ≤ length (S.given s) = goes_on_len _ _ inv.source_keeps.later.gave in
     let back = err_back c.from_residual-in_err-done.result c.in_err-done.field-0.0 c.from_residual-in_err-done.ensures.1 in
@@ -601,7 +601,7 @@ returns-in_err-done-clause-mixed g c =
     ⊎_elim
     (λ stays. elim (cases_lt q c.loop-n.n) [
       | inl under ↦ ⊎_elim
-          (λ vouched. inr (vouched_stays L t before after all 0 q q l l' f.local_keeps.tells stays vouched))
+          (λ vouched. inr (vouched_stays L t before after all 0 q q l l' f.stays.local_keeps.tells stays vouched))
           (λ alike. inl (stays ∙ alike.1))
           (inv.settled q under)
       | inr from ↦ inl (stays ∙ inv.behind q from)
@@ -641,8 +641,8 @@ returns-in_err-done-clause-wrong g c =
     let later = was_given K t was_mark k' in
     let marked : length (H.given c.args.source_hash.now) ≤ length (H.given h) = goes_on_len _ _ inv.source_hash_keeps.later.gave in
     let was_marked : length (K.given c.args.local_hash.now) ≤ length (K.given k) = goes_on_len _ _ inv.hash_keeps.gave in
-    let grows = hash_given-grows H t mark h h' e.source_keeps in
-    let grown = was_grows K t was_mark k k' e.local_keeps in
+    let grows = hash_given-grows H t mark h h' e.stays.source_keeps in
+    let grown = was_grows K t was_mark k k' e.stays.local_keeps in
     let found = subst (λ (x : Table). (mark was_mark : ℕ) → mark ≤ length (H.given h) → was_mark ≤ length (K.given k)
     → IsFollowed K x root (hash_given H x mark h) (was_given K x was_mark k) k rows olds
     → IsFollowed K x root (hash_given H x mark h') (was_given K x was_mark k') k' rows' olds') inv.same

@@ -23,7 +23,7 @@ returns-clause-taken g c = λ local_mark source_mark marked.
     let e = c.in_ok-fetch.ensures in
     inl (taken_fetched g.L.BlockStore g.S.BlockStore c.args.tree.now local_mark source_mark c.args.local.now c.fetch.new.local
     c.fetch.new.source c.args.rows.now c.args.n c.fetch.new.block c.name_of-named.result c.name_of-named.ensures
-    (e.came source_mark marked) e.digest e.written e.local_keeps.later.tells (omega (arith, c.requires.within, c.requires.there)))
+    (e.came source_mark marked) e.digest e.written e.stays.local_keeps.tells (omega (arith, c.requires.within, c.requires.there)))
 
 pub returns-in_err-fetch-clause-wrong : goal.returns-in_err-fetch-clause-wrong
 returns-in_err-fetch-clause-wrong g c =
