@@ -2,16 +2,17 @@
 use Rattle.std.proofs.Common.{◌≡◌, ◌≢◌, ◌↔◌, ◌≤◌, ◌+◌, ◌++◌, ◌⊎◌, ◌||◌, Bool, true, false, ℕ, List, [], ◌∷◌, length, Option, Some}
 use Rattle.std.proofs.Common.{inl, inr, refl, sym, ap, ◌∙◌, subst, arith, append_assoc, append-nil, eq-eqb, length-append}
 use Rattle.std.proofs.lemmas.Bool.{ne_eqb, cases_Bool}
-use Rattle.std.specs.Io.KnownBytes.{Appends, Keeps}
+use Rattle.std.specs.Io.KnownBytes.{Appends, Keeps as KeepsBytes}
 use Rattle.std.proofs.KnownBytes.{Appends-nil, Consumes-nil, Appends-kept, Consumes-kept}
 use Rattle.nbd_session.specs.declared.offer.Offer.{Offer}
 use Rattle.nbd_session.specs.declared.status.Status.{Status}
 use Rattle.nbd_session.specs.declared.status.Status.TheVariants as status
 use Rattle.nbd_session.specs.declared.phase.Phase.TheVariants as phase
-use Rattle.nbd_session.specs.Export.{Facts, Fair}
+use Rattle.nbd_session.specs.Export.{Facts, Fair, Keeps}
 use Rattle.nbd_session.specs.Session.{State}
 use Rattle.nbd_session.specs.Talk.{hear}
 use Rattle.nbd_session.specs.Protocol.{longest_reply}
+use Rattle.nbd_session.proofs.Moving.{Keeps-refl, Keeps-trans}
 use Rattle.nbd_session.proofs.Shorter.{replies_once, fair_len}
 use Rattle.nbd_hub.specs.declared.fault.HubFault.TheVariants as hub_fault
 use Rattle.nbd_hub.specs.declared.fault.ServeFault.TheVariants as fault
@@ -21,7 +22,7 @@ use Rattle.nbd_hub.specs.Sessions.{HubState, lookup}
 use Rattle.nbd_hub.specs.After.{IsAfter, FedAfter, Stands}
 use Rattle.nbd_hub.specs.Stream.{HasEnded}
 use Rattle.nbd_hub.proofs.Snoc.{piece_of, own-awake, own-starved, starved-snoc, ended-snoc, output-snoc, opened-append, or_false}
-use Rattle.nbd_relay.specs.Client.{ClientState, IsServed, TurnsOn, Sends, Reads, Feeds, IsUnready, Moves, ends}
+use Rattle.nbd_relay.specs.Client.{ClientState, IsServed, LeavesOthers, TurnsOn, Sends, Reads, Feeds, IsUnready, Moves, ends}
 use Rattle.nbd_relay.specs.declared.client.Turn.{Turn}
 use Rattle.nbd_relay.specs.declared.client.Turn.TheVariants as turn
 
@@ -60,7 +61,7 @@ turns_still facts hub h client r g w read wrote a v = record {
 
 pub turns_sent : (facts : Facts) (hub : HubState) (h : List Step) (old new : ClientState) (r r' g g' w w' : Option (List ℕ))
     (result : Turn) (read wrote : List ℕ)
-    → Sends old new w w' result → Keeps r r' → Keeps g g' → IsAfter facts hub h → IsServed hub.offer h old read wrote →
+    → Sends old new w w' result → KeepsBytes r r' → KeepsBytes g g' → IsAfter facts hub h → IsServed hub.offer h old read wrote →
     TurnsOn facts hub h new g g' (ends r r' w w') read wrote
 turns_sent facts hub h old new r r' g g' w w' result read wrote s k j a v = record {
   fed = [];
@@ -75,7 +76,7 @@ turns_sent facts hub h old new r r' g g' w w' result read wrote s k j a v = reco
 
 pub turns_read : (facts : Facts) (hub : HubState) (h : List Step) (old new : ClientState) (r r' g g' w w' : Option (List ℕ))
     (result : Turn) (read wrote : List ℕ)
-    → old.waiting ≡ [] → Reads old new r r' result → Appends g g' new.waiting → Keeps w w' → IsAfter facts hub h
+    → old.waiting ≡ [] → Reads old new r r' result → Appends g g' new.waiting → KeepsBytes w w' → IsAfter facts hub h
     → IsServed hub.offer h old read wrote → TurnsOn facts hub h new g g' (ends r r' w w') read wrote
 turns_read facts hub h old new r r' g g' w w' result read wrote n s j k a v = record {
   fed = [];
@@ -192,10 +193,22 @@ turns_fed a b hub hub' h old new r g w result read wrote n s x v =
           (λ y. ((s.takes y).0, (s.takes y).1)) (λ y. ((s.starves y).0, (s.starves y).1)) f s.id v;
     }
 
+-- a hub of which nothing was fed
+pub others_left : {X : Type 0} (facts : X → Facts) (a b : HubState × X) (id : ℕ) → b ≡ a → LeavesOthers (facts a.1) (facts b.1) a.0 b.0 id
+others_left {X} facts a b id e =
+    let P : HubState × X → Type 0 = λ z. LeavesOthers (facts a.1) (facts z.1) a.0 z.0 id in
+    subst P (sym e) (record { others = λ k n. refl; offer = refl; next = refl; count = refl; keeps = Keeps-refl (facts a.1) })
+
 -- what the hub's other sessions and the turn's result are after a feed
-pub others_fed : (a b : Facts) (hub hub' : HubState) (old new : ClientState) (result : Turn) → Feeds a b hub hub' old new result →
-    (k : ℕ) → k ≢ old.id → lookup k hub'.sessions ≡ lookup k hub.sessions
-others_fed a b hub hub' old new result s k n = s.feeds.sets k ∙ rw (ne_eqb k old.id n) refl
+pub others_fed : (a b c : Facts) (hub hub' : HubState) (old new : ClientState) (result : Turn) → Keeps a b →
+    Feeds b c hub hub' old new result → LeavesOthers a c hub hub' old.id
+others_fed a b c hub hub' old new result k s = record {
+  others = λ j n. s.feeds.sets j ∙ rw (ne_eqb j old.id n) refl;
+  offer = s.feeds.offer;
+  next = s.feeds.next;
+  count = s.feeds.count;
+  keeps = Keeps-trans a b c k s.feeds.feeds.keeps;
+}
 
 pub moves_fed : (a b : Facts) (hub hub' : HubState) (old new : ClientState) (result : Turn) → Feeds a b hub hub' old new result →
     result ≡ turn.Again → Moves old new

@@ -1,7 +1,7 @@
 -- A client as contracts see it, and what came of it after a history of its hub.
-use Rattle.std.specs.Prelude.{◌≡◌, ◌≢◌, ◌↔◌, Bool, true, false, ℕ, ◌<◌, ◌≤◌, ◌⊎◌, List, [], ◌∷◌, ◌++◌, length, take}
+use Rattle.std.specs.Prelude.{◌≡◌, ◌≢◌, ◌↔◌, ◌+◌, Bool, true, false, ℕ, ◌<◌, ◌≤◌, ◌⊎◌, List, [], ◌∷◌, ◌++◌, length, take}
 use Rattle.std.specs.Prelude.{Option, Some, None, Result, Ok, Err}
-use Rattle.std.specs.Io.KnownBytes.{Consumes, Appends, IsAtEnd}
+use Rattle.std.specs.Io.KnownBytes.{Consumes, Appends, IsAtEnd, Keeps as KeepsBytes}
 use Rattle.nbd_session.specs.declared.offer.Offer.{Offer}
 use Rattle.nbd_session.specs.declared.phase.Phase.TheVariants as phase
 use Rattle.nbd_session.specs.declared.status.Status.{Status}
@@ -13,9 +13,10 @@ use Rattle.nbd_session.specs.Short.{asked}
 use Rattle.nbd_hub.specs.declared.fault.HubFault.{HubFault}
 use Rattle.nbd_hub.specs.declared.fault.ServeFault.TheVariants as fault
 use Rattle.nbd_hub.specs.History.{Step, Opening, Feeding, Ending, Refusal, own, output, starved, IsOpen}
-use Rattle.nbd_hub.specs.Sessions.{HubState, FeedsOne}
+use Rattle.nbd_hub.specs.Sessions.{HubState, FeedsOne, lookup}
 use Rattle.nbd_hub.specs.After.{IsAfter, FedAfter}
 use Rattle.nbd_hub.specs.Stream.{HasEnded, Ends, Moved, turn_bytes}
+use Rattle.nbd_relay.specs.Asked.{Asked}
 use Rattle.nbd_relay.specs.declared.client.Turn.{Turn}
 use Rattle.nbd_relay.specs.declared.client.Turn.TheVariants as turn
 use Rattle.nbd_relay.specs.declared.client.Part.{Part}
@@ -98,6 +99,25 @@ IsUnready (turn.Failed (fault.Hub f)) = Unit {0}
 abbrev pub Moves : (old new : ClientState) → Type 0
 Moves old new =
     (length new.unsent < length old.unsent) ⊎ (length new.waiting < length old.waiting) ⊎ (length old.waiting < length new.waiting)
+
+-- Of a hub of which only the session of this number was fed, if any: the others are as they were, none was opened or ended, and what the
+-- sessions offer and the export says stays.
+pub record LeavesOthers (old_facts new_facts : Facts) (old new : HubState) (id : ℕ) : Type 0 where
+  pub others : (k : ℕ) → k ≢ id → lookup k new.sessions ≡ lookup k old.sessions
+  pub offer : new.offer ≡ old.offer
+  pub next : new.next ≡ old.next
+  pub count : length new.sessions ≡ length old.sessions
+  pub keeps : Keeps old_facts new_facts
+
+-- The stream was asked once to send, once to read, and not at all else; and the answer is its own.
+pub record AsksOnce {S : Type 0} (asked : S → Asked) (remaining : S → Option (List ℕ)) (old new : ClientState × S)
+    (result : Turn) : Type 0 where
+  pub asks : (0 < length old.0.unsent) ⊎ ((old.0.over ≡ false) × (old.0.waiting ≡ [])) → (asked new.1).calls ≡ (asked old.1).calls + 1
+  pub unasked : old.0.unsent ≡ [] → (old.0.over ≡ true) ⊎ (0 < length old.0.waiting) → new.1 ≡ old.1
+  pub waits : result ≡ turn.Blocked → (asked old.1).waits < (asked new.1).waits
+  pub failures : (result ≡ turn.Interrupted) ⊎ (result ≡ turn.Failed fault.Read) ⊎ (result ≡ turn.Failed fault.Write) →
+      (asked old.1).failures < (asked new.1).failures
+  pub reads : (0 < length old.0.unsent) ⊎ (0 < length old.0.waiting) ⊎ (old.0.over ≡ true) → KeepsBytes (remaining old.1) (remaining new.1)
 
 -- the parts of a turn
 

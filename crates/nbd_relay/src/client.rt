@@ -1,10 +1,9 @@
 //! One client of many: its stream, its session and what waits in between.
 
-ghost use Rattle.std.specs.Prelude.{◌≡◌, ◌≢◌, ◌↔◌, ◌+◌, ◌≤◌, ◌<◌, ◌-◌, ◌++◌, ◌⊎◌, ℕ, List, [], ◌∷◌, true, false, length, Some};
-ghost use Rattle.std.specs.Prelude.{None, IfOk, IfErr, OnOk, OnErr};
-ghost use Rattle.std.specs.Io.KnownBytes.{Appends, Consumes, IsAtEnd, Keeps};
+ghost use Rattle.std.specs.Prelude.{◌≡◌, ◌≢◌, ◌↔◌, ◌≤◌, ◌<◌, ◌++◌, ◌⊎◌, ℕ, List, [], ◌∷◌, true, false, length, Some, None, IfOk, IfErr};
+ghost use Rattle.std.specs.Prelude.{OnOk, OnErr};
+ghost use Rattle.std.specs.Io.KnownBytes.{IsAtEnd, Keeps};
 ghost use Rattle.nbd_session.specs.Handshake.{greeting};
-ghost use Rattle.nbd_session.specs.Export.{Keeps as KeepsFacts};
 ghost use Rattle.nbd_hub.specs.declared.fault.HubFault.{HubFault};
 ghost use Rattle.nbd_session.specs.declared.phase.Phase.TheVariants as Phase;
 ghost use Rattle.nbd_session.specs.Talk.{hear};
@@ -14,27 +13,21 @@ ghost use Rattle.nbd_hub.specs.History.{Step, Opening, own};
 ghost use Rattle.nbd_hub.specs.Sessions.{lookup, OpensOne, max_open, max_opened};
 ghost use Rattle.nbd_hub.specs.After.{IsAfter};
 ghost use Rattle.nbd_relay.specs.Asked.{IsHandedOn};
-ghost use Rattle.nbd_relay.specs.Client.{AsksFor, IsServed, TurnsOn, IsPart, Sends, Reads, IsWarmed, Feeds, ends, input_bytes, IsUnready};
-ghost use Rattle.nbd_relay.specs.Client.{Moves, fault_in};
+ghost use Rattle.nbd_relay.specs.Client.{AsksFor, AsksOnce, IsServed, LeavesOthers, TurnsOn, IsPart, IsUnready, Moves, ends, fault_in};
+ghost use Rattle.nbd_relay.specs.Client.{input_bytes};
 
 use crate::stream::Stream;
-use nbd_hub::{HubFault, MAX_AHEAD, ServeFault, Sessions};
-use nbd_session::{Export, Status};
+use nbd_hub::{HubFault, ServeFault, Sessions};
+use nbd_session::Export;
 use std::alloc::{Allocator, Global};
-use std::io::{self, ErrorKind};
+use std::io;
 use std::marker::Model;
 
 /// The most bytes that are read at once.
 const INPUT_BYTES: usize = 4_096;
 
 /// The most bytes that are fed at once: those of a request's header, so that at most one READ's bytes are pending.
-const PIECE_BYTES: usize = 28;
-
-/// The most waiting bytes that are announced at once: the headers of as many requests as an export is told beforehand.
-const AHEAD_BYTES: usize = MAX_AHEAD * PIECE_BYTES;
-
-/// The most bytes of memory that are kept for what is said once all of it is sent.
-const KEPT_BYTES: usize = 65_536;
+pub(crate) const PIECE_BYTES: usize = 28;
 
 /// What a turn came to.
 #[derive(Clone, Copy, Debug, Drop, PartialEq, Eq)]
@@ -67,16 +60,16 @@ pub(crate) enum Part {
 /// A client: its stream, the number of its session, what was read and not fed, what was said and not sent.
 #[derive(Drop)]
 pub struct Client<S, A: Allocator = Global> {
-    stream: S,
-    session: u64,
-    input: [u8; INPUT_BYTES],
-    begin: usize,
-    end: usize,
+    pub(crate) stream: S,
+    pub(crate) session: u64,
+    pub(crate) input: [u8; INPUT_BYTES],
+    pub(crate) begin: usize,
+    pub(crate) end: usize,
     /// Up to where the hub was told what the bytes of the input will ask for.
-    announced: usize,
-    pending: Vec<u8, A>,
-    sent: usize,
-    over: bool,
+    pub(crate) announced: usize,
+    pub(crate) pending: Vec<u8, A>,
+    pub(crate) sent: usize,
+    pub(crate) over: bool,
 }
 
 impl<S, A: Allocator> Model for Client<S, A> {
@@ -219,148 +212,6 @@ impl<S: Stream + Drop, A: Allocator> Client<S, A> {
         self.stream.flush()
     }
 
-    /// Sends a beginning of what is unsent.
-    fn send(&mut self) -> Turn
-        requires { 0 < length self.old.0.unsent }
-        ensures sends { Sends self.old.0 self.new.0 (S.contents self.old.1) (S.contents self.new.1) result }
-        ensures unread { Keeps (S.remaining self.old.1) (S.remaining self.new.1) }
-        ensures received { Keeps (S.received self.old.1) (S.received self.new.1) }
-        ensures calls { (S.asked self.new.1).calls ≡ (S.asked self.old.1).calls + 1 }
-        ensures waits { result ≡ Turn.Blocked → (S.asked self.old.1).waits < (S.asked self.new.1).waits }
-        ensures failures { (result ≡ Turn.Interrupted) ⊎ (result ≡ Turn.Failed ServeFault.Write)
-            → (S.asked self.old.1).failures < (S.asked self.new.1).failures }
-    {
-        match self.stream.send(&self.pending[self.sent..]) {
-            Ok(0) => Turn::Failed(ServeFault::Write),
-            Ok(taken) => {
-                self.sent += taken;
-                self.free();
-                Turn::Again
-            }
-            Err(e) => match e.kind() {
-                ErrorKind::WouldBlock => Turn::Blocked,
-                ErrorKind::Interrupted => Turn::Interrupted,
-                _ => Turn::Failed(ServeFault::Write),
-            },
-        }
-    }
-
-    /// Gives back the memory of a long reply, once it is sent.
-    fn free(&mut self)
-        ensures { self.new ≡ self.old }
-    {
-        if self.sent >= self.pending.len() && self.pending.capacity() > KEPT_BYTES {
-            self.pending.clear();
-            self.pending.shrink_to_fit();
-            self.sent = 0;
-        }
-    }
-
-    /// Reads, where nothing waits.
-    fn receive(&mut self) -> Turn
-        requires { self.old.0.waiting ≡ [] }
-        ensures reads { Reads self.old.0 self.new.0 (S.remaining self.old.1) (S.remaining self.new.1) result }
-        ensures received { Appends (S.received self.old.1) (S.received self.new.1) self.new.0.waiting }
-        ensures waiting { length self.new.0.waiting ≤ input_bytes }
-        ensures written { Keeps (S.contents self.old.1) (S.contents self.new.1) }
-        ensures calls { (S.asked self.new.1).calls ≡ (S.asked self.old.1).calls + 1 }
-        ensures waits { result ≡ Turn.Blocked → (S.asked self.old.1).waits < (S.asked self.new.1).waits }
-        ensures failures { (result ≡ Turn.Interrupted) ⊎ (result ≡ Turn.Failed ServeFault.Read)
-            → (S.asked self.old.1).failures < (S.asked self.new.1).failures }
-    {
-        match self.stream.receive(&mut self.input) {
-            Ok(0) => {
-                self.begin = 0;
-                self.end = 0;
-                Turn::Done
-            }
-            Ok(taken) => {
-                self.begin = 0;
-                self.end = taken;
-                self.announced = 0;
-                Turn::Again
-            }
-            Err(e) => {
-                self.begin = 0;
-                self.end = 0;
-                match e.kind() {
-                    ErrorKind::WouldBlock => Turn::Blocked,
-                    ErrorKind::Interrupted => Turn::Interrupted,
-                    _ => Turn::Failed(ServeFault::Read),
-                }
-            }
-        }
-    }
-
-    /// Tells the hub what the requests that wait will ask for, where they are two at least and all that it was told of before is
-    /// fed.
-    fn announce<E: Export, H: Allocator + Copy>(&mut self, hub: &mut Sessions<E, H>)
-        ensures same { self.new ≡ self.old }
-        ensures state { hub.new.0 ≡ hub.old.0 }
-        ensures keeps { KeepsFacts (E.facts hub.old.1) (E.facts hub.new.1) }
-        ensures later { E.later hub.old.1 hub.new.1 }
-        ensures unknown { lookup self.old.0.id hub.old.0.sessions ≡ None → hub.new ≡ hub.old }
-        ensures after { (history : List Step) → IsAfter (E.facts hub.old.1) hub.old.0 history
-            → IsAfter (E.facts hub.new.1) hub.new.0 history }
-    {
-        if self.begin < self.announced || self.end - self.begin < 2 * PIECE_BYTES {
-            return;
-        }
-        hub.warm(self.session, &self.input[self.begin..self.end]);
-        self.announced = self.end.min(self.begin + AHEAD_BYTES);
-    }
-
-    /// Feeds a piece of what waits, where nothing is unsent.
-    fn feed<E: Export, H: Allocator + Copy>(&mut self, hub: &mut Sessions<E, H>) -> Turn
-        requires drained { self.old.0.unsent ≡ [] }
-        requires some { 0 < length self.old.0.waiting }
-        requires goes_on { self.old.0.over ≡ false }
-        ensures stream { self.new.1 ≡ self.old.1 }
-        ensures waiting { length self.new.0.waiting ≤ input_bytes }
-        ensures later { E.later hub.old.1 hub.new.1 }
-        ensures feeds { (result ≡ Turn.Failed (ServeFault.Hub HubFault.Unknown) → ⊥)
-            → Feeds (E.facts hub.old.1) (E.facts hub.new.1) hub.old.0 hub.new.0 self.old.0 self.new.0 result }
-        ensures gone { result ≡ Turn.Failed (ServeFault.Hub HubFault.Unknown)
-            → (lookup self.old.0.id hub.old.0.sessions ≡ None) × (hub.new ≡ hub.old) × (self.new.0 ≡ self.old.0) }
-    {
-        self.pending.clear();
-        self.sent = 0;
-        let taken = (self.end - self.begin).min(PIECE_BYTES);
-        let mut piece = [0u8; PIECE_BYTES];
-        piece[..taken].copy_from_slice(&self.input[self.begin..self.begin + taken]);
-        match hub.feed(self.session, &piece[..taken], &mut self.pending) {
-            Ok(Status::Open) => {
-                self.begin += taken;
-                Turn::Again
-            }
-            Ok(Status::Ended) => {
-                self.begin += taken;
-                self.over = true;
-                Turn::Again
-            }
-            Ok(Status::Starved) => Turn::Failed(ServeFault::Starved),
-            Err(_) => Turn::Failed(ServeFault::Hub(HubFault::Unknown)),
-        }
-    }
-
-    /// Announces what waits, then feeds a piece of it.
-    fn feed_ahead<E: Export, H: Allocator + Copy>(&mut self, hub: &mut Sessions<E, H>) -> Turn
-        requires drained { self.old.0.unsent ≡ [] }
-        requires some { 0 < length self.old.0.waiting }
-        requires goes_on { self.old.0.over ≡ false }
-        ensures stream { self.new.1 ≡ self.old.1 }
-        ensures waiting { length self.new.0.waiting ≤ input_bytes }
-        ensures later { E.later hub.old.1 hub.new.1 }
-        ensures feeds { (result ≡ Turn.Failed (ServeFault.Hub HubFault.Unknown) → ⊥)
-            → (warm : E) × IsWarmed (E.facts hub.old.1) (E.facts warm) hub.old.0
-            × Feeds (E.facts warm) (E.facts hub.new.1) hub.old.0 hub.new.0 self.old.0 self.new.0 result }
-        ensures gone { result ≡ Turn.Failed (ServeFault.Hub HubFault.Unknown)
-            → (lookup self.old.0.id hub.old.0.sessions ≡ None) × (hub.new ≡ hub.old) × (self.new.0 ≡ self.old.0) }
-    {
-        self.announce(hub);
-        self.feed(hub)
-    }
-
     /// Does one thing: sends what is unsent; else feeds at most 28 bytes of what waits; else reads.
     ///
     /// It feeds nothing while anything is unsent, and reads nothing while anything waits: that is the back pressure.
@@ -373,12 +224,7 @@ impl<S: Stream + Drop, A: Allocator> Client<S, A> {
             → TurnsOn (E.facts hub.new.1) hub.new.0 history self.new.0 (S.received self.old.1) (S.received self.new.1)
             (ends (S.remaining self.old.1) (S.remaining self.new.1) (S.contents self.old.1) (S.contents self.new.1)) read wrote }
         ensures same { self.new.0.id ≡ self.old.0.id }
-        // The other sessions, and the hub.
-        ensures others { (k : ℕ) → k ≢ self.old.0.id → lookup k hub.new.0.sessions ≡ lookup k hub.old.0.sessions }
-        ensures offer { hub.new.0.offer ≡ hub.old.0.offer }
-        ensures next { hub.new.0.next ≡ hub.old.0.next }
-        ensures count { length hub.new.0.sessions ≡ length hub.old.0.sessions }
-        ensures keeps { KeepsFacts (E.facts hub.old.1) (E.facts hub.new.1) }
+        ensures hub { LeavesOthers (E.facts hub.old.1) (E.facts hub.new.1) hub.old.0 hub.new.0 self.old.0.id }
         ensures later { E.later hub.old.1 hub.new.1 }
         // What it came to.
         ensures back_pressure { 0 < length self.old.0.unsent → (hub.new ≡ hub.old) × (self.new.0.waiting ≡ self.old.0.waiting) }
@@ -397,15 +243,7 @@ impl<S: Stream + Drop, A: Allocator> Client<S, A> {
         ensures feeds { self.old.0.unsent ≡ [] → self.old.0.over ≡ false → 0 < length self.old.0.waiting
             → (result ≡ Turn.Again) ⊎ (result ≡ Turn.Failed ServeFault.Starved) ⊎ (result ≡ Turn.Failed (ServeFault.Hub HubFault.Unknown)) }
         ensures waiting { length self.new.0.waiting ≤ input_bytes }
-        // The stream: asked once to send, once to read, and not at all else; and the answer is its own.
-        ensures asks { (0 < length self.old.0.unsent) ⊎ ((self.old.0.over ≡ false) × (self.old.0.waiting ≡ []))
-            → (S.asked self.new.1).calls ≡ (S.asked self.old.1).calls + 1 }
-        ensures unasked { self.old.0.unsent ≡ [] → (self.old.0.over ≡ true) ⊎ (0 < length self.old.0.waiting) → self.new.1 ≡ self.old.1 }
-        ensures waits { result ≡ Turn.Blocked → (S.asked self.old.1).waits < (S.asked self.new.1).waits }
-        ensures failures { (result ≡ Turn.Interrupted) ⊎ (result ≡ Turn.Failed ServeFault.Read) ⊎ (result ≡ Turn.Failed ServeFault.Write)
-            → (S.asked self.old.1).failures < (S.asked self.new.1).failures }
-        ensures reads { (0 < length self.old.0.unsent) ⊎ (0 < length self.old.0.waiting) ⊎ (self.old.0.over ≡ true)
-            → Keeps (S.remaining self.old.1) (S.remaining self.new.1) }
+        ensures stream { AsksOnce S.asked S.remaining self.old self.new result }
     {
         match self.part() {
             Part::Send => self.send(),

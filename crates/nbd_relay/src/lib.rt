@@ -31,6 +31,7 @@
 
 mod client;
 pub mod laws;
+mod parts;
 mod relay;
 mod stream;
 

@@ -6,7 +6,7 @@ use Rattle.nbd_relay.specs.Clients.{Log}
 use Rattle.nbd_relay.proofs.Buffers.{sent_on}
 use Rattle.nbd_connection.specs.Connections.{Hears}
 use Rattle.nbd_serve.specs.Sockets.{Drains}
-use Rattle.nbd_serve.proofs.Keeping.{same_log}
+use Rattle.nbd_serve.proofs.Served.{same_log}
 
 -- n bytes of what it held were sent
 pub sent_held : (old new : Log) (p q : List ℕ) (s n : ℕ) → q ≡ p → new.read ≡ old.read

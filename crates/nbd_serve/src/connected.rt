@@ -1,11 +1,11 @@
 //! The clients that are connected, each with its seat.
 
-ghost use Rattle.std.specs.Prelude.{◌≡◌, ◌+◌, ◌<◌, ◌⊎◌, [], ◌∷◌, ◌++◌, List, length, slice_get, Some, IfOk, IfErr, OnOk, OnErr};
+ghost use Rattle.std.specs.Prelude.{◌≡◌, ◌+◌, ◌<◌, ◌⊎◌, [], ◌∷◌, ◌++◌, length, slice_get, Some, IfOk, IfErr, OnOk, OnErr};
 ghost use Rattle.std.specs.List.{remove};
 ghost use Rattle.nbd_hub.specs.Sessions.{HubState};
 ghost use Rattle.nbd_serve.specs.Serving.{GoesOn};
-ghost use Rattle.nbd_connection.specs.Connections.{Visits, nothing};
-ghost use Rattle.nbd_serve.specs.Sockets.{AreKept, AreServed, IsTold};
+ghost use Rattle.nbd_connection.specs.Connections.{nothing};
+ghost use Rattle.nbd_serve.specs.Sockets.{AreServed, IsTold};
 ghost use Rattle.nbd_serve.specs.Stalling.{IsNoted};
 
 use crate::budget::Budget;
@@ -48,6 +48,8 @@ pub struct Connected<C: Connection> {
 }
 
 impl<C: Connection + Drop> Connected<C> {
+    ghost use Rattle.nbd_serve.specs.Rooms.{GivesBack, HadTurns};
+
     /// Nobody is there. It takes memory for so many clients' places.
     pub fn new(alloc: Global, most: usize) -> Result<Connected<C>, AllocError>
         ensures clients { IfOk result (λ connected. connected.clients.items ≡ []) }
@@ -152,10 +154,7 @@ impl<C: Connection + Drop> Connected<C> {
         door: &mut L,
     )
         ensures none { self.new.clients.items ≡ [] }
-        ensures goes_on { GoesOn E.later hub.old hub.new }
-        ensures kept { (begun : Visits) (leaving : List C)
-            → AreKept E.facts E.later C.log begun hub.old self.old.clients.items leaving (L.visits door.old)
-            → AreKept E.facts E.later C.log begun hub.new self.new.clients.items leaving (L.visits door.new) }
+        ensures gives_back { GivesBack E.facts E.later C.log hub.old hub.new self.old self.new (L.visits door.old) (L.visits door.new) }
     {
         'each: for _done in 0..self.clients.len() {
             let (_, client) = self.leave(hub, 0);
@@ -175,11 +174,7 @@ impl<C: Connection + Drop> Connected<C> {
         now: Option<Duration>,
     ) -> Came
         requires { at < length self.old.clients.items }
-        ensures goes_on { GoesOn E.later hub.old hub.new }
-        ensures count { length self.new.clients.items ≡ length self.old.clients.items }
-        ensures numbers { self.new.numbers.items ≡ self.old.numbers.items }
-        ensures serves { AreServed E.facts C.log hub.old self.old.clients.items
-            → AreServed E.facts C.log hub.new self.new.clients.items }
+        ensures turns { HadTurns E.facts E.later C.log hub.old hub.new self.old self.new }
         ensures noted { ((hub.new ≡ hub.old) × (self.new.clients.items ≡ self.old.clients.items))
             ⊎ IsNoted C.log self.new.clients.items self.new.seats.items at }
     {
@@ -194,11 +189,7 @@ impl<C: Connection + Drop> Connected<C> {
     /// The turns of one client, and what it then holds is handed on where nothing follows at once.
     fn go_through<E: Export>(&mut self, hub: &mut Sessions<E>, at: usize, budget: Budget) -> Came
         requires { at < length self.old.clients.items }
-        ensures goes_on { GoesOn E.later hub.old hub.new }
-        ensures count { length self.new.clients.items ≡ length self.old.clients.items }
-        ensures numbers { self.new.numbers.items ≡ self.old.numbers.items }
-        ensures serves { AreServed E.facts C.log hub.old self.old.clients.items
-            → AreServed E.facts C.log hub.new self.new.clients.items }
+        ensures { HadTurns E.facts E.later C.log hub.old hub.new self.old self.new }
     {
         let came = self.take_turns(hub, at, budget);
         let blocked = match self.hand_on::<E>(at, came) {
@@ -223,11 +214,7 @@ impl<C: Connection + Drop> Connected<C> {
     /// The turns of one client, unless all was said.
     fn take_turns<E: Export>(&mut self, hub: &mut Sessions<E>, at: usize, budget: Budget) -> Came
         requires { at < length self.old.clients.items }
-        ensures goes_on { GoesOn E.later hub.old hub.new }
-        ensures count { length self.new.clients.items ≡ length self.old.clients.items }
-        ensures numbers { self.new.numbers.items ≡ self.old.numbers.items }
-        ensures serves { AreServed E.facts C.log hub.old self.old.clients.items
-            → AreServed E.facts C.log hub.new self.new.clients.items }
+        ensures { HadTurns E.facts E.later C.log hub.old hub.new self.old self.new }
     {
         let seat = &self.seats[at];
         if seat.done {

@@ -1,10 +1,8 @@
 //! How connections are let in.
 
-ghost use Rattle.std.specs.Prelude.{◌≡◌, ◌+◌, ◌<◌, length, OnOk};
-ghost use Rattle.nbd_serve.specs.Lines.{standing, Tells};
-ghost use Rattle.nbd_serve.specs.Serving.{GoesOn};
+ghost use Rattle.std.specs.Prelude.{◌≡◌, ◌+◌, ◌<◌, length};
 ghost use Rattle.nbd_connection.specs.Connections.{Visits, nothing};
-ghost use Rattle.nbd_serve.specs.Sockets.{AreKept};
+ghost use Rattle.nbd_serve.specs.Rooms.{ServesOn, server};
 
 use crate::line::tell_end;
 use crate::room::{MOST, Room};
@@ -35,14 +33,8 @@ impl<C: Connection + Drop> Room<C> {
         registry: &Registry,
         output: &mut W,
     ) -> Result<(), Stop>
-        ensures goes_on { GoesOn E.later hub.old hub.new }
-        ensures sessions { self.new.sessions ≡ self.old.sessions }
-        ensures told { OnOk result (Tells (W.contents output.old) (W.contents output.new)
-            (standing self.old.ended self.old.accepted self.old.connected.numbers.items self.old.faulty)
-            (standing self.new.ended self.new.accepted self.new.connected.numbers.items self.new.faulty)) }
-        ensures kept { (begun : Visits) → AreKept E.facts E.later C.log begun hub.old self.old.connected.clients.items
-            self.old.partings.leaving.items (L.visits door.old) → AreKept E.facts E.later C.log begun hub.new
-            self.new.connected.clients.items self.new.partings.leaving.items (L.visits door.new) }
+        ensures { ServesOn E.facts E.later C.log (server hub.old self.old (L.visits door.old) (W.contents output.old))
+            (server hub.new self.new (L.visits door.new) (W.contents output.new)) result }
     {
         self.retries = false;
         for _ in 0..MOST {
@@ -66,14 +58,8 @@ impl<C: Connection + Drop> Room<C> {
     ) -> Result<bool, Stop>
         requires sessions { self.old.accepted < self.old.sessions }
         requires seat { length self.old.connected.clients.items + length self.old.partings.leaving.items < 64 }
-        ensures goes_on { GoesOn E.later hub.old hub.new }
-        ensures sessions { self.new.sessions ≡ self.old.sessions }
-        ensures told { OnOk result (Tells (W.contents output.old) (W.contents output.new)
-            (standing self.old.ended self.old.accepted self.old.connected.numbers.items self.old.faulty)
-            (standing self.new.ended self.new.accepted self.new.connected.numbers.items self.new.faulty)) }
-        ensures kept { (begun : Visits) → AreKept E.facts E.later C.log begun hub.old self.old.connected.clients.items
-            self.old.partings.leaving.items (L.visits door.old) → AreKept E.facts E.later C.log begun hub.new
-            self.new.connected.clients.items self.new.partings.leaving.items (L.visits door.new) }
+        ensures { ServesOn E.facts E.later C.log (server hub.old self.old (L.visits door.old) (W.contents output.old))
+            (server hub.new self.new (L.visits door.new) (W.contents output.new)) result }
     {
         match door.accept() {
             Ok(connection) => {
@@ -110,16 +96,9 @@ impl<C: Connection + Drop> Room<C> {
         requires fresh { C.log connection ≡ nothing }
         requires sessions { self.old.accepted < self.old.sessions }
         requires seat { length self.old.connected.clients.items + length self.old.partings.leaving.items < 64 }
-        ensures goes_on { GoesOn E.later hub.old hub.new }
-        ensures sessions { self.new.sessions ≡ self.old.sessions }
-        ensures told { OnOk result (Tells (W.contents output.old) (W.contents output.new)
-            (standing self.old.ended self.old.accepted self.old.connected.numbers.items self.old.faulty)
-            (standing self.new.ended self.new.accepted self.new.connected.numbers.items self.new.faulty)) }
-        ensures kept { (begun before : Visits) → C.log connection ≡ nothing
-            → L.visits door.old ≡ record { accepted = before.accepted + 1; closed = before.closed }
-            → AreKept E.facts E.later C.log begun hub.old self.old.connected.clients.items self.old.partings.leaving.items before
-            → AreKept E.facts E.later C.log begun hub.new self.new.connected.clients.items self.new.partings.leaving.items
-            (L.visits door.new) }
+        ensures { (before : Visits) → L.visits door.old ≡ record { accepted = before.accepted + 1; closed = before.closed }
+            → ServesOn E.facts E.later C.log (server hub.old self.old before (W.contents output.old))
+            (server hub.new self.new (L.visits door.new) (W.contents output.new)) result }
     {
         let number = self.accepted + 1;
         let now = door.now();

@@ -3,6 +3,7 @@
 ghost use Rattle.std.specs.Prelude.{◌≡◌, ◌+◌, ◌<◌, ◌≤◌, ℕ, [], length, IfOk};
 ghost use Rattle.nbd_hub.specs.Sessions.{HubState};
 ghost use Rattle.nbd_connection.specs.Connections.{Visits};
+ghost use Rattle.nbd_serve.specs.Rooms.{PartsOn};
 ghost use Rattle.nbd_serve.specs.Sockets.{AreTold, IsTold};
 
 use crate::parting::Parting;
@@ -66,10 +67,8 @@ impl<C: Connection + Drop> Partings<C> {
         door: &mut L,
         now: Option<Duration>,
     ) -> bool
-        ensures count { length self.new.leaving.items ≤ length self.old.leaving.items }
-        ensures told { (begun : Visits) (hub : HubState × E) (connected : ℕ)
-            → AreTold E.facts E.later C.log begun hub connected self.old.leaving.items (L.visits door.old)
-            → AreTold E.facts E.later C.log begun hub connected self.new.leaving.items (L.visits door.new) }
+        ensures { PartsOn E.facts E.later C.log self.old.leaving.items (L.visits door.old) self.new.leaving.items
+            (L.visits door.new) }
     {
         let mut goes_on = false;
         let mut at = 0;
@@ -93,10 +92,8 @@ impl<C: Connection + Drop> Partings<C> {
         now: Option<Duration>,
     ) -> Option<bool>
         requires { at < length self.old.leaving.items }
-        ensures count { length self.new.leaving.items ≤ length self.old.leaving.items }
-        ensures told { (begun : Visits) (hub : HubState × E) (connected : ℕ)
-            → AreTold E.facts E.later C.log begun hub connected self.old.leaving.items (L.visits door.old)
-            → AreTold E.facts E.later C.log begun hub connected self.new.leaving.items (L.visits door.new) }
+        ensures { PartsOn E.facts E.later C.log self.old.leaving.items (L.visits door.old) self.new.leaving.items
+            (L.visits door.new) }
     {
         let parting = &mut self.leaving[at];
         if parting.hear(now) {
@@ -110,9 +107,8 @@ impl<C: Connection + Drop> Partings<C> {
     /// Gives all of them back.
     pub fn give_back<E: Export, L: Door<Connection = C>>(&mut self, door: &mut L)
         ensures none { self.new.leaving.items ≡ [] }
-        ensures told { (begun : Visits) (hub : HubState × E) (connected : ℕ)
-            → AreTold E.facts E.later C.log begun hub connected self.old.leaving.items (L.visits door.old)
-            → AreTold E.facts E.later C.log begun hub connected self.new.leaving.items (L.visits door.new) }
+        ensures parts { PartsOn E.facts E.later C.log self.old.leaving.items (L.visits door.old) self.new.leaving.items
+            (L.visits door.new) }
     {
         'each: for _done in 0..self.leaving.len() {
             let parting = self.leaving.remove(0);

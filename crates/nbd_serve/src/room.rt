@@ -3,12 +3,11 @@
 ghost use Rattle.std.specs.Prelude.{◌≡◌, ◌+◌, ◌<◌, ◌≤◌, ℕ, [], length, slice_get, true, false, Some, None, IfSome, IfOk, OnOk, IsTrue};
 ghost use Rattle.std.specs.Duration.{as_nanos};
 ghost use Rattle.std.specs.List.{remove};
-ghost use Rattle.nbd_hub.specs.Sessions.{HubState};
 ghost use Rattle.nbd_relay.specs.Client.{ClientState};
-ghost use Rattle.nbd_serve.specs.Lines.{standing, IsEnded, Tells};
+ghost use Rattle.nbd_serve.specs.Lines.{standing, IsEnded};
 ghost use Rattle.nbd_serve.specs.Serving.{GoesOn};
 ghost use Rattle.nbd_connection.specs.Connections.{Visits};
-ghost use Rattle.nbd_serve.specs.Sockets.{AreKept, AreGivenBack, AreTold, IsTold, SocketState};
+ghost use Rattle.nbd_serve.specs.Sockets.{AreKept, AreGivenBack, IsTold, SocketState};
 
 use crate::budget::Budget;
 use crate::connected::Connected;
@@ -57,6 +56,8 @@ pub struct Room<C: Connection> {
 }
 
 impl<C: Connection + Drop> Room<C> {
+    ghost use Rattle.nbd_serve.specs.Rooms.{PartsOn, ServesOn, StaysAs, server, standing_of};
+
     /// Nobody is there, and somebody may be at the door, of whom so many are to be let in.
     ///
     /// # Errors
@@ -64,8 +65,7 @@ impl<C: Connection + Drop> Room<C> {
     /// `AllocError` where memory was refused for the seats.
     pub fn new(alloc: Global, sessions: u64) -> Result<Room<C>, AllocError>
         ensures sessions { IfOk result (λ room. room.sessions ≡ sessions) }
-        ensures stands { IfOk result (λ room. standing room.ended room.accepted room.connected.numbers.items room.faulty
-            ≡ standing 0 0 [] false) }
+        ensures stands { IfOk result (λ room. standing_of room ≡ standing 0 0 [] false) }
         ensures clients { IfOk result (λ room. room.connected.clients.items ≡ []) }
         ensures leaving { IfOk result (λ room. room.partings.leaving.items ≡ []) }
     {
@@ -147,14 +147,8 @@ impl<C: Connection + Drop> Room<C> {
         limits: Limits,
         output: &mut W,
     ) -> Result<bool, Stop>
-        ensures goes_on { GoesOn E.later hub.old hub.new }
-        ensures sessions { self.new.sessions ≡ self.old.sessions }
-        ensures told { OnOk result (Tells (W.contents output.old) (W.contents output.new)
-            (standing self.old.ended self.old.accepted self.old.connected.numbers.items self.old.faulty)
-            (standing self.new.ended self.new.accepted self.new.connected.numbers.items self.new.faulty)) }
-        ensures kept { (begun : Visits) → AreKept E.facts E.later C.log begun hub.old self.old.connected.clients.items
-            self.old.partings.leaving.items (L.visits door.old) → AreKept E.facts E.later C.log begun hub.new
-            self.new.connected.clients.items self.new.partings.leaving.items (L.visits door.new) }
+        ensures { ServesOn E.facts E.later C.log (server hub.old self.old (L.visits door.old) (W.contents output.old))
+            (server hub.new self.new (L.visits door.new) (W.contents output.new)) result }
     {
         self.accept_all(hub, door, registry, output)?;
         let goes_on = self.round(hub, door, budget, limits.stall, output)?;
@@ -179,14 +173,8 @@ impl<C: Connection + Drop> Room<C> {
         stall: Option<Duration>,
         output: &mut W,
     ) -> Result<bool, Stop>
-        ensures goes_on { GoesOn E.later hub.old hub.new }
-        ensures sessions { self.new.sessions ≡ self.old.sessions }
-        ensures told { OnOk result (Tells (W.contents output.old) (W.contents output.new)
-            (standing self.old.ended self.old.accepted self.old.connected.numbers.items self.old.faulty)
-            (standing self.new.ended self.new.accepted self.new.connected.numbers.items self.new.faulty)) }
-        ensures kept { (begun : Visits) → AreKept E.facts E.later C.log begun hub.old self.old.connected.clients.items
-            self.old.partings.leaving.items (L.visits door.old) → AreKept E.facts E.later C.log begun hub.new
-            self.new.connected.clients.items self.new.partings.leaving.items (L.visits door.new) }
+        ensures { ServesOn E.facts E.later C.log (server hub.old self.old (L.visits door.old) (W.contents output.old))
+            (server hub.new self.new (L.visits door.new) (W.contents output.new)) result }
     {
         let now = door.now();
         let backward = self.backward;
@@ -222,14 +210,8 @@ impl<C: Connection + Drop> Room<C> {
         output: &mut W,
     ) -> Result<(usize, bool), Stop>
         requires { at < length self.old.connected.clients.items }
-        ensures goes_on { GoesOn E.later hub.old hub.new }
-        ensures sessions { self.new.sessions ≡ self.old.sessions }
-        ensures told { OnOk result (Tells (W.contents output.old) (W.contents output.new)
-            (standing self.old.ended self.old.accepted self.old.connected.numbers.items self.old.faulty)
-            (standing self.new.ended self.new.accepted self.new.connected.numbers.items self.new.faulty)) }
-        ensures kept { (begun : Visits) → AreKept E.facts E.later C.log begun hub.old self.old.connected.clients.items
-            self.old.partings.leaving.items (L.visits door.old) → AreKept E.facts E.later C.log begun hub.new
-            self.new.connected.clients.items self.new.partings.leaving.items (L.visits door.new) }
+        ensures { ServesOn E.facts E.later C.log (server hub.old self.old (L.visits door.old) (W.contents output.old))
+            (server hub.new self.new (L.visits door.new) (W.contents output.new)) result }
     {
         match self.connected.turns_of(hub, door, at, budget, stall, now) {
             Came::On => Ok((at + 1, true)),
@@ -254,14 +236,8 @@ impl<C: Connection + Drop> Room<C> {
         output: &mut W,
     ) -> Result<(), Stop>
         requires { at < length self.old.connected.clients.items }
-        ensures goes_on { GoesOn E.later hub.old hub.new }
-        ensures sessions { self.new.sessions ≡ self.old.sessions }
-        ensures told { OnOk result (Tells (W.contents output.old) (W.contents output.new)
-            (standing self.old.ended self.old.accepted self.old.connected.numbers.items self.old.faulty)
-            (standing self.new.ended self.new.accepted self.new.connected.numbers.items self.new.faulty)) }
-        ensures kept { (begun : Visits) → AreKept E.facts E.later C.log begun hub.old self.old.connected.clients.items
-            self.old.partings.leaving.items (L.visits door.old) → AreKept E.facts E.later C.log begun hub.new
-            self.new.connected.clients.items self.new.partings.leaving.items (L.visits door.new) }
+        ensures { ServesOn E.facts E.later C.log (server hub.old self.old (L.visits door.old) (W.contents output.old))
+            (server hub.new self.new (L.visits door.new) (W.contents output.new)) result }
     {
         let (number, client) = self.connected.leave(hub, at);
         self.ended += 1;
@@ -279,14 +255,8 @@ impl<C: Connection + Drop> Room<C> {
         output: &mut W,
     ) -> Result<(), Stop>
         requires { at < length self.old.connected.clients.items }
-        ensures goes_on { GoesOn E.later hub.old hub.new }
-        ensures sessions { self.new.sessions ≡ self.old.sessions }
-        ensures told { OnOk result (Tells (W.contents output.old) (W.contents output.new)
-            (standing self.old.ended self.old.accepted self.old.connected.numbers.items self.old.faulty)
-            (standing self.new.ended self.new.accepted self.new.connected.numbers.items self.new.faulty)) }
-        ensures kept { (begun : Visits) → AreKept E.facts E.later C.log begun hub.old self.old.connected.clients.items
-            self.old.partings.leaving.items (L.visits door.old) → AreKept E.facts E.later C.log begun hub.new
-            self.new.connected.clients.items self.new.partings.leaving.items (L.visits door.new) }
+        ensures serves { ServesOn E.facts E.later C.log (server hub.old self.old (L.visits door.old) (W.contents output.old))
+            (server hub.new self.new (L.visits door.new) (W.contents output.new)) result }
         ensures left { self.new.connected.clients.items ≡ remove self.old.connected.clients.items at }
         ensures line { OnOk result (IsEnded (W.contents output.old) (W.contents output.new) self.old.connected.numbers.items at
             (Some fault)) }
@@ -303,13 +273,9 @@ impl<C: Connection + Drop> Room<C> {
     /// Reads the late input of those that take their leave, and lets those go that have said all, failed, or been silent for
     /// too long. Tells whether some goes on at once.
     fn part_all<E: Export, L: Door<Connection = C>>(&mut self, door: &mut L) -> bool
-        ensures sessions { self.new.sessions ≡ self.old.sessions }
-        ensures stands { standing self.new.ended self.new.accepted self.new.connected.numbers.items self.new.faulty
-            ≡ standing self.old.ended self.old.accepted self.old.connected.numbers.items self.old.faulty }
-        ensures clients { self.new.connected.clients.items ≡ self.old.connected.clients.items }
-        ensures told { (begun : Visits) (hub : HubState × E) (connected : ℕ)
-            → AreTold E.facts E.later C.log begun hub connected self.old.partings.leaving.items (L.visits door.old)
-            → AreTold E.facts E.later C.log begun hub connected self.new.partings.leaving.items (L.visits door.new) }
+        ensures same { StaysAs self.old self.new }
+        ensures parts { PartsOn E.facts E.later C.log self.old.partings.leaving.items (L.visits door.old)
+            self.new.partings.leaving.items (L.visits door.new) }
     {
         let now = door.now();
         self.partings.hear::<E, L>(door, now)
@@ -317,10 +283,7 @@ impl<C: Connection + Drop> Room<C> {
 
     /// Notes which clients may go on by what the system says.
     pub fn note(&mut self, events: &Events<Global>, waited: bool)
-        ensures sessions { self.new.sessions ≡ self.old.sessions }
-        ensures stands { standing self.new.ended self.new.accepted self.new.connected.numbers.items self.new.faulty
-            ≡ standing self.old.ended self.old.accepted self.old.connected.numbers.items self.old.faulty }
-        ensures clients { self.new.connected.clients.items ≡ self.old.connected.clients.items }
+        ensures same { StaysAs self.old self.new }
         ensures leaving { self.new.partings.leaving.items ≡ self.old.partings.leaving.items }
     {
         let mut heard = false;

@@ -5,8 +5,8 @@ ghost use Rattle.nbd_hub.specs.History.{Step};
 ghost use Rattle.nbd_hub.specs.After.{IsAfter};
 ghost use Rattle.nbd_serve.specs.Lines.{standing, IsServed, IsServing};
 ghost use Rattle.nbd_serve.specs.Serving.{GoesOn};
-ghost use Rattle.nbd_connection.specs.Connections.{Visits};
-ghost use Rattle.nbd_serve.specs.Sockets.{AreKept, AreGivenBack, IsTold};
+ghost use Rattle.nbd_serve.specs.Rooms.{ServesOn, StaysAs, server, standing_of};
+ghost use Rattle.nbd_serve.specs.Sockets.{AreGivenBack, IsTold};
 
 use crate::budget::Budget;
 use crate::line::tell_listening;
@@ -115,12 +115,10 @@ fn serve_in<E: Export, L: Door, W: Write>(
     events: &mut Events<Global>,
     output: &mut W,
 ) -> Result<bool, Stop>
-    requires { standing room.old.ended room.old.accepted room.old.connected.numbers.items room.old.faulty ≡ standing 0 0 [] false }
-    ensures goes_on { GoesOn E.later hub.old hub.new }
-    ensures serves { IfOk result (IsServing (W.contents output.old) (W.contents output.new) room.old.sessions) }
-    ensures kept { (begun : Visits) → AreKept E.facts E.later L.Connection.log begun hub.old room.old.connected.clients.items
-        room.old.partings.leaving.items (L.visits door.old) → AreKept E.facts E.later L.Connection.log begun hub.new
-        room.new.connected.clients.items room.new.partings.leaving.items (L.visits door.new) }
+    requires { standing_of room.old ≡ standing 0 0 [] false }
+    ensures serves { ServesOn E.facts E.later L.Connection.log (server hub.old room.old (L.visits door.old) (W.contents output.old))
+        (server hub.new room.new (L.visits door.new) (W.contents output.new)) result }
+    ensures served { IfOk result (IsServing (W.contents output.old) (W.contents output.new) room.old.sessions) }
 {
     let limits = door.limits();
     let budget = Budget::of(limits.pending);
@@ -143,10 +141,7 @@ fn look<C: Connection + Drop>(
     wait: Option<Duration>,
     waits: bool,
 ) -> Result<(), Stop>
-    ensures sessions { room.new.sessions ≡ room.old.sessions }
-    ensures stands { standing room.new.ended room.new.accepted room.new.connected.numbers.items room.new.faulty
-        ≡ standing room.old.ended room.old.accepted room.old.connected.numbers.items room.old.faulty }
-    ensures clients { room.new.connected.clients.items ≡ room.old.connected.clients.items }
+    ensures same { StaysAs room.old room.new }
     ensures leaving { room.new.partings.leaving.items ≡ room.old.partings.leaving.items }
 {
     match poll.poll(events, wait) {

@@ -3,10 +3,8 @@
 ghost use Rattle.std.specs.Prelude.{◌≡◌, ◌<◌, ◌⊎◌, length, Some, OnOk};
 ghost use Rattle.std.specs.List.{remove};
 ghost use Rattle.nbd_hub.specs.declared.fault.ServeFault.{ServeFault};
-ghost use Rattle.nbd_serve.specs.Lines.{standing, IsEnded, Tells};
-ghost use Rattle.nbd_serve.specs.Serving.{GoesOn};
-ghost use Rattle.nbd_connection.specs.Connections.{Visits};
-ghost use Rattle.nbd_serve.specs.Sockets.{AreKept};
+ghost use Rattle.nbd_serve.specs.Lines.{IsEnded};
+ghost use Rattle.nbd_serve.specs.Rooms.{ServesOn, server};
 ghost use Rattle.nbd_serve.specs.Stalling.{HasStalled};
 
 use crate::budget::Budget;
@@ -32,14 +30,8 @@ impl<C: Connection + Drop> Room<C> {
         output: &mut W,
     ) -> Result<(usize, bool), Stop>
         requires { at < length self.old.connected.clients.items }
-        ensures goes_on { GoesOn E.later hub.old hub.new }
-        ensures sessions { self.new.sessions ≡ self.old.sessions }
-        ensures told { OnOk result (Tells (W.contents output.old) (W.contents output.new)
-            (standing self.old.ended self.old.accepted self.old.connected.numbers.items self.old.faulty)
-            (standing self.new.ended self.new.accepted self.new.connected.numbers.items self.new.faulty)) }
-        ensures kept { (begun : Visits) → AreKept E.facts E.later C.log begun hub.old self.old.connected.clients.items
-            self.old.partings.leaving.items (L.visits door.old) → AreKept E.facts E.later C.log begun hub.new
-            self.new.connected.clients.items self.new.partings.leaving.items (L.visits door.new) }
+        ensures serves { ServesOn E.facts E.later C.log (server hub.old self.old (L.visits door.old) (W.contents output.old))
+            (server hub.new self.new (L.visits door.new) (W.contents output.new)) result }
         ensures stalled { (self.new.connected.clients.items ≡ self.old.connected.clients.items)
             ⊎ ((self.new.connected.clients.items ≡ remove self.old.connected.clients.items at)
             × HasStalled C.log budget.share (E.facts hub.old.1) hub.old.0 stall now self.old.connected.clients.items
@@ -67,14 +59,8 @@ impl<C: Connection + Drop> Room<C> {
         stall: Option<Duration>,
         output: &mut W,
     ) -> Result<bool, Stop>
-        ensures goes_on { GoesOn E.later hub.old hub.new }
-        ensures sessions { self.new.sessions ≡ self.old.sessions }
-        ensures told { OnOk result (Tells (W.contents output.old) (W.contents output.new)
-            (standing self.old.ended self.old.accepted self.old.connected.numbers.items self.old.faulty)
-            (standing self.new.ended self.new.accepted self.new.connected.numbers.items self.new.faulty)) }
-        ensures kept { (begun : Visits) → AreKept E.facts E.later C.log begun hub.old self.old.connected.clients.items
-            self.old.partings.leaving.items (L.visits door.old) → AreKept E.facts E.later C.log begun hub.new
-            self.new.connected.clients.items self.new.partings.leaving.items (L.visits door.new) }
+        ensures { ServesOn E.facts E.later C.log (server hub.old self.old (L.visits door.old) (W.contents output.old))
+            (server hub.new self.new (L.visits door.new) (W.contents output.new)) result }
     {
         let now = door.now();
         let mut at = 0;
@@ -103,14 +89,8 @@ impl<C: Connection + Drop> Room<C> {
         idle: Option<Duration>,
         output: &mut W,
     ) -> Result<(), Stop>
-        ensures goes_on { GoesOn E.later hub.old hub.new }
-        ensures sessions { self.new.sessions ≡ self.old.sessions }
-        ensures told { OnOk result (Tells (W.contents output.old) (W.contents output.new)
-            (standing self.old.ended self.old.accepted self.old.connected.numbers.items self.old.faulty)
-            (standing self.new.ended self.new.accepted self.new.connected.numbers.items self.new.faulty)) }
-        ensures kept { (begun : Visits) → AreKept E.facts E.later C.log begun hub.old self.old.connected.clients.items
-            self.old.partings.leaving.items (L.visits door.old) → AreKept E.facts E.later C.log begun hub.new
-            self.new.connected.clients.items self.new.partings.leaving.items (L.visits door.new) }
+        ensures { ServesOn E.facts E.later C.log (server hub.old self.old (L.visits door.old) (W.contents output.old))
+            (server hub.new self.new (L.visits door.new) (W.contents output.new)) result }
     {
         let (Some(idle), Some(now)) = (idle, door.now()) else {
             return Ok(());
@@ -136,14 +116,8 @@ impl<C: Connection + Drop> Room<C> {
         output: &mut W,
     ) -> Result<usize, Stop>
         requires { at < length self.old.connected.clients.items }
-        ensures goes_on { GoesOn E.later hub.old hub.new }
-        ensures sessions { self.new.sessions ≡ self.old.sessions }
-        ensures told { OnOk result (Tells (W.contents output.old) (W.contents output.new)
-            (standing self.old.ended self.old.accepted self.old.connected.numbers.items self.old.faulty)
-            (standing self.new.ended self.new.accepted self.new.connected.numbers.items self.new.faulty)) }
-        ensures kept { (begun : Visits) → AreKept E.facts E.later C.log begun hub.old self.old.connected.clients.items
-            self.old.partings.leaving.items (L.visits door.old) → AreKept E.facts E.later C.log begun hub.new
-            self.new.connected.clients.items self.new.partings.leaving.items (L.visits door.new) }
+        ensures { ServesOn E.facts E.later C.log (server hub.old self.old (L.visits door.old) (W.contents output.old))
+            (server hub.new self.new (L.visits door.new) (W.contents output.new)) result }
     {
         if self.connected.is_silent(at, idle, now) {
             self.part(hub, door, at, output)?;

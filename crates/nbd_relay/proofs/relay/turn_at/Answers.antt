@@ -14,8 +14,8 @@ returns-clause-serves g c = λ h logs x v.
     let new = c.turn.new.self in
     let hub = c.args.hub.now in
     let hub' = c.turn.new.hub in
-    runs_of r q w (f hub'.1) hub'.0 hub.0.offer h new.0.id cs _ logs c.turn.ensures.offer
-    (put r q w (f hub'.1) hub'.0 hub.0.offer h cs logs c.args.at d new c.turn.ensures.offer c.requires c.turn.ensures.same
+    runs_of r q w (f hub'.1) hub'.0 hub.0.offer h new.0.id cs _ logs c.turn.ensures.hub.offer
+    (put r q w (f hub'.1) hub'.0 hub.0.offer h cs logs c.args.at d new c.turn.ensures.hub.offer c.requires c.turn.ensures.same
     (λ read wrote s. c.turn.ensures.serves h read wrote x s) v)
 
 pub returns-clause-turns : goal.returns-clause-turns
@@ -29,6 +29,6 @@ returns-clause-turns g c =
       sets = refl;
       id = c.turn.ensures.same;
       moves = c.turn.ensures.moves;
-      waits = c.turn.ensures.waits;
+      waits = c.turn.ensures.stream.waits;
       done = λ e. let x = c.turn.ensures.done e in (x.1, x.2);
     }

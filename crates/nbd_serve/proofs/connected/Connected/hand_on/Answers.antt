@@ -1,4 +1,4 @@
-use Rattle.nbd_serve.proofs.Keeping.{served_flushed}
+use Rattle.nbd_serve.proofs.Served.{served_flushed}
 use Rattle.nbd_serve.proofs.connected.Connected.hand_on.Goals as goal
 
 pub returns-in-Done-clause-serves : goal.returns-in-Done-clause-serves

@@ -2,7 +2,8 @@ use Rattle.std.proofs.Common.{length, ap, sym, subst, arith}
 use Rattle.std.proofs.lemmas.List.Edits.{length-remove}
 use Rattle.std.proofs.lemmas.Option.{get_or_from_slice_get, slice_get_read}
 use Rattle.nbd_hub.specs.History.{Ending}
-use Rattle.nbd_serve.proofs.Keeping.{served_left, told_left}
+use Rattle.nbd_serve.proofs.Keeping.{told_left}
+use Rattle.nbd_serve.proofs.Served.{served_left}
 use Rattle.nbd_serve.proofs.connected.Connected.leave.Goals as goal
 
 pub returns-clause-serves : goal.returns-clause-serves

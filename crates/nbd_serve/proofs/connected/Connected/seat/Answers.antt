@@ -2,7 +2,7 @@ use Rattle.std.proofs.Common.{◌-◌, [], ◌∷◌, length, arith, sym, subst,
 use Rattle.nbd_session.specs.Handshake.{greeting}
 use Rattle.nbd_hub.specs.History.{Opening, Ending}
 use Rattle.nbd_serve.specs.Sockets.{SocketState}
-use Rattle.nbd_serve.proofs.Keeping.{last_is, served_left, served_seated}
+use Rattle.nbd_serve.proofs.Served.{last_is, served_left, served_seated}
 use Rattle.nbd_serve.proofs.connected.Connected.seat.Goals as goal
 
 pub returns-then-is_err-4-clause-goes_on : goal.returns-then-is_err-4-clause-goes_on

@@ -1,8 +1,8 @@
-use Rattle.std.proofs.Common.{arith}
+use Rattle.nbd_serve.proofs.Rooms.{parts_none, parts_then}
 use Rattle.nbd_serve.proofs.partings.Partings.hear.Goals as goal
 
+pub each-init : goal.each-init
+each-init g c = parts_none
+
 pub each-preserved : goal.each-preserved
-each-preserved g c = record {
-  count = omega (arith, c.each.invariant.count, c.hear_at.ensures.count);
-  told = λ begun hub n k. c.hear_at.ensures.told begun hub n (c.each.invariant.told begun hub n k);
-}
+each-preserved g c = parts_then c.each.invariant c.hear_at.ensures

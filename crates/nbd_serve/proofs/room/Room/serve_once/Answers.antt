@@ -1,38 +1,33 @@
-use Rattle.nbd_serve.proofs.Tellings.{tells_from, tells_then}
-use Rattle.nbd_serve.proofs.Keeping.{kept_same, kept_partings}
-use Rattle.std.proofs.Common.{refl}
+use Rattle.std.proofs.Common.{Ok}
+use Rattle.nbd_serve.proofs.Rooms.{serves_err, serves_ok, serves_parted, serves_then}
 use Rattle.nbd_serve.proofs.room.Room.serve_once.Goals as goal
 
-pub returns-then-feeds-clause-told : goal.returns-then-feeds-clause-told
-returns-then-feeds-clause-told g c = tells_then _ _ _ _ _ _ c.in_ok-accept_all.ensures.told
-    (tells_then _ _ _ _ _ _ c.in_ok-goes_on.ensures.told (tells_from _ _ _ _ _ c.part_all-parts_on.ensures.stands
-    c.in_ok-leave_idle.ensures.told))
+pub returns-in_err-accept_all : goal.returns-in_err-accept_all
+returns-in_err-accept_all g c = serves_err c.from_residual.result c.from_residual.ensures.0 c.accept_all.ensures
 
-pub returns-else-feeds-clause-told : goal.returns-else-feeds-clause-told
-returns-else-feeds-clause-told g c = tells_then _ _ _ _ _ _ c.in_ok-accept_all.ensures.told
-    (tells_then _ _ _ _ _ _ c.in_ok-goes_on.ensures.told (tells_from _ _ _ _ _ c.part_all-parts_on.ensures.stands
-    c.in_ok-leave_idle.ensures.told))
+pub returns-in_err-goes_on : goal.returns-in_err-goes_on
+returns-in_err-goes_on g c =
+    serves_err c.from_residual-in_err-goes_on.result c.from_residual-in_err-goes_on.ensures.0
+    (serves_then g.met.E.Export.later_on c.in_ok-accept_all.ensures c.round.ensures)
 
-pub returns-in_err-goes_on-clause-kept : goal.returns-in_err-goes_on-clause-kept
-returns-in_err-goes_on-clause-kept g c = λ begun k. c.round.ensures.kept begun (c.accept_all.ensures.kept begun k)
+pub returns-in_err-leave_idle : goal.returns-in_err-leave_idle
+returns-in_err-leave_idle g c =
+    let on = g.met.E.Export.later_on in
+    let parts = c.part_all-parts_on.ensures in
+    serves_err c.from_residual-in_err-leave_idle.result c.from_residual-in_err-leave_idle.ensures.0
+    (serves_then on (serves_then on c.in_ok-accept_all.ensures c.in_ok-goes_on.ensures) (serves_then on
+    (serves_parted (Ok (tt {0})) _ _ _ _ _ _ g.met.E.Export.later_same parts.same parts.parts) c.leave_idle.ensures))
 
-pub returns-in_err-leave_idle-clause-kept : goal.returns-in_err-leave_idle-clause-kept
-returns-in_err-leave_idle-clause-kept g c = λ begun k. c.leave_idle.ensures.kept begun
-    (kept_same g.C.Connection.log g.E.Export.facts g.E.Export.later begun _ _ _ _ _ _ _
-    c.part_all-parts_on.ensures.clients refl refl
-    (kept_partings g.C.Connection.log g.E.Export.facts g.E.Export.later begun _ _ _ _ _ _
-    (c.part_all-parts_on.ensures.told begun _) (c.round.ensures.kept begun (c.accept_all.ensures.kept begun k))))
+pub returns-then-feeds : goal.returns-then-feeds
+returns-then-feeds g c =
+    let on = g.met.E.Export.later_on in
+    let parts = c.part_all-parts_on.ensures in
+    serves_ok (serves_then on (serves_then on c.in_ok-accept_all.ensures c.in_ok-goes_on.ensures) (serves_then on
+    (serves_parted (Ok (tt {0})) _ _ _ _ _ _ g.met.E.Export.later_same parts.same parts.parts) c.in_ok-leave_idle.ensures))
 
-pub returns-then-feeds-clause-kept : goal.returns-then-feeds-clause-kept
-returns-then-feeds-clause-kept g c = λ begun k. c.leave_idle.ensures.kept begun
-    (kept_same g.C.Connection.log g.E.Export.facts g.E.Export.later begun _ _ _ _ _ _ _
-    c.part_all-parts_on.ensures.clients refl refl
-    (kept_partings g.C.Connection.log g.E.Export.facts g.E.Export.later begun _ _ _ _ _ _
-    (c.part_all-parts_on.ensures.told begun _) (c.round.ensures.kept begun (c.accept_all.ensures.kept begun k))))
-
-pub returns-else-feeds-clause-kept : goal.returns-else-feeds-clause-kept
-returns-else-feeds-clause-kept g c = λ begun k. c.leave_idle.ensures.kept begun
-    (kept_same g.C.Connection.log g.E.Export.facts g.E.Export.later begun _ _ _ _ _ _ _
-    c.part_all-parts_on.ensures.clients refl refl
-    (kept_partings g.C.Connection.log g.E.Export.facts g.E.Export.later begun _ _ _ _ _ _
-    (c.part_all-parts_on.ensures.told begun _) (c.round.ensures.kept begun (c.accept_all.ensures.kept begun k))))
+pub returns-else-feeds : goal.returns-else-feeds
+returns-else-feeds g c =
+    let on = g.met.E.Export.later_on in
+    let parts = c.part_all-parts_on.ensures in
+    serves_ok (serves_then on (serves_then on c.in_ok-accept_all.ensures c.in_ok-goes_on.ensures) (serves_then on
+    (serves_parted (Ok (tt {0})) _ _ _ _ _ _ g.met.E.Export.later_same parts.same parts.parts) c.in_ok-leave_idle.ensures))

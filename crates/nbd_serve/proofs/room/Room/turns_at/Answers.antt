@@ -1,33 +1,27 @@
-use Rattle.nbd_serve.proofs.Tellings.{tells_same}
-use Rattle.nbd_serve.proofs.Keeping.{kept_turned}
+use Rattle.std.proofs.Common.{refl}
+use Rattle.nbd_serve.proofs.Rooms.{serves_err, serves_ok, serves_turned, turned_then}
 use Rattle.nbd_serve.proofs.room.Room.turns_at.Goals as goal
 
-pub returns-in-On-clause-told : goal.returns-in-On-clause-told
-returns-in-On-clause-told g c = tells_same _ _ _ _ _ _ c.turns_of.ensures.numbers
+pub returns-in-On : goal.returns-in-On
+returns-in-On g c = serves_turned _ _ _ c.args.self.now _ _ _ g.met.E.Export.later_on c.turns_of.ensures.turns refl
 
-pub returns-in-Waits-clause-told : goal.returns-in-Waits-clause-told
-returns-in-Waits-clause-told g c = tells_same _ _ _ _ _ _ c.turns_of.ensures.numbers
+pub returns-in-Waits : goal.returns-in-Waits
+returns-in-Waits g c = serves_turned _ _ _ c.args.self.now _ _ _ g.met.E.Export.later_on c.turns_of.ensures.turns refl
 
-pub returns-in-On-clause-kept : goal.returns-in-On-clause-kept
-returns-in-On-clause-kept g c = λ begun k. let t = c.turns_of.ensures in
-    kept_turned _ _ _ g.met.E.Export.later_on begun _ _ _ _ _ _ t.goes_on t.count t.serves k
+pub returns-in_err-part-in-Done : goal.returns-in_err-part-in-Done
+returns-in_err-part-in-Done g c =
+    serves_err c.from_residual.result c.from_residual.ensures.0
+    (turned_then c.args.self.now g.met.E.Export.later_on c.turns_of.ensures.turns c.part.ensures refl)
 
-pub returns-in-Waits-clause-kept : goal.returns-in-Waits-clause-kept
-returns-in-Waits-clause-kept g c = λ begun k. let t = c.turns_of.ensures in
-    kept_turned _ _ _ g.met.E.Export.later_on begun _ _ _ _ _ _ t.goes_on t.count t.serves k
+pub returns-in_ok-part-in-Done : goal.returns-in_ok-part-in-Done
+returns-in_ok-part-in-Done g c =
+    serves_ok (turned_then c.args.self.now g.met.E.Export.later_on c.turns_of.ensures.turns c.in_ok-part-in-Done.ensures refl)
 
-pub returns-in_err-part-in-Done-clause-kept : goal.returns-in_err-part-in-Done-clause-kept
-returns-in_err-part-in-Done-clause-kept g c = λ begun k. let t = c.turns_of.ensures in
-    c.part.ensures.kept begun (kept_turned _ _ _ g.met.E.Export.later_on begun _ _ _ _ _ _ t.goes_on t.count t.serves k)
+pub returns-in_err-leave-in-Failed : goal.returns-in_err-leave-in-Failed
+returns-in_err-leave-in-Failed g c =
+    serves_err c.from_residual-in_err-leave-in-Failed.result c.from_residual-in_err-leave-in-Failed.ensures.0
+    (turned_then c.args.self.now g.met.E.Export.later_on c.turns_of.ensures.turns c.leave.ensures.serves refl)
 
-pub returns-in_ok-part-in-Done-clause-kept : goal.returns-in_ok-part-in-Done-clause-kept
-returns-in_ok-part-in-Done-clause-kept g c = λ begun k. let t = c.turns_of.ensures in
-    c.part.ensures.kept begun (kept_turned _ _ _ g.met.E.Export.later_on begun _ _ _ _ _ _ t.goes_on t.count t.serves k)
-
-pub returns-in_err-leave-in-Failed-clause-kept : goal.returns-in_err-leave-in-Failed-clause-kept
-returns-in_err-leave-in-Failed-clause-kept g c = λ begun k. let t = c.turns_of.ensures in
-    c.leave.ensures.kept begun (kept_turned _ _ _ g.met.E.Export.later_on begun _ _ _ _ _ _ t.goes_on t.count t.serves k)
-
-pub returns-in_ok-leave-in-Failed-clause-kept : goal.returns-in_ok-leave-in-Failed-clause-kept
-returns-in_ok-leave-in-Failed-clause-kept g c = λ begun k. let t = c.turns_of.ensures in
-    c.leave.ensures.kept begun (kept_turned _ _ _ g.met.E.Export.later_on begun _ _ _ _ _ _ t.goes_on t.count t.serves k)
+pub returns-in_ok-leave-in-Failed : goal.returns-in_ok-leave-in-Failed
+returns-in_ok-leave-in-Failed g c =
+    serves_ok (turned_then c.args.self.now g.met.E.Export.later_on c.turns_of.ensures.turns c.in_ok-leave-in-Failed.ensures.serves refl)
