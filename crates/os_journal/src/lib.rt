@@ -1,6 +1,6 @@
 //! The journal of a volume over any system: where it stands, its names of the volume, and what is made of the volume's files by it.
 //!
-//! What stands at a path, and what becomes of it, only the system knows; clauses speak of any [`os_host::System`]. Nothing is
+//! What stands at a path, and what becomes of it, only the system knows; clauses speak of any [`os_files::System`]. Nothing is
 //! recovered only where nothing is seen at the journal's path. Else what was opened as DATA, as HASH and at the journal's path became
 //! three devices, and these are left as the journal's bytes, all of which were read, make of them; a crash at any moment leaves no other
 //! volume ([`recover_at`]). [`recover_volume`] opens a volume's files, recovers it and closes them: nothing else is opened to be written.
