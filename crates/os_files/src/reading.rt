@@ -1,11 +1,12 @@
 //! A script, read whole.
-ghost use Rattle.std.specs.Prelude.{◌≡◌, ⊤, IfOk, IfErr, IfSome};
-ghost use Rattle.cli_faults.specs.Errors.{IsOfScript};
+ghost use Rattle.std.specs.Prelude.{◌≡◌, ◌↔◌, ⊤, IfOk, IfErr, IfSome, IsTrue};
+ghost use Rattle.std.specs.IoError.{error_kind};
+ghost use Rattle.cli_faults.specs.Errors.{is_memory, IsOfScript};
 
-use cli_faults::Failure;
+use cli_faults::{Failure, is_want_of_memory};
 use std::alloc::Global;
 use std::io;
-use std::io::{ErrorKind, Read};
+use std::io::Read;
 use verity_store::StoreFault;
 
 /// The most bytes of a script.
@@ -27,11 +28,12 @@ pub fn read_script<I: Read>(alloc: Global, input: &mut I) -> Result<Vec<u8>, Fai
     Ok(script)
 }
 
-/// S1; or want of memory, where that is what it was.
+/// Why a script isn't read, by the system's error: want of memory where that is what it was, S1 for all else.
 pub fn unread(error: io::Error) -> Failure
-    ensures { IsOfScript ⊤ result }
+    ensures script { IsOfScript ⊤ result }
+    ensures memory { (result ≡ Failure.NoMemory) ↔ IsTrue (is_memory (error_kind error)) }
 {
-    if error.kind() == ErrorKind::OutOfMemory {
+    if is_want_of_memory(&error) {
         Failure::NoMemory
     } else {
         StoreFault::Device.into()
